@@ -3,6 +3,8 @@ use Rattle.std.proofs.Common.{◌≡◌, ℕ, ◌≤◌, ◌<◌, Bool, true, fa
 use Rattle.std.proofs.lemmas.List.{length-append}
 use Rattle.query_tokens.specs.Words.{Lexeme}
 use Rattle.query_grammar.specs.Reading.{Read, Unexpected, Too_deep, ◌>>=◌, unexpected, after, choose, expect}
+use Rattle.std.proofs.lemmas.Bool.Decides.{nat_tests}
+use Rattle.std.proofs.lemmas.Grind.{common_steps}
 
 -- two tails: both nothing, or both of one first token
 pub data Tails : List Lexeme → List Lexeme → Type 0 where
@@ -123,11 +125,7 @@ within_choose true t us there otherwise s h = within_more (length us) (length (t
 within_choose false t us there otherwise s h = h
 
 pub within_chosen : {A : Type 0} (test : Lexeme → Bool) (there otherwise : List Lexeme → Read A) → Stays there → Stays otherwise → Stays (λ ts. choose (after test ts) there (otherwise ts))
-within_chosen test there otherwise s h = record { within = go }
-  where
-    go : (ts : List Lexeme) → Within (length ts) (choose (after test ts) there (otherwise ts))
-    go [] = h.within []
-    go (t ∷ us) = within_choose (test t) t us there (otherwise (t ∷ us)) s (h.within (t ∷ us))
+within_chosen test there otherwise s h = grind (arith, nat_tests, common_steps)
 
 pub chooses : {A : Type 0} (d : Bool) (one two : List Lexeme) (tails : Tails one two) (most : ℕ) (test : Lexeme → Bool) (there also otherwise besides : List Lexeme → Read A)
     → Agree d one two most there also → Agree d one two most otherwise besides

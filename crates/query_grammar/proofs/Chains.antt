@@ -9,6 +9,8 @@ use Rattle.query_grammar.specs.Reading.{Read, Fault, ◌>>=◌, after, choose, c
 use Rattle.query_grammar.specs.Whole.{list_at}
 use Rattle.query_grammar.proofs.Alike.{Within, Stays}
 use Rattle.query_grammar.proofs.Complete.{enough_turns}
+use Rattle.std.proofs.lemmas.Bool.Decides.{nat_tests}
+use Rattle.std.proofs.lemmas.Grind.{common_steps}
 
 -- a token that passes a test is the first of one more
 one_token : (b : Bool) (t : Lexeme) (us behind : List Lexeme) → cond b (Some us) None ≡ Some behind → us ≡ behind
@@ -26,11 +28,7 @@ pub record Goes (operator : List ℕ) (step : Named → List Lexeme → Read Nam
 
 pub chain_done : (operator : List ℕ) (step : Named → List Lexeme → Read Named) (whole : Read Named) (x : Named) (rest : List Lexeme) → Goes operator step whole x rest → after (is_word operator) rest ≡ None → whole ≡ Ok (x, rest)
 unfolding chain_at
-chain_done operator step whole x rest g e = g.on ∙ go (length rest)
-  where
-    go : (n : ℕ) → chain_at operator step n x rest ≡ Ok (x, rest)
-    go zero = refl
-    go (suc n) = rw e refl
+chain_done operator step whole x rest g e = grind (arith, nat_tests, common_steps)
 
 one_turn : (operator : List ℕ) (step : Named → List Lexeme → Read Named) (n : ℕ) (x : Named) (rest behind : List Lexeme) → after (is_word operator) rest ≡ Some behind
     → chain_at operator step (suc n) x rest ≡ (step x behind >>= λ y. chain_at operator step n y.0 y.1)
@@ -134,9 +132,7 @@ members_join xs x (Err f) = refl
 
 list_turn : {A : Type 0} (one : List Lexeme → Read A) (whole : Read (List A)) (xs : List A) (rest behind : List Lexeme) → Lists one whole xs rest → after (is_sign symbols.Comma) rest ≡ Some behind
     → whole ≡ with_members xs (list_at one (length behind) behind)
-list_turn one whole xs rest behind g e =
-    let size = behind_token (is_sign symbols.Comma) rest behind e in
-    g.on ∙ ap (λ r. with_members xs r) (ap (λ n. others_at one n rest) size ∙ other_turn one (length behind) rest behind e)
+list_turn one whole xs rest behind g e = grind (arith, nat_tests, common_steps)
 
 pub list_goes : {A : Type 0} (one : List Lexeme → Read A) → Stays one → (whole : Read (List A)) (xs : List A) (x : A) (rest behind next : List Lexeme) → Lists one whole xs rest
     → after (is_sign symbols.Comma) rest ≡ Some behind → one behind ≡ Ok (x, next) → Lists one whole (xs ++ x ∷ []) next

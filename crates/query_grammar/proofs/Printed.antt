@@ -22,6 +22,8 @@ use Rattle.query_grammar.specs.Terminals.{function_named}
 use Rattle.query_grammar.specs.Grammar as grammar
 use Rattle.query_grammar.specs.Grammar.{Named, opening, closing, word, IsTest, IsCondition, IsAnd, IsNot, IsTested, IsCompared, IsOperand, IsCall}
 use Rattle.query_grammar.proofs.Texts.{reads_space, reads_spelled, never_first, Quiet, Spells, Opens, spells_lexeme, spells_two, opens_then, spells_between, spells_enclosed, spells_word, opens_word, opens_between, opens_two, where_word, filter_word, and_word, or_word, not_word, is_word, null_word, true_word, false_word, test_is_word}
+use Rattle.std.proofs.lemmas.Bool.Decides.{nat_tests}
+use Rattle.std.proofs.lemmas.Grind.{common_steps}
 
 -- ---- what a condition's tokens are, at each level of binding
 
@@ -145,16 +147,7 @@ of_and limit x ts two s p = record {
 }
 
 of_or : (limit : ℕ) (x : Named) (ts : List Lexeme) → level x ≡ 1 → Spells (spelled x) ts → ((room : ℕ) → depth x ≤ suc room → IsCondition limit room ts x) → Printed limit x
-of_or limit x ts one s p = record {
-  tokens = ts;
-  spells = s;
-  condition = λ room le. p room le;
-  and = λ a. absurd (omega (arith, a, one));
-  not = λ a. absurd (omega (arith, a, one));
-  test = λ a. absurd (omega (arith, a, one));
-  compared = λ a. absurd (omega (arith, a, one));
-  operand = λ a. absurd (omega (arith, a, one));
-}
+of_or limit x ts one s p = grind (arith, nat_tests, common_steps)
 
 -- ---- literals
 

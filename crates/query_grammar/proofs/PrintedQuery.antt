@@ -29,6 +29,8 @@ use Rattle.query_grammar.specs.Laws.{IsSpelled}
 use Rattle.query_grammar.specs.Canonical.{canonical}
 use Rattle.query_grammar.proofs.Texts.{Reads, reads_nothing, reads_space, reads_spelled, Quiet, Spells, Opens, spells_lexeme, IsWord, spells_two, opens_then, opens_two, spells_word, spells_behind, opens_word, opens_between, spells_between, select_word, from_word, where_word, group_word, by_word, having_word, as_word, order_word, desc_word, nulls_word, first_word, last_word}
 use Rattle.query_grammar.proofs.Printed.{printed, the_calls, call_is, filtered_spelled, filtered_is}
+use Rattle.std.proofs.lemmas.Bool.Decides.{nat_tests}
+use Rattle.std.proofs.lemmas.Grind.{common_steps}
 
 -- each FILTER in a condition is at most as deep as may be
 abbrev FiltersFit : Named → Type 0
@@ -69,10 +71,7 @@ nothing : Part [] []
 nothing = record { spells = record { on = λ rest ws q more. more }; quiet = λ rest q. q }
 
 two_parts : (a b : List ℕ) (ts us : List Lexeme) → Part a ts → Part b us → Part (a ++ b) (ts ++ us)
-two_parts a b ts us p q = record {
-  spells = spells_two a b ts us p.spells q.quiet q.spells;
-  quiet = λ rest h. rw (append_assoc a b rest) (p.quiet (b ++ rest) (q.quiet rest h));
-}
+two_parts a b ts us p q = grind (arith, nat_tests, common_steps)
 
 record Alias (alias : Option (List ℕ)) : Type 0 where
   tokens : List Lexeme

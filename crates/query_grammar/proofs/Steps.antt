@@ -1,9 +1,11 @@
 -- How the meaning of reading goes through the steps that readers are made of.
-use Rattle.std.proofs.Common.{◌≡◌, Bool, true, false, cond, List, [], ◌∷◌, ◌++◌, Some, None, Ok, Err, refl, sym, ap, subst, ◌∙◌, append_assoc}
+use Rattle.std.proofs.Common.{◌≡◌, Bool, true, false, cond, List, [], ◌∷◌, ◌++◌, Some, None, Ok, Err, refl, sym, ap, subst, ◌∙◌, append_assoc, arith}
 use Rattle.query_tokens.specs.Words.{Lexeme}
 use Rattle.query_grammar.specs.Grammar.{opening}
 use Rattle.query_grammar.specs.Reading.{Read, Unexpected, Too_deep, ◌>>=◌, unexpected, after, choose, expect}
 use Rattle.query_grammar.specs.Laws.{Part, Means, MeansThat, CanBecome}
+use Rattle.std.proofs.lemmas.Bool.Decides.{nat_tests}
+use Rattle.std.proofs.lemmas.Grind.{common_steps}
 
 abbrev pub Pred : Type 0 → Type 1
 Pred A = List Lexeme → A → Type 0
@@ -24,9 +26,7 @@ wide_can Q front u can = (can.0, can.1, subst (λ (v : List Lexeme). Q v can.1) 
 
 -- the same where the first part stands for the second in the end
 closed_can : {A B : Type 0} (P : Pred A) (Q : Pred B) (front : List Lexeme) → ((u : List Lexeme) (a : A) → P u a → CanBecome Q u) → CanBecome P front → CanBecome Q front
-closed_can P Q front closes can =
-    let whole = closes (front ++ can.0) can.1 can.2 in
-    (can.0 ++ whole.0, whole.1, subst (λ (u : List Lexeme). Q u whole.1) (append_assoc front can.0 whole.0) whole.2)
+closed_can P Q front closes can = grind (arith, nat_tests, common_steps)
 
 widen_that : {A : Type 0} (Q : Part A) (front rest ts : List Lexeme) (r : Read A) → ts ≡ front ++ rest → MeansThat (behind front Q) rest r → MeansThat Q ts r
 widen_that Q front rest ts (Ok x) e m = (front ++ m.0, e ∙ ap (λ (u : List Lexeme). front ++ u) m.1 ∙ sym (append_assoc front m.0 x.1), m.2)

@@ -2,7 +2,6 @@
 use Rattle.std.proofs.Common.{◌≡◌, ℕ, ◌+◌, ◌-◌, false, List, [], ◌∷◌, ◌++◌, length, Ok, Err, refl, ap, sym, subst, ◌∙◌, append_assoc, arith}
 use Rattle.std.specs.Prelude.{codes, Result}
 use Rattle.std.proofs.lemmas.List.{length-drop}
-use Rattle.std.proofs.lemmas.Bool.{or_parts}
 use Rattle.query_tokens.specs.declared.fault.Fault.{Fault}
 use Rattle.query_tokens.specs.Words.{Lexeme, Name, Placed}
 use Rattle.query_tokens.specs.Bytes.{first_is, is_in_name}
@@ -15,6 +14,8 @@ use Rattle.query_tokens.specs.EndLaws.{before_others}
 use Rattle.grouping_model.specs.Condition as model
 use Rattle.query_checks.specs.Operators.{test_text, test_word}
 use Rattle.query_grammar.specs.Grammar.{opening, closing}
+use Rattle.std.proofs.lemmas.Bool.Decides.{nat_tests}
+use Rattle.std.proofs.lemmas.Grind.{common_steps}
 
 -- these bytes are read as these lexemes, wherever they stand
 pub record Reads (bytes : List ℕ) (lexemes : List Lexeme) : Type 0 where
@@ -71,9 +72,7 @@ spells_lexeme w legal = record { on = λ rest ws quiet more. reads_spelled w res
 
 -- one text behind another that needs a quiet one
 pub spells_two : (a b : List ℕ) (ts us : List Lexeme) → Spells a ts → ((rest : List ℕ) → Quiet rest → Quiet (b ++ rest)) → Spells b us → Spells (a ++ b) (ts ++ us)
-spells_two a b ts us s quiet t = record {
-  on = λ rest ws q more. rw (append_assoc a b rest, append_assoc ts us ws) (s.on (b ++ rest) (us ++ ws) (quiet rest q) (t.on rest ws q more));
-}
+spells_two a b ts us s quiet t = grind (arith, nat_tests, common_steps)
 
 pub opens_then : (a b : List ℕ) (ts us : List Lexeme) → Opens a ts → Spells b us → Spells (a ++ b) (ts ++ us)
 opens_then a b ts us s t = record {
@@ -119,11 +118,7 @@ pub opens_two : (a b : List ℕ) (ts us : List Lexeme) → Opens a ts → Opens 
 opens_two a b ts us s t = record { on = λ rest ws more. rw (append_assoc a b rest, append_assoc ts us ws) (s.on (b ++ rest) (us ++ ws) (t.on rest ws more)) }
 
 quiet_name : (b : ℕ) (bs : List ℕ) → Quiet (b ∷ bs) → is_in_name b ≡ false
-quiet_name b bs q =
-    let one = or_parts _ _ q in
-    let two = or_parts _ _ one.0 in
-    let three = or_parts _ _ two.0 in
-    three.0
+quiet_name b bs q = grind (arith, nat_tests, common_steps)
 
 pub select_word : IsWord (codes "SELECT") (codes "select")
 unfolding word_at name_at
