@@ -3,7 +3,7 @@ use Rattle.std.specs.Prelude.{◌≡◌, ◌≢◌, ℕ, ◌+◌, ◌-◌, ◌/�
 use Rattle.std.specs.BTreeMap.{is_at}
 use Rattle.std.specs.Ordering.{nat_cmp}
 use Rattle.std.proofs.Common.{refl, sym, ◌∙◌, ap, subst, arith, inl, inr}
-use Rattle.std.proofs.lemmas.Bool.{cases_eq}
+use Rattle.std.proofs.lemmas.Bool.{cases_eq, cases_lt}
 use Rattle.std.proofs.lemmas.Bool.Decides.{nat_tests}
 use Rattle.std.proofs.lemmas.Grind.{common_steps}
 use Rattle.std.proofs.lemmas.List.{places, get_or-replicate, get_or_past}
@@ -28,56 +28,51 @@ beside_in : (at n place : ℕ) → place / 8192 ≡ at / 8192 → (place < at) �
 beside_in at n place same (inl low) = inl (omega (arith, same, low))
 beside_in at n place same (inr high) = inr (omega (arith, same, high))
 
+-- a page whose chunk was kept
+page_kept : (m : MemoryState) (chunks : List Piece) (page k : ℕ) (found : Option ChunkName) → ((name : ChunkName) → found ≡ Some name → bytes_of chunks name ≡ bytes_of m.chunks name) → byte_in chunks found k ≡ byte_in m.chunks found k
+page_kept m chunks page k None keeps = refl
+page_kept m chunks page k (Some name) keeps = ap (λ bs. get_or bs k 0) (keeps name refl)
+
 -- after bytes of one page were written
-put_in : (m : MemoryState) (chunks : List Piece) (name : ChunkName) (at : ℕ) (bytes : List ℕ) (page k : ℕ) (found : Option ChunkName) → ArePages m → name_of m.pages (at / 8192) ≡ Some name → KeepsOthers m.chunks chunks name name → page ≢ at / 8192 → name_of m.pages page ≡ found → byte_in chunks found k ≡ byte_in m.chunks found k
-put_in m chunks name at bytes page k None are here keeps differ found = refl
-put_in m chunks name at bytes page k (Some other) are here keeps differ found =
-    ap (λ bs. get_or bs k 0) (keeps other (are.apart (at / 8192) page name other here found (λ e. differ (sym e))) (are.live page other found)).2
+module _ (m : MemoryState) (chunks : List Piece) (name : ChunkName) (at : ℕ) (bytes : List ℕ) (here : name_of m.pages (at / 8192) ≡ Some name) (len : length (bytes_of m.chunks name) ≡ 8192) (fits : at % 8192 + length bytes ≤ 8192)
+    (over : bytes_of chunks name ≡ take (at % 8192) (bytes_of m.chunks name) ++ (bytes ++ drop (at % 8192 + length bytes) (bytes_of m.chunks name))) where
+  pub put_there : (k : ℕ) → k < length bytes → byte_in chunks (name_of m.pages ((at + k) / 8192)) ((at + k) % 8192) ≡ get_or bytes k 0
+  put_there k small =
+      let page : (at + k) / 8192 ≡ at / 8192 = omega (arith, small, fits) in
+      let place : (at + k) % 8192 ≡ at % 8192 + k = omega (arith, small, fits) in
+      let xs = bytes_of m.chunks name in
+      let part : get_or (take (at % 8192) xs ++ (bytes ++ drop (at % 8192 + length bytes) xs)) (at % 8192 + k) 0 ≡ get_or bytes k 0 = grind (arith, places) in
+      ap (λ q. byte_in chunks (name_of m.pages q) ((at + k) % 8192)) page ∙ ap (λ x. byte_in chunks x ((at + k) % 8192)) here ∙ ap (λ bs. get_or bs ((at + k) % 8192) 0) over ∙ ap (λ i. get_or (take (at % 8192) xs ++ (bytes ++ drop (at % 8192 + length bytes) xs)) i 0) place ∙ part
 
-put_at : (m : MemoryState) (chunks : List Piece) (name : ChunkName) (at : ℕ) (bytes : List ℕ) → ArePages m → name_of m.pages (at / 8192) ≡ Some name → length (bytes_of m.chunks name) ≡ 8192 → at % 8192 + length bytes ≤ 8192
-    → bytes_of chunks name ≡ take (at % 8192) (bytes_of m.chunks name) ++ (bytes ++ drop (at % 8192 + length bytes) (bytes_of m.chunks name)) → KeepsOthers m.chunks chunks name name → (place : ℕ) → (place < at) ⊎ (at + length bytes ≤ place) → (place / 8192 ≡ at / 8192) ⊎ (place / 8192 ≢ at / 8192) → byte_in chunks (name_of m.pages (place / 8192)) (place % 8192) ≡ byte_at m place
-put_at m chunks name at bytes are here len fits over keeps place beside (inl same) =
-    let found : name_of m.pages (place / 8192) ≡ Some name = ap (name_of m.pages) same ∙ here in
-    ap (λ x. byte_in chunks x (place % 8192)) found ∙ ap (λ bs. get_or bs (place % 8192) 0) over ∙ over_beside (bytes_of m.chunks name) bytes (at % 8192) (place % 8192) (omega (arith, len, fits)) (beside_in at (length bytes) place same beside) ∙ sym (ap (λ x. byte_in m.chunks x (place % 8192)) found)
-put_at m chunks name at bytes are here len fits over keeps place beside (inr differ) =
-    put_in m chunks name at bytes (place / 8192) (place % 8192) (name_of m.pages (place / 8192)) are here keeps differ refl
-
-pub put_same : (m : MemoryState) (chunks : List Piece) (name : ChunkName) (at : ℕ) (bytes : List ℕ) → ArePages m → name_of m.pages (at / 8192) ≡ Some name → length (bytes_of m.chunks name) ≡ 8192 → at % 8192 + length bytes ≤ 8192
-    → bytes_of chunks name ≡ take (at % 8192) (bytes_of m.chunks name) ++ (bytes ++ drop (at % 8192 + length bytes) (bytes_of m.chunks name)) → KeepsOthers m.chunks chunks name name → (place : ℕ) → (place < at) ⊎ (at + length bytes ≤ place) → byte_in chunks (name_of m.pages (place / 8192)) (place % 8192) ≡ byte_at m place
-put_same m chunks name at bytes are here len fits over keeps place beside =
-    put_at m chunks name at bytes are here len fits over keeps place beside (cases_eq (place / 8192) (at / 8192))
+  pub put_same : ArePages m → KeepsOthers m.chunks chunks name name → (place : ℕ) → (place < at) ⊎ (at + length bytes ≤ place) → byte_in chunks (name_of m.pages (place / 8192)) (place % 8192) ≡ byte_at m place
+  put_same are keeps place beside = elim (cases_eq (place / 8192) (at / 8192)) [
+    | inl same ↦
+        let found : name_of m.pages (place / 8192) ≡ Some name = ap (name_of m.pages) same ∙ here in
+        ap (λ x. byte_in chunks x (place % 8192)) found ∙ ap (λ bs. get_or bs (place % 8192) 0) over ∙ over_beside (bytes_of m.chunks name) bytes (at % 8192) (place % 8192) (omega (arith, len, fits)) (beside_in at (length bytes) place same beside) ∙ sym (ap (λ x. byte_in m.chunks x (place % 8192)) found)
+    | inr differ ↦ page_kept m chunks (place / 8192) (place % 8192) (name_of m.pages (place / 8192)) (λ other found. (keeps other (are.apart (at / 8192) (place / 8192) name other here found (λ e. differ (sym e))) (are.live (place / 8192) other found)).2)
+  ]
 
 -- what is found at the places of a page that was new
-take_in : (m : MemoryState) (chunks : List Piece) (name : ChunkName) (page q k : ℕ) (found : Option ChunkName) → ArePages m → Keeps m.chunks chunks name → name_of m.pages q ≡ found → byte_in chunks found k ≡ byte_in m.chunks found k
-take_in m chunks name page q k None are keeps found = refl
-take_in m chunks name page q k (Some other) are keeps found = ap (λ bs. get_or bs k 0) (keeps other (are.live q other found)).2
-
-take_at_page : (m : MemoryState) (chunks : List Piece) (pages : List (ℕ × ChunkName)) (name : ChunkName) (page q k : ℕ) → ArePages m → name_of m.pages page ≡ None → name_of pages page ≡ Some name → ((r : ℕ) → r ≢ page → name_of pages r ≡ name_of m.pages r) → bytes_of chunks name ≡ zeros 8192 → Keeps m.chunks chunks name → (q ≡ page) ⊎ (q ≢ page) → byte_in chunks (name_of pages q) k ≡ byte_in m.chunks (name_of m.pages q) k
-take_at_page m chunks pages name page q k are none here others blank keeps (inl same) =
-    ap (λ r. byte_in chunks (name_of pages r) k) same ∙ ap (λ found. byte_in chunks found k) here ∙ ap (λ bs. get_or bs k 0) blank ∙ zero_at 8192 k ∙ sym (ap (λ r. byte_in m.chunks (name_of m.pages r) k) same ∙ ap (λ found. byte_in m.chunks found k) none)
-take_at_page m chunks pages name page q k are none here others blank keeps (inr differ) =
-    ap (λ found. byte_in chunks found k) (others q differ) ∙ take_in m chunks name page q k (name_of m.pages q) are keeps refl
-
 pub take_same : (m : MemoryState) (chunks : List Piece) (pages : List (ℕ × ChunkName)) (name : ChunkName) (page : ℕ) → ArePages m → name_of m.pages page ≡ None → name_of pages page ≡ Some name → ((r : ℕ) → r ≢ page → name_of pages r ≡ name_of m.pages r) → bytes_of chunks name ≡ zeros 8192 → Keeps m.chunks chunks name → (place : ℕ) → byte_in chunks (name_of pages (place / 8192)) (place % 8192) ≡ byte_at m place
 take_same m chunks pages name page are none here others blank keeps place =
-    take_at_page m chunks pages name page (place / 8192) (place % 8192) are none here others blank keeps (cases_eq (place / 8192) page)
-
-below_or : (k n : ℕ) → (k < n) ⊎ (n ≤ k)
-below_or k n = grind arith
-
-written_at : (m m' : MemoryState) (at done n : ℕ) (bytes part : List ℕ) → ((k : ℕ) → k < done → byte_at m (at + k) ≡ get_or bytes k 0) → ((k : ℕ) → k < length part → byte_at m' (at + done + k) ≡ get_or part k 0) → ((k : ℕ) → k < n → get_or part k 0 ≡ get_or bytes (done + k) 0) → length part ≡ n → IsSameBeside m m' (at + done) (length part) → (k : ℕ) → k < done + n → (k < done) ⊎ (done ≤ k) → byte_at m' (at + k) ≡ get_or bytes k 0
-written_at m m' at done n bytes part before here same len beside k small (inl low) = beside (at + k) (inl (omega (arith, low))) ∙ before k low
-written_at m m' at done n bytes part before here same len beside k small (inr high) =
-    let j : ℕ = k - done in
-    let back : done + j ≡ k = omega (arith, high) in
-    let short : j < n = omega (arith, high, small) in
-    let there : at + done + j ≡ at + k = omega (arith, back) in
-    subst (λ x. byte_at m' x ≡ get_or bytes k 0) there (here j (omega (arith, short, len)) ∙ same j short ∙ ap (λ x. get_or bytes x 0) back)
+    let q = place / 8192 in let k = place % 8192 in
+    elim (cases_eq q page) [
+      | inl same ↦
+          ap (λ r. byte_in chunks (name_of pages r) k) same ∙ ap (λ found. byte_in chunks found k) here ∙ ap (λ bs. get_or bs k 0) blank ∙ zero_at 8192 k ∙ sym (ap (λ r. byte_in m.chunks (name_of m.pages r) k) same ∙ ap (λ found. byte_in m.chunks found k) none)
+      | inr differ ↦ ap (λ found. byte_in chunks found k) (others q differ) ∙ page_kept m chunks q k (name_of m.pages q) (λ other found. (keeps other (are.live q other found)).2)
+    ]
 
 -- one part was written behind others
 pub written_more : (m m' : MemoryState) (at done n : ℕ) (bytes part : List ℕ) → ((k : ℕ) → k < done → byte_at m (at + k) ≡ get_or bytes k 0) → ((k : ℕ) → k < length part → byte_at m' (at + done + k) ≡ get_or part k 0) → ((k : ℕ) → k < n → get_or part k 0 ≡ get_or bytes (done + k) 0) → length part ≡ n → IsSameBeside m m' (at + done) (length part) → (k : ℕ) → k < done + n → byte_at m' (at + k) ≡ get_or bytes k 0
-written_more m m' at done n bytes part before here same len beside k small =
-    written_at m m' at done n bytes part before here same len beside k small (below_or k done)
+written_more m m' at done n bytes part before here same len beside k small = elim (cases_lt k done) [
+  | inl low ↦ beside (at + k) (inl (omega (arith, low))) ∙ before k low
+  | inr high ↦
+      let j : ℕ = k - done in
+      let back : done + j ≡ k = omega (arith, high) in
+      let short : j < n = omega (arith, high, small) in
+      let there : at + done + j ≡ at + k = omega (arith, back) in
+      subst (λ x. byte_at m' x ≡ get_or bytes k 0) there (here j (omega (arith, short, len)) ∙ same j short ∙ ap (λ x. get_or bytes x 0) back)
+]
 
 pub same_more : (m0 m m' : MemoryState) (at done n : ℕ) → IsSameBeside m0 m at done → IsSameBeside m m' (at + done) n → IsSameBeside m0 m' at (done + n)
 same_more m0 m m' at done n before here place (inl low) = here place (inl (omega (arith, low))) ∙ before place (inl low)

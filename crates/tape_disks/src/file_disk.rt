@@ -105,28 +105,22 @@ impl<F: Read + Write + Seek + Drop> TapeDisk for FileDisk<F> {
         if self.faults == u128::MAX {
             return Err(DiskError::NoMemory);
         }
-        match read_from(&mut self.file, at, bytes) {
-            Ok(()) => Ok(()),
-            Err(_) => {
-                self.faults += 1;
-                Err(DiskError::TapeFault)
-            }
+        if read_from(&mut self.file, at, bytes).is_err() {
+            self.faults += 1;
+            return Err(DiskError::TapeFault);
         }
+        Ok(())
     }
 
     fn write_at(&mut self, at: u64, bytes: &[u8]) -> Result<(), DiskError> {
         if self.faults == u128::MAX || self.count == u128::MAX {
             return Err(DiskError::NoMemory);
         }
-        match write_to(&mut self.file, at, bytes) {
-            Ok(()) => {
-                self.count += 1;
-                Ok(())
-            }
-            Err(_) => {
-                self.faults += 1;
-                Err(DiskError::TapeFault)
-            }
+        if write_to(&mut self.file, at, bytes).is_err() {
+            self.faults += 1;
+            return Err(DiskError::TapeFault);
         }
+        self.count += 1;
+        Ok(())
     }
 }

@@ -87,10 +87,7 @@ impl MemDisk {
         match self.pages.insert(page, name) {
             Ok(_) => Ok(name),
             Err(_) => {
-                match self.chunks.free(name) {
-                    Ok(()) => {}
-                    Err(_) => unreachable!(),
-                }
+                self.chunks.free(name).unwrap();
                 Err(DiskError::NoMemory)
             }
         }
@@ -118,19 +115,8 @@ impl MemDisk {
         ensures refused { IfErr result (λ error. error ≡ disk_error.NoMemory) }
     {
         let name = self.find_or_take(at / PAGE as u64)?;
-        self.put(name, at, bytes);
-        Ok(())
-    }
-
-    /// Writes bytes to the page of a place, which has this chunk.
-    fn put(&mut self, name: ChunkName, at: u64, bytes: &[u8])
-        requires page { name_of self.old.pages (at / PAGE) ≡ Some name }
-        requires fits { at % PAGE + length bytes.now ≤ PAGE }
-        ensures written { AreAt self.new at bytes.now }
-        ensures same { IsSameBeside self.old self.new at (length bytes.now) }
-        ensures count { self.new.count ≡ self.old.count }
-    {
         write_over(&mut self.chunks, name, (at % PAGE as u64) as usize, bytes);
+        Ok(())
     }
 
     /// Reads bytes that lie in one page.
