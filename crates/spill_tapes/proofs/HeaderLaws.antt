@@ -1,14 +1,14 @@
 -- The front of a record, as it is read.
-use Rattle.std.specs.Prelude.{◌≡◌, ℕ, suc, ◌+◌, ◌*◌, ◌^◌, ◌<◌, ◌≤◌, List, [], ◌∷◌, ◌++◌, length, get_or, nat_lt, nat_le, ◌&&◌, ◌||◌, Bool, true, false, ◌==◌, Option, Some, None}
+use Rattle.std.specs.Prelude.{◌≡◌, ℕ, ◌+◌, ◌^◌, ◌<◌, ◌≤◌, List, [], ◌∷◌, ◌++◌, length, get_or, nat_lt, nat_le, ◌&&◌, ◌||◌, Bool, true, false, ◌==◌, Option, Some, None}
 use Rattle.std.proofs.Common.{refl, sym, ◌∙◌, ap, subst, arith, length-append}
 use Rattle.std.proofs.lemmas.List.{append_assoc}
-use Rattle.std.proofs.lemmas.Bool.{and_parts, leb-true}
 use Rattle.std.proofs.lemmas.Bool.Decides.{nat_tests}
 use Rattle.std.proofs.lemmas.Nat.{from_be_bytes-to_be_bytes_4}
 use Rattle.spill_tapes.specs.Records.{Record, header_of, tape_bytes, number_at}
-use Rattle.spill_tapes.specs.Tape.{TapeState, HasAhead, AreAhead, IsAfterHeader, Gives, IsGood, IsGoodIn, IsGoodRead, ended, ended_by, join}
+use Rattle.spill_tapes.specs.Tape.{TapeState, HasAhead, AreAhead, IsAfterHeader, Gives, IsGood, ended, ended_by, join}
 use Rattle.spill_tapes.specs.declared.tape.Phase.TheVariants.{Read}
 use Rattle.spill_tapes.specs.declared.header.Header.{Header}
+use Rattle.std.proofs.lemmas.Grind.{common_steps}
 
 pub header_len : (hash tag len : ℕ) → length (header_of hash tag len) ≡ 9
 unfolding header_of
@@ -61,12 +61,7 @@ ends records len left [] number is = let same : len ≡ left = omega (arith, is)
 ends records len left (r ∷ rs) number is = let more : 1 < records = omega (arith, number) in grind (arith, nat_tests)
 
 pub can_stand : (last : ℕ → ℕ → Type 0) (t : TapeState) (h : Header) (rs : List Record) → IsAfterHeader last t h rs → (nat_lt h.tag 2 && nat_le h.len 65535 && nat_le h.len t.left && (nat_lt 1 t.records || h.len == t.left)) ≡ true
-can_stand last t h rs had =
-    let tag : h.tag < 2 = omega (arith, had.tag, had.good.tag) in
-    let len : h.len ≤ 65535 = omega (arith, had.len, had.good.len) in
-    let left : h.len ≤ t.left = omega (arith, had.len, had.left) in
-    let end : (nat_lt 1 t.records || h.len == t.left) ≡ true = ends t.records h.len t.left had.others had.number (had.left ∙ ap (λ n. n + length (tape_bytes had.others)) (sym had.len)) in
-    grind (arith, nat_tests)
+can_stand last t h rs had = grind (arith, nat_tests, common_steps)
 
 -- without its buffer a tape has the same records, if it has none
 ended_none : (last : ℕ → ℕ → Type 0) (t : TapeState) (rs : List Record) → length rs ≡ 0 → AreAhead last t rs → AreAhead last (ended_by true t) rs
@@ -87,10 +82,7 @@ pub ended_ahead : (last : ℕ → ℕ → Type 0) (t : TapeState) (rs : List Rec
 ended_ahead last t rs had = ended_at last t rs (t.records == 0) (λ h. grind (arith, nat_tests)) had
 
 ended_by_as : (t : TapeState) (done : Bool) → (done ≡ true → t.records ≡ 0) → t.phase ≡ Read → IsGood t → ((ended_by done t).pages ≡ t.pages) × ((ended_by done t).phase ≡ Read) × IsGood (ended_by done t)
-ended_by_as t true none phase good =
-    let was : IsGoodRead t = subst (λ ph. IsGoodIn ph t) phase good in
-    let pages : 8192 * length t.pages < 8192 = omega (arith, was.pages, was.end (none refl)) in
-    (refl, phase, subst (λ ph. IsGoodIn ph (ended_by true t)) (sym phase) (record { read = omega arith; left = omega arith; pages = omega (arith, pages); end = λ _. refl }))
+ended_by_as t true none phase good = grind (arith, nat_tests, common_steps)
 ended_by_as t false none phase good = (refl, phase, good)
 
 pub ended_as : (t : TapeState) → t.phase ≡ Read → IsGood t → ((ended t).pages ≡ t.pages) × ((ended t).phase ≡ Read) × IsGood (ended t)
@@ -108,8 +100,4 @@ is_last : (records len left : ℕ) → (nat_lt 1 records || len == left) ≡ tru
 is_last records len left is one = grind (arith, nat_tests)
 
 pub stands : (tag len left records : ℕ) → (nat_lt tag 2 && nat_le len 65535 && nat_le len left && (nat_lt 1 records || len == left)) ≡ true → (tag < 2) × (len ≤ 65535) × (len ≤ left) × (records ≡ 1 → len ≡ left)
-stands tag len left records is =
-    let end = and_parts (nat_lt tag 2 && nat_le len 65535 && nat_le len left) (nat_lt 1 records || len == left) is in
-    let last = and_parts (nat_lt tag 2 && nat_le len 65535) (nat_le len left) end.0 in
-    let first = and_parts (nat_lt tag 2) (nat_le len 65535) last.0 in
-    (leb-true (suc tag) 2 first.0, leb-true len 65535 first.1, leb-true len left last.1, is_last records len left end.1)
+stands tag len left records is = grind (arith, nat_tests, common_steps)

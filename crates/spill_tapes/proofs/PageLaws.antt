@@ -6,38 +6,35 @@ use Rattle.tape_disks.specs.Calls.{AreLast, AreReadAt, Keeps, KeepsBeside}
 use Rattle.spill_tapes.specs.Pages.{PoolState, times, IsApart, IsFresh, IsOn, AreOn, KeepsPages}
 use Rattle.spill_tapes.specs.Tape.{TapeState, join, spent, HasWritten, HasAhead}
 use Rattle.spill_tapes.proofs.PoolLaws.{same_one, apart_page}
+use Rattle.std.proofs.lemmas.Bool.Decides.{nat_tests}
+use Rattle.std.proofs.lemmas.Grind.{common_steps}
 
 -- a write to one page leaves the others
 beside : (page other k : ℕ) → k < 8192 → other ≢ page → (other * 8192 + k < page * 8192) ⊎ (page * 8192 + 8192 ≤ other * 8192 + k)
 beside page other k small differ = grind arith
 
 pub keeps_pages : (before after : ℕ → ℕ → Type 0) (pool : PoolState) (page n : ℕ) → IsFresh pool page → n ≡ 8192 → KeepsBeside before after (page * 8192) n → KeepsPages pool before after
-keeps_pages before after pool page n fresh is keeps other given out k byte small here =
-    let differ : other ≢ page = λ e. absurd (omega (arith, e, given, fresh (subst (λ x. times x pool.free ≡ 0) e out))) in
-    keeps (other * 8192 + k) byte (subst (λ m. (other * 8192 + k < page * 8192) ⊎ (page * 8192 + m ≤ other * 8192 + k)) (sym is) (beside page other k small differ)) here
+keeps_pages before after pool page n fresh is keeps other given out k byte small here = grind (arith, nat_tests, common_steps)
 
 -- what is on pages stays there
 pub kept_on : (before after : ℕ → ℕ → Type 0) (pool : PoolState) (pages : List ℕ) (contents : List (List ℕ)) → ((page : ℕ) → 0 < times page pages → (page < pool.count) × (times page pool.free ≡ 0)) → KeepsPages pool before after → AreOn before pages contents → AreOn after pages contents
 kept_on before after pool [] [] apart keeps on = on
-kept_on before after pool [] (c ∷ cs) apart keeps on = on
-kept_on before after pool (p ∷ ps) [] apart keeps on = on
 kept_on before after pool (p ∷ ps) (c ∷ cs) apart keeps on =
     let here : (p < pool.count) × (times p pool.free ≡ 0) = apart p (omega (arith, same_one p)) in
     (record { len = on.0.len; each = λ k h. keeps p here.0 here.1 k (get_or c k 0) h (on.0.each k h) }, kept_on before after pool ps cs (λ page h. apart page (omega (arith, h))) keeps on.1)
+kept_on before after pool _ _ apart keeps on = absurd on
 
 pub kept_all : (before after : ℕ → ℕ → Type 0) (pages : List ℕ) (contents : List (List ℕ)) → Keeps before after → AreOn before pages contents → AreOn after pages contents
 kept_all before after [] [] keeps on = on
-kept_all before after [] (c ∷ cs) keeps on = on
-kept_all before after (p ∷ ps) [] keeps on = on
 kept_all before after (p ∷ ps) (c ∷ cs) keeps on =
     (record { len = on.0.len; each = λ k h. keeps (p * 8192 + k) (get_or c k 0) (on.0.each k h) }, kept_all before after ps cs keeps on.1)
+kept_all before after _ _ keeps on = absurd on
 
 -- a page more
 pub push_on : (last : ℕ → ℕ → Type 0) (pages : List ℕ) (contents : List (List ℕ)) (page : ℕ) (bytes : List ℕ) → AreOn last pages contents → IsOn last page bytes → AreOn last (pages ++ page ∷ []) (contents ++ bytes ∷ [])
 push_on last [] [] page bytes on here = (here, tt)
-push_on last [] (c ∷ cs) page bytes on here = absurd on
-push_on last (p ∷ ps) [] page bytes on here = absurd on
 push_on last (p ∷ ps) (c ∷ cs) page bytes on here = (on.0, push_on last ps cs page bytes on.1 here)
+push_on last _ _ page bytes on here = absurd on
 
 pub join_push : (contents : List (List ℕ)) (bytes : List ℕ) → join (contents ++ bytes ∷ []) ≡ join contents ++ bytes
 join_push contents bytes = sym (flat_map_more (λ bs. bs) [] contents bytes)
@@ -55,11 +52,7 @@ flushed before after pool t t' page apart keeps full written pages empty bytes h
 
 -- more bytes in the buffer
 pub buffered : (last : ℕ → ℕ → Type 0) (t t' : TapeState) (more : List ℕ) → t'.pages ≡ t.pages → t'.buffer ≡ t.buffer ++ more → (bytes : List ℕ) → HasWritten last t bytes → HasWritten last t' (bytes ++ more)
-buffered last t t' more pages buffer bytes had = record {
-  contents = had.contents;
-  on = subst (λ ps. AreOn last ps had.contents) (sym pages) had.on;
-  whole = ap (λ bs. bs ++ more) had.whole ∙ append_assoc (join had.contents) t.buffer more ∙ ap (λ bs. join had.contents ++ bs) (sym buffer);
-}
+buffered last t t' more pages buffer bytes had = grind (arith, nat_tests, common_steps)
 
 -- two parts of what is written
 pub written_parts : (last : ℕ → ℕ → Type 0) (t : TapeState) (bytes first second more : List ℕ) → first ++ second ≡ more → HasWritten last t ((bytes ++ first) ++ second) → HasWritten last t (bytes ++ more)
@@ -106,28 +99,19 @@ loaded before after t t' page pages all start len read keeps bytes had =
 -- and the bytes on them are as many as they have room for
 pub on_len : (last : ℕ → ℕ → Type 0) (pages : List ℕ) (contents : List (List ℕ)) → AreOn last pages contents → length (join contents) ≡ 8192 * length pages
 on_len last [] [] on = refl
-on_len last [] (c ∷ cs) on = absurd on
-on_len last (p ∷ ps) [] on = absurd on
 on_len last (p ∷ ps) (c ∷ cs) on = omega (arith, length-append c (join cs), on.0.len, on_len last ps cs on.1)
+on_len last _ _ on = absurd on
 
 pub written_len : (last : ℕ → ℕ → Type 0) (t : TapeState) (bytes : List ℕ) → HasWritten last t bytes → length bytes ≡ 8192 * length t.pages + length t.buffer
 written_len last t bytes had = omega (arith, ap length had.whole, length-append (join had.contents) t.buffer, on_len last t.pages had.contents had.on)
 
 -- tapes with the same pages and the same bytes in the buffer
 pub same_written : (last : ℕ → ℕ → Type 0) (t t' : TapeState) → t'.pages ≡ t.pages → t'.buffer ≡ t.buffer → (bytes : List ℕ) → HasWritten last t bytes → HasWritten last t' bytes
-same_written last t t' pages buffer bytes had = record {
-  contents = had.contents;
-  on = subst (λ ps. AreOn last ps had.contents) (sym pages) had.on;
-  whole = had.whole ∙ ap (λ bs. join had.contents ++ bs) (sym buffer);
-}
+same_written last t t' pages buffer bytes had = grind (arith, nat_tests, common_steps)
 
 -- a tape of which all is on pages is read from its first byte on
 pub rewound : (last : ℕ → ℕ → Type 0) (t t' : TapeState) → t'.pages ≡ t.pages → t.buffer ≡ [] → t'.buffer ≡ [] → (bytes : List ℕ) → HasWritten last t bytes → HasAhead last t' bytes
-rewound last t t' pages empty empty' bytes had = record {
-  contents = had.contents;
-  on = subst (λ ps. AreOn last ps had.contents) (sym pages) had.on;
-  whole = had.whole ∙ ap (λ bs. join had.contents ++ bs) empty ∙ append-nil (join had.contents) ∙ ap (λ bs. bs ++ join had.contents) (sym (ap (drop t'.read) empty' ∙ drop_all t'.read [] (omega arith)));
-}
+rewound last t t' pages empty empty' bytes had = grind (arith, nat_tests, common_steps)
 
 -- what is left of the buffer was read, and then more
 pub filled_on : (first second third : ℕ → ℕ → Type 0) (t t1 t2 t3 : TapeState) (a n : ℕ) (bytes bytes1 bytes3 : List ℕ) → t1 ≡ spent t a → bytes1 ≡ bytes ++ take a (drop t.read t.buffer) → a ≤ length t.buffer - t.read → a ≤ n → ((bs : List ℕ) → HasAhead first t1 bs → HasAhead second t2 bs)
@@ -143,8 +127,4 @@ filled_on first second third t t1 t2 t3 a n bytes bytes1 bytes3 tape put fits le
     (told.0 ∙ ap (λ bs. bs ++ drop a front) (put ∙ ap (λ bs. bytes ++ bs) parts.0) ∙ append_assoc bytes (take a front) (drop a front) ∙ ap (λ bs. bytes ++ bs) split, told.1)
 
 pub same_ahead : (last : ℕ → ℕ → Type 0) (t t' : TapeState) → t'.pages ≡ t.pages → t'.buffer ≡ t.buffer → t'.read ≡ t.read → (bytes : List ℕ) → HasAhead last t bytes → HasAhead last t' bytes
-same_ahead last t t' pages buffer read bytes had = record {
-  contents = had.contents;
-  on = subst (λ ps. AreOn last ps had.contents) (sym pages) had.on;
-  whole = had.whole ∙ ap (λ bs. drop t.read bs ++ join had.contents) (sym buffer) ∙ ap (λ n. drop n t'.buffer ++ join had.contents) (sym read);
-}
+same_ahead last t t' pages buffer read bytes had = grind (arith, nat_tests, common_steps)

@@ -3,6 +3,7 @@ use Rattle.std.specs.Prelude.{◌≡◌, refl, ℕ, ◌+◌, ◌^◌, ◌<◌, �
 use Rattle.std.proofs.Common.{inl, inr, ◌∙◌, ap, arith, length-append}
 use Rattle.std.proofs.lemmas.Bool.Decides.{nat_tests}
 use Rattle.spill_tapes.specs.Pages.{PoolState, IsPool, HavePages, given_back, once, times, below, IsApart, IsBalanced, IsFresh, FreesNone, UsesAgain, TakesPages, GivesBack}
+use Rattle.std.proofs.lemmas.Grind.{common_steps}
 
 pub times-append : (page : ℕ) (xs ys : List ℕ) → times page (xs ++ ys) ≡ times page xs + times page ys
 times-append page [] ys = omega arith
@@ -12,9 +13,6 @@ pub times_push : (page x : ℕ) (xs : List ℕ) → times page (xs ++ x ∷ []) 
 times_push page x xs = let e : times page (xs ++ x ∷ []) ≡ times page xs + times page (x ∷ []) = times-append page xs (x ∷ []) in omega (arith, e)
 
 -- a page is given out or not
-pub below_one : (page count : ℕ) → below page count ≤ 1
-below_one page count = grind (arith, nat_tests)
-
 pub below_less : (page count : ℕ) → 0 < below page count → page < count
 below_less page count h = grind (arith, nat_tests)
 
@@ -22,42 +20,19 @@ pub same_one : (page : ℕ) → once page page ≡ 1
 same_one page = grind (arith, nat_tests)
 
 -- nothing moved
-pub balanced_none : (before after : PoolState) (pages pages' : List ℕ) → after.free ≡ before.free → after.count ≡ before.count → pages' ≡ pages → IsBalanced before pages after pages'
-balanced_none before after pages pages' free count same =
-    let frees : (p : ℕ) → times p after.free ≡ times p before.free = λ p. ap (times p) free in
-    let takes : (p : ℕ) → times p pages' ≡ times p pages = λ p. ap (times p) same in
-    let few : (p : ℕ) → below p after.count ≡ below p before.count = λ p. ap (below p) count in
-    let long : length after.free ≡ length before.free = ap length free in
-    let longer : length pages' ≡ length pages = ap length same in
-    record {
-      each = λ p. omega (arith, frees p, takes p, few p);
-      all = omega arith;
-      grows = omega arith;
-    }
-
 -- one move after the other
 pub balanced_twice : (a b c : PoolState) (xs ys zs : List ℕ) → IsBalanced a xs b ys → IsBalanced b ys c zs → IsBalanced a xs c zs
-balanced_twice a b c xs ys zs first second = record {
-  each = λ p. omega (arith, first.each p, second.each p);
-  all = omega (arith, first.all, second.all);
-  grows = omega (arith, first.grows, second.grows);
-}
+balanced_twice a b c xs ys zs first second = grind (arith, nat_tests, common_steps)
 
 pub frees_twice : (a b c : PoolState) → FreesNone a b → FreesNone b c → FreesNone a c
 frees_twice a b c first second = λ page. omega (arith, first page, second page)
 
 pub apart_page : (pool : PoolState) (pages : List ℕ) (page : ℕ) → IsApart pool pages → 0 < times page pages → (page < pool.count) × (times page pool.free ≡ 0)
-apart_page pool pages page apart there =
-    let one : below page pool.count ≤ 1 = below_one page pool.count in
-    let at : times page pool.free + times page pages ≤ below page pool.count = apart page in
-    let some : 0 < below page pool.count = omega arith in
-    (below_less page pool.count some, omega arith)
+apart_page pool pages page apart there = grind (arith, nat_tests, common_steps)
 
 -- what was taken was fresh
 pub fresh_first : (a : PoolState) (page : ℕ) (rest : List ℕ) → a.free ≡ page ∷ rest → IsFresh a page
-fresh_first a page rest free none =
-    let e : times page a.free ≡ once page page + times page rest = ap (times page) free in
-    absurd (omega (arith, e, same_one page, none))
+fresh_first a page rest free none = grind (arith, nat_tests, common_steps)
 
 pub fresh_new : (a : PoolState) (page : ℕ) → page ≡ a.count → IsFresh a page
 fresh_new a page is none = omega (arith, is)
@@ -117,12 +92,7 @@ again_twice a b c frees (inr none) (inl same') = inr (none_freed b.free c.free f
 
 -- no page moved; and pages moved twice
 pub takes_none : (pool : PoolState) (pages pages' : List ℕ) → HavePages pool pages → pages' ≡ pages → TakesPages pool pages pool pages'
-takes_none pool pages pages' have same = record {
-  pool = have.pool;
-  balanced = balanced_none pool pool pages pages' refl refl same;
-  frees = λ page. omega arith;
-  again = inl refl;
-}
+takes_none pool pages pages' have same = grind (arith, nat_tests, common_steps)
 
 pub takes_twice : (a b c : PoolState) (xs ys zs : List ℕ) → TakesPages a xs b ys → TakesPages b ys c zs → TakesPages a xs c zs
 takes_twice a b c xs ys zs first second = record {

@@ -3,19 +3,20 @@ use Rattle.std.specs.Prelude.{◌≡◌, ◌≢◌, ℕ, ◌+◌, ◌*◌, ◌<�
 use Rattle.std.specs.List.{sum_by}
 use Rattle.std.proofs.Math.ListN.{set}
 use Rattle.std.proofs.Common.{refl, sym, ◌∙◌, ap, subst, arith}
-use Rattle.std.proofs.lemmas.List.{get_or-set_same, get_or-set_other, get_or_past, get_or_default}
+use Rattle.std.proofs.lemmas.List.{get_or-set_other, get_or_past}
 use Rattle.std.proofs.lemmas.List.Sums.{sum_by-cons}
 use Rattle.tape_disks.specs.Calls.{Keeps}
 use Rattle.spill_tapes.specs.Records.{Record, tape_bytes}
 use Rattle.spill_tapes.specs.Pages.{times, IsApart, AreOn, KeepsPages}
-use Rattle.spill_tapes.specs.Tape.{TapeState, no_tape, tape_len, is_in, IsGoodIn, IsGoodRead, AreWritten, AreAhead, HasIn, Has, Gives}
+use Rattle.spill_tapes.specs.Tape.{TapeState, no_tape, tape_len, is_in, AreWritten, AreAhead, HasIn, Has, Gives}
 use Rattle.spill_tapes.specs.Tapes.{TapesState, tape_at, phase_of, is_written, is_read, IsTape, KeepsOthers, AreTapes}
 use Rattle.spill_tapes.specs.declared.tape.Phase.{Phase}
 use Rattle.spill_tapes.specs.declared.tape.Phase.TheVariants.{Closed, Written, Read}
 use Rattle.spill_tapes.specs.declared.tape_id.TapeId.{TapeId}
 use Rattle.spill_tapes.proofs.PoolLaws.{apart_page}
-use Rattle.spill_tapes.proofs.PageLaws.{kept_on, kept_all, written_len}
-use Rattle.spill_tapes.proofs.HeaderLaws.{gives_with}
+use Rattle.spill_tapes.proofs.PageLaws.{kept_on, written_len}
+use Rattle.std.proofs.lemmas.Bool.Decides.{nat_tests}
+use Rattle.std.proofs.lemmas.Grind.{common_steps}
 
 -- a member's part of a sum
 part_of : (f : TapeState → ℕ) (ts : List TapeState) (i : ℕ) → f no_tape ≡ 0 → f (get_or ts i no_tape) ≤ sum_by f ts
@@ -30,18 +31,8 @@ apart_at t i are page = omega (arith, are.each page, part_of (λ x. times page x
 -- a tape has its records as long as its pages have their bytes
 pub kept_in : (phase : Phase) (last last' : ℕ → ℕ → Type 0) (t : TapeState) (rs : List Record) → ((contents : List (List ℕ)) → AreOn last t.pages contents → AreOn last' t.pages contents) → HasIn phase last t rs → HasIn phase last' t rs
 kept_in Closed last last' t rs keeps had = had
-kept_in Written last last' t rs keeps had = record {
-  good = had.good;
-  number = had.number;
-  bytes = record { contents = had.bytes.contents; on = keeps had.bytes.contents had.bytes.on; whole = had.bytes.whole };
-}
-kept_in Read last last' t rs keeps had = record {
-  good = had.good;
-  number = had.number;
-  left = had.left;
-  rest = had.rest;
-  bytes = record { contents = had.bytes.contents; on = keeps had.bytes.contents had.bytes.on; whole = had.bytes.whole };
-}
+kept_in Written last last' t rs keeps had = grind (arith, nat_tests, common_steps)
+kept_in Read last last' t rs keeps had = grind (arith, nat_tests, common_steps)
 
 index_differs : (id tape : TapeId) → id ≢ tape → id.index ≢ tape.index
 index_differs id tape differ same = differ (ap (λ (n : ℕ). record { index = n }) same)
@@ -61,16 +52,8 @@ kept_others last last' t t' tape x are keeps is = record {
 pub others_kept : (last last' : ℕ → ℕ → Type 0) (t s t' : TapesState) (tape : TapeId) (x : TapeState) → t ≡ s → AreTapes t → KeepsPages t.pool last last' → t'.tapes ≡ set t.tapes tape.index x → KeepsOthers last last' s t' tape
 others_kept last last' t s t' tape x same are keeps is = subst (λ (y : TapesState). KeepsOthers last last' y t' tape) same (kept_others last last' t t' tape x are keeps is)
 
-kept_all_others : (last last' : ℕ → ℕ → Type 0) (t t' : TapesState) (tape : TapeId) (x : TapeState) → Keeps last last' → t'.tapes ≡ set t.tapes tape.index x → KeepsOthers last last' t t' tape
-kept_all_others last last' t t' tape x keeps is = record {
-  phases = λ id differ. ap (λ (y : TapeState). y.phase) (same_at t t' tape x is id differ);
-  lens = λ id differ. ap tape_len (same_at t t' tape x is id differ);
-  records = λ id differ rs had. subst (λ (y : TapeState). Has last' y rs) (sym (same_at t t' tape x is id differ))
-      (kept_in (tape_at t id).phase last last' (tape_at t id) rs (λ contents on. kept_all last last' (tape_at t id).pages contents keeps on) had);
-}
-
-pub others_kept_all : (last last' : ℕ → ℕ → Type 0) (t s t' : TapesState) (tape : TapeId) (x : TapeState) → t ≡ s → Keeps last last' → t'.tapes ≡ set t.tapes tape.index x → KeepsOthers last last' s t' tape
-others_kept_all last last' t s t' tape x same keeps is = subst (λ (y : TapesState). KeepsOthers last last' y t' tape) same (kept_all_others last last' t t' tape x keeps is)
+pub others_kept_all : (last last' : ℕ → ℕ → Type 0) (t s t' : TapesState) (tape : TapeId) (x : TapeState) → t ≡ s → AreTapes t → Keeps last last' → t'.tapes ≡ set t.tapes tape.index x → KeepsOthers last last' s t' tape
+others_kept_all last last' t s t' tape x same are keeps is = others_kept last last' t s t' tape x same are (λ page _ _ k byte _ had. keeps (page * 8192 + k) byte had) is
 
 pub closed_past : (t : TapesState) (id : TapeId) → length t.tapes ≤ id.index → phase_of t id ≡ Closed
 closed_past t id past = ap (λ (x : TapeState). x.phase) (get_or_past t.tapes id.index no_tape past)
@@ -83,9 +66,8 @@ pub read_has : (last : ℕ → ℕ → Type 0) (t : TapeState) (rs : List Record
 read_has last t rs phase had = subst (λ (ph : Phase). HasIn ph last t rs) phase had
 
 pub is_reading : (phase : Phase) → is_in Read phase ≡ true → phase ≡ Read
-is_reading Closed h = cc
-is_reading Written h = cc
 is_reading Read h = refl
+is_reading _ h = cc
 
 pub has_read : (last : ℕ → ℕ → Type 0) (t : TapeState) (rs : List Record) → t.phase ≡ Read → AreAhead last t rs → Has last t rs
 has_read last t rs phase had = subst (λ (ph : Phase). HasIn ph last t rs) (sym phase) had
@@ -106,20 +88,15 @@ within t s tape same read = open_within t s tape same (read_open (phase_of s tap
 
 -- the tape that is read, and what is told of it
 pub read_ahead : (last : ℕ → ℕ → Type 0) (t s : TapesState) (tape : TapeId) (y : TapeState) (rs : List Record) → t ≡ s → is_read s tape ≡ true → y ≡ get_or t.tapes tape.index y → IsTape last s tape rs → AreAhead last y rs
-read_ahead last t s tape y rs same read at had =
-    let is : y ≡ tape_at s tape = at ∙ get_or_default t.tapes tape.index y no_tape (within t s tape same read) ∙ ap (λ (x : TapesState). tape_at x tape) same in
-    subst (λ (x : TapeState). AreAhead last x rs) (sym is) (read_has last (tape_at s tape) rs (is_reading (tape_at s tape).phase read) had)
+read_ahead last t s tape y rs same read at had = grind (arith, nat_tests, common_steps)
 
 pub read_gives : (last : ℕ → ℕ → Type 0) (t s t' : TapesState) (tape : TapeId) (x : TapeState) (rs : List Record) (bytes : List ℕ) (found : Option (ℕ × ℕ)) → t ≡ s → is_read s tape ≡ true → t'.tapes ≡ set t.tapes tape.index x → x.phase ≡ Read → Gives (AreAhead last x) rs bytes found → Gives (IsTape last t' tape) rs bytes found
-read_gives last t s t' tape x rs bytes found same read put phase told =
-    let at : tape_at t' tape ≡ x = ap (λ ts. get_or ts tape.index no_tape) put ∙ get_or-set_same t.tapes tape.index x no_tape (within t s tape same read) in
-    gives_with (AreAhead last x) (IsTape last t' tape) rs bytes found (λ xs had. subst (λ (y : TapeState). Has last y xs) (sym at) (has_read last x xs phase had)) told
+read_gives last t s t' tape x rs bytes found same read put phase told = grind (arith, nat_tests, common_steps)
 
 -- a tape that is being written
 pub is_writing : (phase : Phase) → is_in Written phase ≡ true → phase ≡ Written
-is_writing Closed h = cc
 is_writing Written h = refl
-is_writing Read h = cc
+is_writing _ h = cc
 
 -- how many bytes were written
 pub bytes_written : (last : ℕ → ℕ → Type 0) (t : TapesState) (tape : TapeId) (rs : List Record) → is_written t tape ≡ true → IsTape last t tape rs → tape_len (tape_at t tape) ≡ length (tape_bytes rs)
@@ -129,8 +106,4 @@ bytes_written last t tape rs written had =
 
 -- how many pages a tape has that is being read
 pub pages_left : (last : ℕ → ℕ → Type 0) (t : TapesState) (tape : TapeId) (rs : List Record) → AreTapes t → t.is_dead ≡ false → is_read t tape ≡ true → IsTape last t tape rs → 8192 * length (tape_at t tape).pages < length (tape_bytes rs) + 8192
-pages_left last t tape rs are alive read had =
-    let phase = is_reading (tape_at t tape).phase read in
-    let here : AreAhead last (tape_at t tape) rs = subst (λ (ph : Phase). HasIn ph last (tape_at t tape) rs) phase had in
-    let good : IsGoodRead (tape_at t tape) = subst (λ (ph : Phase). IsGoodIn ph (tape_at t tape)) phase (are.good alive tape.index) in
-    omega (arith, good.pages, here.left)
+pages_left last t tape rs are alive read had = grind (arith, nat_tests, common_steps)

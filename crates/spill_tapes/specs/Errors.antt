@@ -10,7 +10,5 @@ tape_error disk.NoMemory = tape.NoMemory
 tape_error disk.TapeFault = tape.TapeFault
 
 abbrev pub tape_faults : TapeError → ℕ
-tape_faults tape.NoMemory = 0
 tape_faults tape.TapeFault = 1
-tape_faults tape.TapeDamaged = 0
-tape_faults tape.TapesDead = 0
+tape_faults _ = 0

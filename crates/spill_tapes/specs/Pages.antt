@@ -81,9 +81,8 @@ pub record IsOn (last : ℕ → ℕ → Type 0) (page : ℕ) (bytes : List ℕ) 
 
 abbrev pub AreOn : (ℕ → ℕ → Type 0) → List ℕ → List (List ℕ) → Type 0
 AreOn last [] [] = Unit {0}
-AreOn last [] (bytes ∷ contents) = ⊥
-AreOn last (page ∷ pages) [] = ⊥
 AreOn last (page ∷ pages) (bytes ∷ contents) = IsOn last page bytes × AreOn last pages contents
+AreOn last pages contents = ⊥
 
 -- each page that is given out and not free has the bytes that it had
 abbrev pub KeepsPages : PoolState → (ℕ → ℕ → Type 0) → (ℕ → ℕ → Type 0) → Type 0

@@ -5,7 +5,7 @@ use Rattle.spill_tapes.specs.Records.{Record}
 use Rattle.spill_tapes.specs.Pages.{PoolState, IsPool, times, below}
 use Rattle.spill_tapes.specs.Tape.{TapeState, no_tape, tape_len, is_in, IsGood, Has}
 use Rattle.spill_tapes.specs.declared.error.TapeError.{TapeError}
-use Rattle.spill_tapes.specs.declared.error.TapeError.TheVariants.{NoMemory, TapeFault, TapeDamaged, TapesDead}
+use Rattle.spill_tapes.specs.declared.error.TapeError.TheVariants.{NoMemory, TapeDamaged, TapesDead}
 use Rattle.spill_tapes.specs.declared.tape.Phase.{Phase}
 use Rattle.spill_tapes.specs.declared.tape.Phase.TheVariants.{Closed, Written, Read}
 use Rattle.spill_tapes.specs.declared.tape_id.TapeId.{TapeId}
@@ -55,21 +55,17 @@ pub record KeepsOthers (last last' : ℕ → ℕ → Type 0) (before after : Tap
 -- why no tape is opened, by whether the tapes were dead; why a call is refused that writes; and one that reads
 abbrev pub IsOpenRefusal : Bool → TapeError → Type 0
 IsOpenRefusal dead NoMemory = dead ≡ false
-IsOpenRefusal dead TapeFault = ⊥
-IsOpenRefusal dead TapeDamaged = ⊥
 IsOpenRefusal dead TapesDead = dead ≡ true
+IsOpenRefusal dead _ = ⊥
 
 abbrev pub IsRefusal : Bool → TapeError → Type 0
-IsRefusal dead NoMemory = dead ≡ false
-IsRefusal dead TapeFault = dead ≡ false
-IsRefusal dead TapeDamaged = ⊥
 IsRefusal dead TapesDead = dead ≡ true
+IsRefusal dead TapeDamaged = ⊥
+IsRefusal dead _ = dead ≡ false
 
 abbrev pub IsReadRefusal : Bool → TapeError → Type 0
-IsReadRefusal dead NoMemory = dead ≡ false
-IsReadRefusal dead TapeFault = dead ≡ false
-IsReadRefusal dead TapeDamaged = dead ≡ false
 IsReadRefusal dead TapesDead = dead ≡ true
+IsReadRefusal dead _ = dead ≡ false
 
 -- how a call ends that reads or writes the disk: dead tapes refuse it, and nothing is changed; and where living ones refuse it, for one of
 -- these reasons, they are dead from then on

@@ -89,9 +89,6 @@ impl PagePool {
         ensures count { self.new.count ≡ self.old.count }
         ensures none { pages.new.items ≡ [] }
     {
-        match self.free.append(pages) {
-            Ok(()) => {}
-            Err(_) => unreachable!(),
-        }
+        self.free.append(pages).unwrap();
     }
 }

@@ -199,9 +199,7 @@ impl Tape {
         ensures disk { OnlyReads D.TapeDisk (failed disk_faults result) disk.old disk.new }
     {
         self.buffer.resize(PAGE, 0)?;
-        let Some(page) = self.pages.pop_front() else {
-            unreachable!()
-        };
+        let page = self.pages.pop_front().unwrap();
         pool.give_back(page);
         self.read = 0;
         disk.read_at(page * PAGE as u64, &mut self.buffer)
@@ -350,21 +348,11 @@ impl Tape {
     fn end_reading(&mut self, alloc: Global)
         ensures { self.new ≡ ended self.old }
     {
-        if self.records > 0 {
-            return;
+        if self.records == 0 {
+            self.buffer = Vec::new(alloc);
+            self.read = 0;
+            self.left = 0;
         }
-        self.buffer = Vec::new(alloc);
-        self.read = 0;
-        self.left = 0;
-    }
-
-    /// Gives back its pages.
-    pub(crate) fn give_back(&mut self, pool: &mut PagePool)
-        requires pages { HavePages pool.old self.old.pages }
-        ensures pages { GivesBack pool.old self.old.pages pool.new self.new.pages }
-        ensures none { self.new.pages ≡ [] }
-    {
-        pool.give_back_all(&mut self.pages);
     }
 
     /// What is done with it.
@@ -374,15 +362,14 @@ impl Tape {
         self.phase
     }
 
-    /// Is no tape any more.
-    pub(crate) fn close(&mut self, alloc: Global)
-        requires none { self.old.pages ≡ [] }
-        ensures { self.new ≡ no_tape }
+    /// Is no tape any more, and gives back its pages.
+    pub(crate) fn close(&mut self, alloc: Global, pool: &mut PagePool)
+        requires pages { HavePages pool.old self.old.pages }
+        ensures pages { GivesBack pool.old self.old.pages pool.new [] }
+        ensures closed { self.new ≡ no_tape }
     {
+        pool.give_back_all(&mut self.pages);
+        *self = Tape::new(alloc);
         self.phase = Phase::Closed;
-        self.buffer = Vec::new(alloc);
-        self.read = 0;
-        self.left = 0;
-        self.records = 0;
     }
 }

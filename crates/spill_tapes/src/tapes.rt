@@ -285,8 +285,6 @@ impl Tapes {
         ensures none { (tape_at self.new tape).pages ≡ [] }
         ensures others { KeepsOthers (D.last _disk.now) (D.last _disk.now) self.old self.new tape }
     {
-        let slot = &mut self.tapes[tape.index];
-        slot.give_back(&mut self.pool);
-        slot.close(self.alloc);
+        self.tapes[tape.index].close(self.alloc, &mut self.pool);
     }
 }
