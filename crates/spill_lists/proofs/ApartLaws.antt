@@ -11,7 +11,9 @@ use Rattle.spill_tapes.specs.declared.tape.Phase.TheVariants.{Closed, Written, R
 use Rattle.spill_tapes.specs.declared.tape_id.TapeId.{TapeId}
 use Rattle.spill_lists.specs.declared.lists.OnTape.{OnTape}
 use Rattle.spill_lists.specs.Lists.{LeftList}
-use Rattle.spill_lists.specs.Standing.{once, times, AreOn, AreAhead, AreWritten, AreRead}
+use Rattle.spill_lists.specs.Standing.{once, times, AreOn, AreAhead, AreWritten}
+use Rattle.std.specs.List.{AllByRecursion}
+use Rattle.list_laws.specs.Each.{each_weaker}
 
 pub times-append : (index : ℕ) (xs ys : List OnTape) → times index (xs ++ ys) ≡ times index xs + times index ys
 times-append index [] ys = omega arith
@@ -29,66 +31,39 @@ once_beside index id differ = grind (arith, nat_tests)
 -- the others are kept
 pub kept_on : (last last' : ℕ → ℕ → Type 0) (t t' : TapesState) (id : TapeId) (tapes : List OnTape) (lists : List LeftList) → KeepsOthers last last' t t' id → times id.index tapes ≡ 0 → AreOn last t tapes lists → AreOn last' t' tapes lists
 kept_on last last' t t' id [] [] keeps none had = had
-kept_on last last' t t' id [] (list ∷ lists) keeps none had = had
-kept_on last last' t t' id (tape ∷ tapes) [] keeps none had = had
 kept_on last last' t t' id (tape ∷ tapes) (list ∷ lists) keeps none had =
     (keeps.records tape.tape (differs id tape.tape (omega (arith, none))) list.records had.0, had.1, had.2, kept_on last last' t t' id tapes lists keeps (omega (arith, none)) had.3)
+kept_on last last' t t' id _ _ keeps none had = absurd had
 
 pub kept_ahead : (last last' : ℕ → ℕ → Type 0) (t t' : TapesState) (id : TapeId) (tapes : List OnTape) (ahead : List Record) → KeepsOthers last last' t t' id → times id.index tapes ≡ 0 → AreAhead last t tapes ahead → AreAhead last' t' tapes ahead
 kept_ahead last last' t t' id [] ahead keeps none had = had
 kept_ahead last last' t t' id (tape ∷ tapes) ahead keeps none had = (keeps.records tape.tape (differs id tape.tape (omega (arith, none))) ahead had.0, had.1)
 
-pub kept_written : (last last' : ℕ → ℕ → Type 0) (t t' : TapesState) (id : TapeId) (tapes : List OnTape) → KeepsOthers last last' t t' id → times id.index tapes ≡ 0 → AreWritten t tapes → AreWritten t' tapes
-kept_written last last' t t' id [] keeps none had = had
-kept_written last last' t t' id (tape ∷ tapes) keeps none had =
-    (ap (is_in Written) (keeps.phases tape.tape (differs id tape.tape (omega (arith, none)))) ∙ had.0, kept_written last last' t t' id tapes keeps (omega (arith, none)) had.1)
+-- those in a phase still are in it, as the others are kept, or as all phases are
+abbrev pub AreIn : Phase → TapesState → List OnTape → Type 0
+AreIn phase t tapes = AllByRecursion (λ (x : OnTape). is_in phase (phase_of t x.tape) ≡ true) tapes
 
-pub kept_read : (last last' : ℕ → ℕ → Type 0) (t t' : TapesState) (id : TapeId) (tapes : List OnTape) → KeepsOthers last last' t t' id → times id.index tapes ≡ 0 → AreRead t tapes → AreRead t' tapes
-kept_read last last' t t' id [] keeps none had = had
-kept_read last last' t t' id (tape ∷ tapes) keeps none had =
-    (ap (is_in Read) (keeps.phases tape.tape (differs id tape.tape (omega (arith, none)))) ∙ had.0, kept_read last last' t t' id tapes keeps (omega (arith, none)) had.1)
+pub kept_in : (phase : Phase) (last last' : ℕ → ℕ → Type 0) (t t' : TapesState) (id : TapeId) (tapes : List OnTape) → KeepsOthers last last' t t' id → times id.index tapes ≡ 0 → AreIn phase t tapes → AreIn phase t' tapes
+kept_in phase last last' t t' id [] keeps none had = had
+kept_in phase last last' t t' id (tape ∷ tapes) keeps none had =
+    (ap (is_in phase) (keeps.phases tape.tape (differs id tape.tape (omega (arith, none)))) ∙ had.0, kept_in phase last last' t t' id tapes keeps (omega (arith, none)) had.1)
 
--- what is true by the phases alone
-pub same_written : (t t' : TapesState) (tapes : List OnTape) → ((id : TapeId) → phase_of t' id ≡ phase_of t id) → AreWritten t tapes → AreWritten t' tapes
-same_written t t' [] same had = had
-same_written t t' (tape ∷ tapes) same had = (ap (is_in Written) (same tape.tape) ∙ had.0, same_written t t' tapes same had.1)
-
-pub same_read : (t t' : TapesState) (tapes : List OnTape) → ((id : TapeId) → phase_of t' id ≡ phase_of t id) → AreRead t tapes → AreRead t' tapes
-same_read t t' [] same had = had
-same_read t t' (tape ∷ tapes) same had = (ap (is_in Read) (same tape.tape) ∙ had.0, same_read t t' tapes same had.1)
-
-pub read-append : (t : TapesState) (xs ys : List OnTape) → AreRead t xs → AreRead t ys → AreRead t (xs ++ ys)
-read-append t [] ys first second = second
-read-append t (x ∷ xs) ys first second = (first.0, read-append t xs ys first.1 second)
-
-pub read_front : (t : TapesState) (xs ys : List OnTape) → AreRead t (xs ++ ys) → AreRead t xs
-read_front t [] ys had = tt
-read_front t (x ∷ xs) ys had = (had.0, read_front t xs ys had.1)
-
-pub read_end : (t : TapesState) (xs ys : List OnTape) → AreRead t (xs ++ ys) → AreRead t ys
-read_end t [] ys had = had
-read_end t (x ∷ xs) ys had = read_end t xs ys had.1
+pub same_in : (phase : Phase) (t t' : TapesState) (tapes : List OnTape) → ((id : TapeId) → phase_of t' id ≡ phase_of t id) → AreIn phase t tapes → AreIn phase t' tapes
+same_in phase t t' tapes same = each_weaker (λ (x : OnTape). is_in phase (phase_of t x.tape) ≡ true) (λ (x : OnTape). is_in phase (phase_of t' x.tape) ≡ true) (λ x had. ap (is_in phase) (same x.tape) ∙ had) tapes
 
 -- a tape that was not open is none of those that are written or read
-written_open : (phase : Phase) → is_in Written phase ≡ true → not (is_in Closed phase) ≡ true
-written_open Closed h = cc
+pub written_open : (phase : Phase) → is_in Written phase ≡ true → not (is_in Closed phase) ≡ true
 written_open Written h = refl
-written_open Read h = cc
+written_open _ h = cc
 
-read_open : (phase : Phase) → is_in Read phase ≡ true → not (is_in Closed phase) ≡ true
-read_open Closed h = cc
-read_open Written h = cc
+pub read_open : (phase : Phase) → is_in Read phase ≡ true → not (is_in Closed phase) ≡ true
 read_open Read h = refl
+read_open _ h = cc
 
-pub fresh_written : (t : TapesState) (id : TapeId) (tapes : List OnTape) → is_open t id ≡ false → AreWritten t tapes → times id.index tapes ≡ 0
-fresh_written t id [] closed had = refl
-fresh_written t id (tape ∷ tapes) closed had =
-    omega (arith, fresh_written t id tapes closed had.1, once_beside id.index tape.tape (λ same. cc (closed, written_open (phase_of t tape.tape) had.0)))
-
-pub fresh_read : (t : TapesState) (id : TapeId) (tapes : List OnTape) → is_open t id ≡ false → AreRead t tapes → times id.index tapes ≡ 0
-fresh_read t id [] closed had = refl
-fresh_read t id (tape ∷ tapes) closed had =
-    omega (arith, fresh_read t id tapes closed had.1, once_beside id.index tape.tape (λ same. cc (closed, read_open (phase_of t tape.tape) had.0)))
+pub fresh_in : (phase : Phase) (t : TapesState) (id : TapeId) (tapes : List OnTape) → ((own : Phase) → is_in phase own ≡ true → not (is_in Closed own) ≡ true) → is_open t id ≡ false → AreIn phase t tapes → times id.index tapes ≡ 0
+fresh_in phase t id [] opens closed had = refl
+fresh_in phase t id (tape ∷ tapes) opens closed had =
+    omega (arith, fresh_in phase t id tapes opens closed had.1, once_beside id.index tape.tape (λ same. cc (closed, opens (phase_of t tape.tape) had.0)))
 
 -- the one at a place
 pub times_here : (tapes : List OnTape) (i : ℕ) (x : OnTape) → i < length tapes → x ≡ get_or tapes i x → 1 ≤ times x.tape.index tapes

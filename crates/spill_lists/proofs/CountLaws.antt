@@ -63,11 +63,7 @@ among level r rs a (suc n) low high =
     ] refl
 
 list_few : (level h : ℕ) → list_of level h < 16
-list_few level h =
-    elim (nat_lt level 8) as (λ b. cond b (h / 16 ^ (7 - level) % 16) 0 < 16) [
-      | true ↦ omega arith
-      | false ↦ omega arith
-    ]
+list_few level h = elim (nat_lt level 8) as (λ b. cond b (h / 16 ^ (7 - level) % 16) 0 < 16) [ true ↦ omega arith | false ↦ omega arith ]
 
 none_on : (level a n : ℕ) → on_some level [] a n ≡ 0
 none_on level a zero = refl
@@ -84,13 +80,12 @@ all_on level (r ∷ rs) =
 -- tapes have as many records as their lists
 tapes_count : (last : ℕ → ℕ → Type 0) (t : TapesState) (tapes : List OnTape) (all : List LeftList) → AreOn last t tapes all → count_of tapes ≡ sum_by (λ (list : LeftList). length list.records) all
 tapes_count last t [] [] are = refl
-tapes_count last t [] (list ∷ all) are = absurd are
-tapes_count last t (tape ∷ tapes) [] are = absurd are
 tapes_count last t (tape ∷ tapes) (list ∷ all) (is, number, level, are) =
     let one = sum_by-cons (λ (tape : OnTape). tape.records) tape tapes in
     let other = sum_by-cons (λ (list : LeftList). length list.records) list all in
     let rest = tapes_count last t tapes all are in
     omega (arith, one, other, rest, number)
+tapes_count last t _ _ are = absurd are
 
 pub spilled_count : (last : ℕ → ℕ → Type 0) (t : TapesState) (level : ℕ) (parts : List OnTape) (spilled : List Record) → AreSpilled last t level parts spilled → count_of parts ≡ length spilled
 spilled_count last t level [] spilled none = sym (ap length none)

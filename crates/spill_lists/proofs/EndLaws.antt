@@ -1,8 +1,7 @@
 -- The end of a pass.
 use Rattle.std.specs.Prelude.{◌≡◌, ℕ, ◌+◌, ◌<◌, ◌≤◌, ◌==◌, cond, not, true, false, List, [], ◌∷◌, ◌++◌, length, filter}
 use Rattle.std.proofs.Common.{refl, sym, ◌∙◌, ap, subst, arith, inl, inr}
-use Rattle.std.proofs.lemmas.Bool.{cases_lt}
-use Rattle.std.proofs.lemmas.List.Sums.{sum_by-cons}
+use Rattle.std.proofs.lemmas.Bool.{cases_lt, ne_eqb}
 use Rattle.std.proofs.lemmas.Bool.Decides.{nat_tests}
 use Rattle.std.proofs.lemmas.List.{append-nil, append_assoc}
 use Rattle.spill_tapes.specs.Records.{Record}
@@ -12,6 +11,8 @@ use Rattle.spill_lists.specs.Lists.{LeftList, is_none, lists, left_by}
 use Rattle.spill_lists.specs.Standing.{times, count_of, AreOn, AreAhead, AreSpilled, HaveRecords, those_with_records}
 use Rattle.spill_lists.proofs.ApartLaws.{times-append, kept_on, kept_ahead}
 use Rattle.spill_lists.proofs.ListLaws.{on_push}
+use Rattle.list_laws.specs.Each.{each_front, each_behind}
+use Rattle.std.proofs.lemmas.Grind.{common_steps}
 
 abbrev pub with_records : List LeftList → List LeftList
 with_records lists = filter (λ (list : LeftList). not (is_none list.records)) lists
@@ -46,11 +47,8 @@ left_start last t level (x ∷ parts) source todo spilled ahead left spills ahea
 pub those_none : (x : OnTape) → x.records ≡ 0 → those_with_records (x ∷ []) ≡ []
 those_none x none = ap (λ n. cond (not (n == 0)) (x ∷ []) []) none
 
-not_zero : (n : ℕ) → 0 < n → (n == 0) ≡ false
-not_zero n some = grind (arith, nat_tests)
-
 pub those_some : (x : OnTape) → 0 < x.records → those_with_records (x ∷ []) ≡ x ∷ []
-those_some x some = ap (λ test. cond (not test) (x ∷ []) []) (not_zero x.records some)
+those_some x some = ap (λ test. cond (not test) (x ∷ []) []) (ne_eqb x.records 0 (λ e. omega (arith, e, some)))
 
 none_is : (rs : List Record) → length rs ≡ 0 → is_none rs ≡ true
 none_is [] none = refl
@@ -103,32 +101,15 @@ pub left_step : (last last' : ℕ → ℕ → Type 0) (t t' : TapesState) (sourc
 left_step last last' t t' source todo todo' rest ahead all x keeps apart kept put left =
     left_by_case last last' t t' source todo todo' rest ahead all left.done left.more x keeps apart kept put left.ahead_are left.done_are left.more_are left.whole
 
-nothing_on : (last : ℕ → ℕ → Type 0) (t : TapesState) (lists : List LeftList) → AreOn last t [] lists → lists ≡ []
-nothing_on last t [] had = refl
-nothing_on last t (list ∷ lists) had = absurd had
-
 pub left_end : (last : ℕ → ℕ → Type 0) (t : TapesState) (source todo : List OnTape) (ahead : List Record) (all : List LeftList) → AreLeft last t source todo [] ahead all → AreAhead last t source ahead × AreOn last t todo all
-left_end last t source todo ahead all left =
-    let whole : left.done ≡ all = sym (append-nil left.done) ∙ ap (λ more. left.done ++ with_records more) (sym (nothing_on last t left.more left.more_are)) ∙ left.whole in
-    (left.ahead_are, subst (AreOn last t todo) whole left.done_are)
+left_end last t source todo ahead all left = grind (arith, nat_tests, common_steps)
 
 -- counts and records of those that are left
 pub those_count : (x : OnTape) → count_of (those_with_records (x ∷ [])) ≡ x.records
-those_count x = elim (cases_lt 0 x.records) [
-  | inl some ↦ ap count_of (those_some x some) ∙ sum_by-cons (λ (y : OnTape). y.records) x [] ∙ omega arith
-  | inr few ↦ let none : x.records ≡ 0 = omega (arith, few) in ap count_of (those_none x none) ∙ sym none
-]
+those_count x = grind (arith, nat_tests, common_steps)
 
 pub those_times : (index : ℕ) → (x : OnTape) → times index (those_with_records (x ∷ [])) ≤ times index (x ∷ [])
-those_times index x = elim (cases_lt 0 x.records) [
-  | inl some ↦ let e : times index (those_with_records (x ∷ [])) ≡ times index (x ∷ []) = ap (times index) (those_some x some) in omega (arith, e)
-  | inr few ↦ let e : times index (those_with_records (x ∷ [])) ≡ 0 = ap (times index) (those_none x (omega (arith, few))) in omega (arith, e)
-]
-
-pub filled_push : (tapes : List OnTape) (x : OnTape) → 0 < x.records → HaveRecords tapes → HaveRecords (tapes ++ x ∷ [])
-filled_push [] x some had = (some, tt)
-filled_push (tape ∷ tapes) x some had = (had.0, filled_push tapes x some had.1)
+those_times index x = grind (arith, nat_tests, common_steps)
 
 pub filled_front : (tapes : List OnTape) (x : OnTape) → HaveRecords (tapes ++ x ∷ []) → HaveRecords tapes × (0 < x.records)
-filled_front [] x had = (tt, had.0)
-filled_front (tape ∷ tapes) x had = let rest = filled_front tapes x had.1 in ((had.0, rest.0), rest.1)
+filled_front tapes x had = (each_front (λ (y : OnTape). 0 < y.records) tapes (x ∷ []) had, (each_behind (λ (y : OnTape). 0 < y.records) tapes (x ∷ []) had).0)

@@ -1,39 +1,27 @@
 -- Lists on tapes.
-use Rattle.std.specs.Prelude.{◌≡◌, ◌≢◌, ℕ, ◌+◌, ◌<◌, ◌≤◌, ◌==◌, suc, zero, cond, true, false, List, [], ◌∷◌, ◌++◌, length, get_or, map}
-use Rattle.std.specs.List.{range_with_len}
+use Rattle.std.specs.Prelude.{◌≡◌, ◌≢◌, ℕ, ◌+◌, ◌<◌, ◌≤◌, suc, zero, true, List, [], ◌∷◌, ◌++◌, length, get_or, map}
+use Rattle.std.specs.List.{range_with_len, AllByRecursion}
 use Rattle.std.proofs.Math.ListN.{set}
 use Rattle.std.proofs.Common.{refl, sym, ◌∙◌, ap, subst, arith, length-append}
 use Rattle.std.proofs.lemmas.Bool.Decides.{nat_tests}
-use Rattle.std.proofs.lemmas.List.{append-nil}
-use Rattle.std.proofs.lemmas.List.Elements.{filter-append}
 use Rattle.std.proofs.lemmas.List.Sums.{sum_by-append, sum_by-cons}
 use Rattle.spill_tapes.specs.Records.{Record}
 use Rattle.spill_tapes.specs.Tape.{is_in}
-use Rattle.spill_tapes.specs.Tapes.{TapesState, IsTape, KeepsOthers}
+use Rattle.spill_tapes.specs.Tapes.{TapesState, IsTape, KeepsOthers, is_written}
 use Rattle.spill_tapes.specs.declared.tape.Phase.TheVariants.{Written}
 use Rattle.spill_tapes.specs.declared.tape_id.TapeId.{TapeId}
 use Rattle.spill_lists.specs.declared.lists.OnTape.{OnTape}
 use Rattle.spill_lists.specs.Lists.{LeftList, list_of, on_list, deeper, lists}
 use Rattle.spill_lists.specs.Standing.{times, count_of, AreOn, AreSpilled, AreWritten, IsNewList}
 use Rattle.spill_lists.proofs.ApartLaws.{once_here, differs, kept_on, times_here}
-
--- one record more, on the list where it falls, and on another
-same_test : (n i : ℕ) → n ≡ i → (n == i) ≡ true
-same_test n i same = grind (arith, nat_tests)
-
-other_test : (n i : ℕ) → n ≢ i → (n == i) ≡ false
-other_test n i differ = grind (arith, nat_tests)
+use Rattle.list_laws.specs.Each.{each_append, each_weaker}
+use Rattle.std.proofs.lemmas.Grind.{common_steps}
 
 pub on_same : (level : ℕ) (spilled : List Record) (r : Record) (i : ℕ) → list_of level r.hash ≡ i → on_list level (spilled ++ r ∷ []) i ≡ on_list level spilled i ++ r ∷ []
-on_same level spilled r i falls =
-    filter-append (λ (entry : Record). list_of level entry.hash == i) spilled (r ∷ [])
-    ∙ ap (λ test. on_list level spilled i ++ cond test (r ∷ []) []) (same_test (list_of level r.hash) i falls)
+on_same level spilled r i falls = grind (arith, nat_tests, common_steps)
 
 pub on_other : (level : ℕ) (spilled : List Record) (r : Record) (i : ℕ) → list_of level r.hash ≢ i → on_list level (spilled ++ r ∷ []) i ≡ on_list level spilled i
-on_other level spilled r i falls =
-    filter-append (λ (entry : Record). list_of level entry.hash == i) spilled (r ∷ [])
-    ∙ ap (λ test. on_list level spilled i ++ cond test (r ∷ []) []) (other_test (list_of level r.hash) i falls)
-    ∙ append-nil (on_list level spilled i)
+on_other level spilled r i falls = grind (arith, nat_tests, common_steps)
 
 -- n lists from a on
 abbrev pub some_lists : ℕ → List Record → ℕ → ℕ → List LeftList
@@ -68,9 +56,8 @@ put_on last last' t t' level spilled r (tape ∷ tapes) a (suc n) (suc i) x y le
 -- one more list at the end
 pub on_push : (last : ℕ → ℕ → Type 0) (t : TapesState) (tapes : List OnTape) (lists : List LeftList) (tape : OnTape) (list : LeftList) → AreOn last t tapes lists → AreOn last t (tape ∷ []) (list ∷ []) → AreOn last t (tapes ++ tape ∷ []) (lists ++ list ∷ [])
 on_push last t [] [] tape list had more = more
-on_push last t [] (y ∷ lists) tape list had more = absurd had
-on_push last t (x ∷ tapes) [] tape list had more = absurd had
 on_push last t (x ∷ tapes) (y ∷ lists) tape list had more = (had.0, had.1, had.2, on_push last t tapes lists tape list had.3 more)
+on_push last t _ _ tape list had more = absurd had
 
 -- the last list apart
 pub record HasLast (last : ℕ → ℕ → Type 0) (t : TapesState) (tapes : List OnTape) (tape : OnTape) (lists : List LeftList) : Type 0 where
@@ -91,8 +78,7 @@ has_last last t (x ∷ tapes) tape (y ∷ lists) had =
 
 -- new lists
 abbrev pub AreNew : (ℕ → ℕ → Type 0) → TapesState → ℕ → List OnTape → Type 0
-AreNew last t level [] = Unit {0}
-AreNew last t level (tape ∷ tapes) = IsNewList last t level tape × AreNew last t level tapes
+AreNew last t level tapes = AllByRecursion (IsNewList last t level) tapes
 
 pub kept_new : (last last' : ℕ → ℕ → Type 0) (t t' : TapesState) (id : TapeId) (level : ℕ) (tapes : List OnTape) → KeepsOthers last last' t t' id → times id.index tapes ≡ 0 → AreNew last t level tapes → AreNew last' t' level tapes
 kept_new last last' t t' id level [] keeps none had = had
@@ -103,12 +89,10 @@ kept_new last last' t t' id level (tape ∷ tapes) keeps none had =
     )
 
 pub new_push : (last : ℕ → ℕ → Type 0) (t : TapesState) (level : ℕ) (tapes : List OnTape) (tape : OnTape) → AreNew last t level tapes → IsNewList last t level tape → AreNew last t level (tapes ++ tape ∷ [])
-new_push last t level [] tape had new = (new, tt)
-new_push last t level (x ∷ tapes) tape had new = (had.0, new_push last t level tapes tape had.1 new)
+new_push last t level tapes tape had new = each_append (IsNewList last t level) tapes (tape ∷ []) had (new, tt)
 
 pub new_written : (last : ℕ → ℕ → Type 0) (t : TapesState) (level : ℕ) (tapes : List OnTape) → AreNew last t level tapes → AreWritten t tapes
-new_written last t level [] had = tt
-new_written last t level (x ∷ tapes) had = (had.0.written, new_written last t level tapes had.1)
+new_written last t level tapes = each_weaker (IsNewList last t level) (λ (x : OnTape). is_written t x.tape ≡ true) (λ x new. new.written) tapes
 
 pub new_count : (last : ℕ → ℕ → Type 0) (t : TapesState) (level : ℕ) (tapes : List OnTape) → AreNew last t level tapes → count_of tapes ≡ 0
 new_count last t level [] had = refl

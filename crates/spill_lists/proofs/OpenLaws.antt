@@ -1,7 +1,6 @@
 -- The lists of a pass while they are opened.
 use Rattle.std.specs.Prelude.{◌≡◌, ◌==◌, ℕ, ◌+◌, ◌≤◌, true, false, List, [], ◌∷◌, ◌++◌, length}
-use Rattle.std.proofs.Common.{refl, sym, ◌∙◌, ap, subst, arith, length-append}
-use Rattle.std.proofs.lemmas.List.{nil_from_length}
+use Rattle.std.proofs.Common.{sym, ◌∙◌, ap, subst, arith, length-append}
 use Rattle.std.proofs.lemmas.Bool.Decides.{nat_tests}
 use Rattle.spill_tapes.specs.Records.{Record}
 use Rattle.spill_tapes.specs.Tapes.{is_open, KeepsOthers}
@@ -9,9 +8,11 @@ use Rattle.spill_tapes.specs.declared.tape_id.TapeId.{TapeId}
 use Rattle.spill_lists.specs.declared.lists.OnTape.{OnTape}
 use Rattle.spill_lists.specs.Lists.{LeftList, deeper}
 use Rattle.spill_lists.specs.Standing.{ListsState, once, times, count_of, full_pages, spilled_number, written_pages, AreApart, AreSpilled, AreRead, HasLists, IsNewList, AreLists}
-use Rattle.spill_lists.proofs.ApartLaws.{times-append, kept_read, fresh_written, fresh_read}
+use Rattle.spill_lists.proofs.ApartLaws.{times-append, kept_in, written_open, read_open, fresh_in}
 use Rattle.spill_lists.proofs.ListLaws.{AreNew, kept_new, new_push, new_written, new_spilled}
 use Rattle.spill_lists.proofs.StandingLaws.{state, one_more, has_beside}
+use Rattle.spill_tapes.specs.declared.tape.Phase.TheVariants.{Written, Read}
+use Rattle.std.proofs.lemmas.Grind.{common_steps}
 
 -- so many new lists are open beside those that were there
 pub record AreOpening (last : ℕ → ℕ → Type 0) (before now : ListsState) (deep : ℕ) (tapes : List OnTape) (count : ℕ) : Type 0 where
@@ -27,18 +28,7 @@ pub record AreOpening (last : ℕ → ℕ → Type 0) (before now : ListsState) 
   pub has : (spilled ahead : List Record) (left : List LeftList) → HasLists last before spilled ahead left → HasLists last now spilled ahead left
 
 pub opening_start : (last : ℕ → ℕ → Type 0) (s : ListsState) (deep : ℕ) (tapes : List OnTape) → s.tapes.is_dead ≡ false → s.parts ≡ [] → tapes ≡ [] → AreLists s → AreOpening last s s deep tapes 0
-opening_start last s deep tapes alive parts none are = record {
-  long = ap length none;
-  new = subst (AreNew last s.tapes deep) (sym none) tt;
-  apart = subst (λ xs. AreApart (xs ++ (s.source ++ s.todo))) (parts ∙ sym none) are.apart;
-  read = are.read alive;
-  alive = alive;
-  parts = parts;
-  source = refl;
-  todo = refl;
-  level = refl;
-  has = λ spilled ahead left had. had;
-}
+opening_start last s deep tapes alive parts none are = grind (arith, nat_tests, common_steps)
 
 has_moved : (last : ℕ → ℕ → Type 0) (s s' : ListsState) (id : TapeId) → KeepsOthers last last s.tapes s'.tapes id → s.parts ≡ [] → times id.index (s.source ++ s.todo) ≡ 0 → s'.parts ≡ s.parts → s'.source ≡ s.source → s'.todo ≡ s.todo → s'.level ≡ s.level → (spilled ahead : List Record) (left : List LeftList) → HasLists last s spilled ahead left → HasLists last s' spilled ahead left
 has_moved last s s' id keeps none apart parts source todo level spilled ahead left had =
@@ -52,8 +42,8 @@ has_moved last s s' id keeps none apart parts source todo level spilled ahead le
 
 pub opening_step : (last : ℕ → ℕ → Type 0) (before now after : ListsState) (deep : ℕ) (tapes tapes' : List OnTape) (n : ℕ) (x : OnTape) → AreOpening last before now deep tapes n → tapes' ≡ tapes ++ x ∷ [] → IsNewList last after.tapes deep x → is_open now.tapes x.tape ≡ false → KeepsOthers last last now.tapes after.tapes x.tape → after.tapes.is_dead ≡ false → after.parts ≡ now.parts → after.source ≡ now.source → after.todo ≡ now.todo → after.level ≡ now.level → AreOpening last before after deep tapes' (n + 1)
 opening_step last before now after deep tapes tapes' n x opening more new fresh keeps alive parts source todo level =
-    let none_read : times x.tape.index (now.source ++ now.todo) ≡ 0 = fresh_read now.tapes x.tape (now.source ++ now.todo) fresh opening.read in
-    let none_new : times x.tape.index tapes ≡ 0 = fresh_written now.tapes x.tape tapes fresh (new_written last now.tapes deep tapes opening.new) in
+    let none_read : times x.tape.index (now.source ++ now.todo) ≡ 0 = fresh_in Read now.tapes x.tape (now.source ++ now.todo) read_open fresh opening.read in
+    let none_new : times x.tape.index tapes ≡ 0 = fresh_in Written now.tapes x.tape tapes written_open fresh (new_written last now.tapes deep tapes opening.new) in
     let none : times x.tape.index (tapes ++ (now.source ++ now.todo)) ≡ 0 = omega (arith, times-append x.tape.index tapes (now.source ++ now.todo)) in
     let same : after.source ++ after.todo ≡ now.source ++ now.todo = ap (λ xs. xs ++ after.todo) source ∙ ap (λ xs. now.source ++ xs) todo in
     record {
@@ -66,7 +56,7 @@ opening_step last before now after deep tapes tapes' n x opening more new fresh 
           let pushed : times index tapes' ≡ times index tapes + times index (x ∷ []) = ap (times index) more ∙ times-append index tapes (x ∷ []) in
           let few : times index (tapes ++ (now.source ++ now.todo)) + once x.tape index ≤ 1 = one_more (λ i. times i (tapes ++ (now.source ++ now.todo))) x.tape index none (opening.apart index) in
           omega (arith, after_all, before_all, others, pushed, few);
-      read = subst (AreRead after.tapes) (sym same) (kept_read last last now.tapes after.tapes x.tape (now.source ++ now.todo) keeps none_read opening.read);
+      read = subst (AreRead after.tapes) (sym same) (kept_in Read last last now.tapes after.tapes x.tape (now.source ++ now.todo) keeps none_read opening.read);
       alive = alive;
       parts = parts ∙ opening.parts;
       source = source ∙ opening.source;
@@ -86,9 +76,7 @@ opening_has last s tapes spilled ahead left long none new had =
 
 -- no lists are open
 pub none_open : (s : ListsState) (parts : List OnTape) (n : ℕ) → parts ≡ s.parts → length parts ≡ n → (n == 0) ≡ true → s.parts ≡ []
-none_open s parts n is long empty =
-    let zero : n ≡ 0 = grind (arith, nat_tests) in
-    sym is ∙ nil_from_length parts (omega (arith, long, zero))
+none_open s parts n is long empty = grind (arith, nat_tests, common_steps)
 
 -- no lists, no records and no pages
 pub none_spilled : (s : ListsState) → s.parts ≡ [] → spilled_number s ≡ 0

@@ -12,6 +12,8 @@ use Rattle.spill_lists.specs.declared.lists.OnTape.{OnTape}
 use Rattle.spill_lists.proofs.ApartLaws.{times-append, differs, once_here, times_here, kept_on}
 use Rattle.spill_lists.proofs.ListLaws.{AreNew}
 use Rattle.spill_lists.proofs.StandingLaws.{times_in}
+use Rattle.std.proofs.lemmas.Bool.Decides.{nat_tests}
+use Rattle.std.proofs.lemmas.Grind.{common_steps}
 
 full_cons : (t : TapesState) (tape : OnTape) (tapes : List OnTape) → full_pages t (tape ∷ tapes) ≡ written_len t tape.tape / 8192 + full_pages t tapes
 full_cons t tape tapes = sum_by-cons (λ (list : OnTape). written_len t list.tape / 8192) tape tapes
@@ -106,8 +108,4 @@ paged_step last last' t t' rest rest' x start all full written now is keeps apar
         record { more = more; are = kept_on last last' t t' x.tape rest' more keeps apart are.3; sum = omega (arith, one, sum, lists_cons, tapes_cons, kept) }
 
 pub paged_end : (last : ℕ → ℕ → Type 0) (t : TapesState) (rest : List OnTape) (start all full written : ℕ) → rest ≡ [] → IsPaged last t rest start all full written → written + full ≡ start + all
-paged_end last t rest start all full written none p = by p.more (subst (λ rest. AreOn last t rest p.more) none p.are) (p.sum ∙ ap (λ rest. start + all + full_pages t rest) none)
-  where
-    by : (more : List LeftList) → AreOn last t [] more → written + full + pages_of more ≡ start + all + full_pages t [] → written + full ≡ start + all
-    by [] are sum = omega (arith, sum)
-    by (list ∷ more) are sum = absurd are
+paged_end last t rest start all full written none p = grind (arith, nat_tests, common_steps)

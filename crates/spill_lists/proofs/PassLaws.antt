@@ -7,10 +7,13 @@ use Rattle.spill_tapes.specs.Tapes.{TapesState, IsTape, KeepsOthers}
 use Rattle.spill_lists.specs.declared.lists.OnTape.{OnTape}
 use Rattle.spill_lists.specs.Lists.{LeftList, left_by}
 use Rattle.spill_lists.specs.Standing.{ListsState, once, times, count_of, AreApart, AreSpilled, AreWritten, HasLists, AreLists, those_with_records}
-use Rattle.spill_lists.proofs.ApartLaws.{times-append, once_here, kept_written}
+use Rattle.spill_lists.proofs.ApartLaws.{times-append, kept_in}
 use Rattle.spill_lists.proofs.ListLaws.{count-append}
 use Rattle.spill_lists.proofs.EndLaws.{AreLeft, left_start, left_step, left_end, those_count, those_times}
 use Rattle.spill_lists.proofs.StandingLaws.{state, times_in}
+use Rattle.spill_tapes.specs.declared.tape.Phase.TheVariants.{Written}
+use Rattle.std.proofs.lemmas.Bool.Decides.{nat_tests}
+use Rattle.std.proofs.lemmas.Grind.{common_steps}
 
 -- these lists of the pass are still to be left
 pub record IsEnding (last last' : ℕ → ℕ → Type 0) (before now : ListsState) (rest : List OnTape) : Type 0 where
@@ -46,9 +49,7 @@ lists_without t level parts none source todo empty are = record {
 
 -- the next one is apart from the others
 first_apart : (x : OnTape) (rest others : List OnTape) → AreApart (x ∷ rest ++ others) → times x.tape.index (rest ++ others) ≡ 0
-first_apart x rest others apart =
-    let few : once x.tape x.tape.index + times x.tape.index (rest ++ others) ≤ 1 = apart x.tape.index in
-    omega (arith, few, once_here x.tape.index x.tape refl)
+first_apart x rest others apart = grind (arith, nat_tests, common_steps)
 
 pub ending_apart : (last last' : ℕ → ℕ → Type 0) (before now : ListsState) (rest rest' : List OnTape) (x : OnTape) → rest ≡ x ∷ rest' → IsEnding last last' before now rest → times x.tape.index (rest' ++ (now.source ++ now.todo)) ≡ 0
 ending_apart last last' before now rest rest' x is ending = first_apart x rest' (now.source ++ now.todo) (subst (λ xs. AreApart (xs ++ (now.source ++ now.todo))) is ending.apart)
@@ -69,7 +70,7 @@ ending_step last last' last'' before now after rest rest' x is keeps kept put al
           let few : times index (those_with_records (x ∷ [])) ≤ once x.tape index + 0 = those_times index x in
           let same : times index after.source ≡ times index now.source = ap (times index) source in
           omega (arith, after_all, before_all, first, pushed, few, same, ending.apart index);
-      written = kept_written last' last'' now.tapes after.tapes x.tape rest' keeps (omega (arith, none, times-append x.tape.index rest' (now.source ++ now.todo))) (subst (AreWritten now.tapes) is ending.written).1;
+      written = kept_in Written last' last'' now.tapes after.tapes x.tape rest' keeps (omega (arith, none, times-append x.tape.index rest' (now.source ++ now.todo))) (subst (AreWritten now.tapes) is ending.written).1;
       alive = alive;
       parts = parts;
       source = source ∙ ending.source;

@@ -2,7 +2,6 @@
 use Rattle.std.specs.Prelude.{◌≡◌, ℕ, ◌+◌, ◌<◌, ◌≤◌, ◌⊎◌, true, false, List, [], ◌∷◌, ◌++◌, length, get_or, Some}
 use Rattle.std.proofs.Math.ListN.{set}
 use Rattle.std.proofs.Common.{refl, sym, ◌∙◌, ap, subst, arith, inl, inr, length-set}
-use Rattle.std.proofs.lemmas.Bool.{cases_lt}
 use Rattle.std.proofs.lemmas.List.{nil_from_length}
 use Rattle.spill_tapes.specs.Records.{Record}
 use Rattle.spill_tapes.specs.Tape.{Gives}
@@ -11,9 +10,16 @@ use Rattle.spill_tapes.specs.declared.tape_id.TapeId.{TapeId}
 use Rattle.spill_lists.specs.declared.lists.OnTape.{OnTape}
 use Rattle.spill_lists.specs.Lists.{LeftList, list_of, lists}
 use Rattle.spill_lists.specs.Standing.{ListsState, once, times, AreApart, AreOn, AreSpilled, AreAhead, AreWritten, AreRead, HaveRecords, HasLists, AreLists, BeginsLast}
-use Rattle.spill_lists.proofs.ApartLaws.{times-append, once_here, once_beside, kept_on, kept_ahead, kept_written, kept_read, same_written, same_read, read-append, read_front, read_end, times_here, times-set, written-set, fresh_written, fresh_read}
+use Rattle.spill_lists.proofs.ApartLaws.{times-append, once_here, kept_on, kept_ahead, times_here, times-set, written-set, kept_in, same_in, written_open, read_open, fresh_in}
 use Rattle.spill_lists.proofs.ListLaws.{put_on, has_last}
-use Rattle.spill_lists.proofs.EndLaws.{filled_push, filled_front}
+use Rattle.spill_lists.proofs.EndLaws.{filled_front}
+use Rattle.list_laws.specs.Each.{each_append, each_front, each_behind}
+use Rattle.spill_tapes.specs.declared.tape.Phase.TheVariants.{Written, Read}
+use Rattle.std.proofs.lemmas.Bool.Decides.{nat_tests}
+use Rattle.std.proofs.lemmas.Grind.{common_steps}
+
+abbrev reads_of : TapesState → OnTape → Type 0
+reads_of t x = is_read t x.tape ≡ true
 
 abbrev pub state : TapesState → ℕ → List OnTape → List OnTape → List OnTape → ListsState
 state t level parts source todo = record { tapes = t; level = level; parts = parts; source = source; todo = todo }
@@ -24,15 +30,7 @@ times_in index parts source todo = times-append index parts (source ++ todo) ∙
 
 -- one tape more is apart from the others
 pub one_more : (count : ℕ → ℕ) (id : TapeId) (index : ℕ) → count id.index ≡ 0 → count index ≤ 1 → count index + once id index ≤ 1
-one_more count id index none few = elim (cases_lt index id.index) [
-  | inl less ↦ omega (arith, once_beside index id (λ e. omega (arith, e, less)))
-  | inr more ↦ elim (cases_lt id.index index) [
-    | inl less ↦ omega (arith, once_beside index id (λ e. omega (arith, e, less)))
-    | inr less ↦
-        let same : index ≡ id.index = omega arith in
-        omega (arith, ap count same, once_here index id same)
-  ]
-]
+one_more count id index none few = grind (arith, nat_tests, common_steps)
 
 -- a tape that is none of these changed
 pub lists_beside : (last last' : ℕ → ℕ → Type 0) (t t' : TapesState) (level : ℕ) (parts source todo : List OnTape) (id : TapeId) → KeepsOthers last last' t t' id → times id.index (parts ++ (source ++ todo)) ≡ 0 → (t'.is_dead ≡ false → t.is_dead ≡ false) → AreLists (state t level parts source todo) → AreLists (state t' level parts source todo)
@@ -41,8 +39,8 @@ lists_beside last last' t t' level parts source todo id keeps none alive are =
     record {
       apart = are.apart;
       sixteen = are.sixteen;
-      written = λ lives. kept_written last last' t t' id parts keeps (omega (arith, parted, none)) (are.written (alive lives));
-      read = λ lives. kept_read last last' t t' id (source ++ todo) keeps (omega (arith, parted, none)) (are.read (alive lives));
+      written = λ lives. kept_in Written last last' t t' id parts keeps (omega (arith, parted, none)) (are.written (alive lives));
+      read = λ lives. kept_in Read last last' t t' id (source ++ todo) keeps (omega (arith, parted, none)) (are.read (alive lives));
       filled = are.filled;
     }
 
@@ -61,15 +59,15 @@ has_beside last last' t t' level parts source todo spilled ahead left id keeps n
 
 pub fresh_beside : (t : TapesState) (level : ℕ) (parts source todo : List OnTape) (id : TapeId) → t.is_dead ≡ false → is_open t id ≡ false → AreLists (state t level parts source todo) → times id.index (parts ++ (source ++ todo)) ≡ 0
 fresh_beside t level parts source todo id alive closed are =
-    omega (arith, times-append id.index parts (source ++ todo), fresh_written t id parts closed (are.written alive), fresh_read t id (source ++ todo) closed (are.read alive))
+    omega (arith, times-append id.index parts (source ++ todo), fresh_in Written t id parts written_open closed (are.written alive), fresh_in Read t id (source ++ todo) read_open closed (are.read alive))
 
 -- no tape began or ended
 pub lists_same : (t t' : TapesState) (level : ℕ) (parts source todo : List OnTape) → ((id : TapeId) → phase_of t' id ≡ phase_of t id) → (t'.is_dead ≡ false → t.is_dead ≡ false) → AreLists (state t level parts source todo) → AreLists (state t' level parts source todo)
 lists_same t t' level parts source todo same alive are = record {
   apart = are.apart;
   sixteen = are.sixteen;
-  written = λ lives. same_written t t' parts same (are.written (alive lives));
-  read = λ lives. same_read t t' (source ++ todo) same (are.read (alive lives));
+  written = λ lives. same_in Written t t' parts same (are.written (alive lives));
+  read = λ lives. same_in Read t t' (source ++ todo) same (are.read (alive lives));
   filled = are.filled;
 }
 
@@ -82,8 +80,8 @@ pub lists_put : (t t' : TapesState) (level : ℕ) (parts source todo : List OnTa
 lists_put t t' level parts source todo i x y is tape same alive are = record {
   apart = λ index. omega (arith, are.apart index, times_in index parts source todo, times_in index (set parts i y) source todo, times-set index parts i x y is tape);
   sixteen = set_sixteen parts i y are.sixteen;
-  written = λ lives. written-set t' parts i x y is tape (same_written t t' parts same (are.written (alive lives)));
-  read = λ lives. same_read t t' (source ++ todo) same (are.read (alive lives));
+  written = λ lives. written-set t' parts i x y is tape (same_in Written t t' parts same (are.written (alive lives)));
+  read = λ lives. same_in Read t t' (source ++ todo) same (are.read (alive lives));
   filled = are.filled;
 }
 
@@ -110,13 +108,7 @@ has_put last last' t t' level parts source todo spilled ahead left i x y r less 
 
 -- the lists of the pass are opened
 pub lists_opened : (t : TapesState) (level : ℕ) (parts none source todo : List OnTape) → AreApart (parts ++ (source ++ todo)) → length parts ≡ 16 → AreWritten t parts → AreLists (state t level none source todo) → AreLists (state t level parts source todo)
-lists_opened t level parts none source todo apart long written are = record {
-  apart = apart;
-  sixteen = inr long;
-  written = λ lives. written;
-  read = are.read;
-  filled = are.filled;
-}
+lists_opened t level parts none source todo apart long written are = grind (arith, nat_tests, common_steps)
 
 -- a list is left
 pub lists_pushed : (t : TapesState) (level : ℕ) (parts source todo : List OnTape) (x : OnTape) → is_read t x.tape ≡ true → 0 < x.records → times x.tape.index (parts ++ (source ++ todo)) ≡ 0 → AreLists (state t level parts source todo) → AreLists (state t level parts source (todo ++ x ∷ []))
@@ -129,8 +121,8 @@ lists_pushed t level parts source todo x read some none are = record {
       omega (arith, after, before, pushed, more);
   sixteen = are.sixteen;
   written = are.written;
-  read = λ lives. read-append t source (todo ++ x ∷ []) (read_front t source todo (are.read lives)) (read-append t todo (x ∷ []) (read_end t source todo (are.read lives)) (read, tt));
-  filled = filled_push todo x some are.filled;
+  read = λ lives. each_append (reads_of t) source (todo ++ x ∷ []) (each_front (reads_of t) source todo (are.read lives)) (each_append (reads_of t) todo (x ∷ []) (each_behind (reads_of t) source todo (are.read lives)) (read, tt));
+  filled = each_append (λ (y : OnTape). 0 < y.records) todo (x ∷ []) are.filled (some, tt);
 }
 
 -- the last list is to be read
@@ -145,7 +137,7 @@ lists_begun t level level' parts source todo all x none is are =
           omega (arith, before, after, popped, are.apart index);
       sixteen = are.sixteen;
       written = are.written;
-      read = λ lives. read-append t (x ∷ []) todo (read_end t todo (x ∷ []) (reads lives)) (read_front t todo (x ∷ []) (reads lives));
+      read = λ lives. each_append (reads_of t) (x ∷ []) todo (each_behind (reads_of t) todo (x ∷ []) (reads lives)) (each_front (reads_of t) todo (x ∷ []) (reads lives));
       filled = (filled_front todo x (subst HaveRecords is are.filled)).0;
     }
 
@@ -172,8 +164,8 @@ lists_ended last last' t t' level parts source todo x is keeps alive are =
     record {
       apart = λ index. omega (arith, are.apart index, counts index, times_in index parts [] todo);
       sixteen = are.sixteen;
-      written = λ lives. kept_written last last' t t' x.tape parts keeps (omega (arith, are.apart x.tape.index, counts x.tape.index, one x.tape.index, here)) (are.written (alive lives));
-      read = λ lives. kept_read last last' t t' x.tape todo keeps (omega (arith, are.apart x.tape.index, counts x.tape.index, one x.tape.index, here)) (read_end t source todo (are.read (alive lives)));
+      written = λ lives. kept_in Written last last' t t' x.tape parts keeps (omega (arith, are.apart x.tape.index, counts x.tape.index, one x.tape.index, here)) (are.written (alive lives));
+      read = λ lives. kept_in Read last last' t t' x.tape todo keeps (omega (arith, are.apart x.tape.index, counts x.tape.index, one x.tape.index, here)) (each_behind (reads_of t) source todo (are.read (alive lives)));
       filled = are.filled;
     }
 
@@ -196,12 +188,12 @@ has_ended last last' t t' level parts source todo spilled ahead left x is none k
 pub lists_read : (t t' : TapesState) (level : ℕ) (parts source todo : List OnTape) (x y : OnTape) → source ≡ x ∷ [] → y.tape ≡ x.tape → ((id : TapeId) → phase_of t' id ≡ phase_of t id) → (t'.is_dead ≡ false → t.is_dead ≡ false) → AreLists (state t level parts source todo) → AreLists (state t' level parts (y ∷ []) todo)
 lists_read t t' level parts source todo x y is tape same alive are =
     let one : (index : ℕ) → times index source ≡ times index (y ∷ []) = λ index. ap (times index) is ∙ ap (λ id. once id index + 0) (sym tape) in
-    let reads : t.is_dead ≡ false → AreRead t (y ∷ []) = λ lives. (ap (is_read t) tape ∙ (read_front t (x ∷ []) todo (subst (λ xs. AreRead t (xs ++ todo)) is (are.read lives))).0, tt) in
+    let reads : t.is_dead ≡ false → AreRead t (y ∷ []) = λ lives. (ap (is_read t) tape ∙ (each_front (reads_of t) (x ∷ []) todo (subst (λ xs. AreRead t (xs ++ todo)) is (are.read lives))).0, tt) in
     record {
       apart = λ index. omega (arith, are.apart index, times_in index parts source todo, times_in index parts (y ∷ []) todo, one index);
       sixteen = are.sixteen;
-      written = λ lives. same_written t t' parts same (are.written (alive lives));
-      read = λ lives. same_read t t' (y ∷ [] ++ todo) same (read-append t (y ∷ []) todo (reads (alive lives)) (read_end t source todo (are.read (alive lives))));
+      written = λ lives. same_in Written t t' parts same (are.written (alive lives));
+      read = λ lives. same_in Read t t' (y ∷ [] ++ todo) same (each_append (reads_of t) (y ∷ []) todo (reads (alive lives)) (each_behind (reads_of t) source todo (are.read (alive lives))));
       filled = are.filled;
     }
 

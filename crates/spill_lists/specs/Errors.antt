@@ -14,6 +14,5 @@ spill_error tape.TapesDead = spill.NoMemory
 
 -- how often the disk failed in a call that is refused so
 abbrev pub spill_faults : SpillError → ℕ
-spill_faults spill.NoMemory = 0
 spill_faults spill.TapeFault = 1
-spill_faults spill.TapeDamaged = 0
+spill_faults _ = 0

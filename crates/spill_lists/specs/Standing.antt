@@ -9,6 +9,7 @@ use Rattle.tape_disks.specs.declared.disk.TapeDisk.{Ghosts}
 use Rattle.spill_tapes.specs.declared.tape_id.TapeId.{TapeId}
 use Rattle.spill_lists.specs.declared.lists.OnTape.{OnTape}
 use Rattle.spill_lists.specs.Lists.{LeftList, lists}
+use Rattle.std.specs.List.{AllByRecursion}
 
 -- the tapes; the level of the pass; its 16 lists, or none as long as it spilled nothing; the list that it reads, or none; and
 -- those that later passes are to read
@@ -49,9 +50,8 @@ written_pages s = full_pages s.tapes s.parts
 -- over a disk whose last bytes are these, tape by tape these are lists of records
 abbrev pub AreOn : (ℕ → ℕ → Type 0) → TapesState → List OnTape → List LeftList → Type 0
 AreOn last t [] [] = Unit {0}
-AreOn last t [] (list ∷ lists) = ⊥
-AreOn last t (tape ∷ tapes) [] = ⊥
 AreOn last t (tape ∷ tapes) (list ∷ lists) = IsTape last t tape.tape list.records × (tape.records ≡ length list.records) × (tape.level ≡ list.level) × AreOn last t tapes lists
+AreOn last t tapes lists = ⊥
 
 -- what the pass spilled, and what it has still to read
 abbrev pub AreSpilled : (ℕ → ℕ → Type 0) → TapesState → ℕ → List OnTape → List Record → Type 0
@@ -99,16 +99,13 @@ AreApart tapes = (index : ℕ) → times index tapes ≤ 1
 
 -- all of them are written; all are read; and all have records
 abbrev pub AreWritten : TapesState → List OnTape → Type 0
-AreWritten t [] = Unit {0}
-AreWritten t (tape ∷ tapes) = (is_written t tape.tape ≡ true) × AreWritten t tapes
+AreWritten t tapes = AllByRecursion (λ (tape : OnTape). is_written t tape.tape ≡ true) tapes
 
 abbrev pub AreRead : TapesState → List OnTape → Type 0
-AreRead t [] = Unit {0}
-AreRead t (tape ∷ tapes) = (is_read t tape.tape ≡ true) × AreRead t tapes
+AreRead t tapes = AllByRecursion (λ (tape : OnTape). is_read t tape.tape ≡ true) tapes
 
 abbrev pub HaveRecords : List OnTape → Type 0
-HaveRecords [] = Unit {0}
-HaveRecords (tape ∷ tapes) = (0 < tape.records) × HaveRecords tapes
+HaveRecords tapes = AllByRecursion (λ (tape : OnTape). 0 < tape.records) tapes
 
 -- those with records; and that a list is a new one, which has none, of a level
 abbrev pub those_with_records : List OnTape → List OnTape
