@@ -1,19 +1,21 @@
 -- What the set of a table holds while its array grows.
-use Rattle.std.specs.Prelude.{◌≡◌, ◌≢◌, refl, ℕ, zero, suc, ◌+◌, ◌*◌, ◌/◌, ◌<◌, ◌≤◌, ◌⊎◌, ◌==◌, max, nat_le, nat_lt, Bool, true, false, cond, if◌then◌else◌, List, [], ◌∷◌, Option, Some, None, get_or, slice_set, is_some, unwrap_or}
-use Rattle.std.proofs.Common.{inl, inr, sym, ◌∙◌, ap, subst, arith}
-use Rattle.std.proofs.lemmas.Bool.{cases_lt, lt-ltb, le-ltb, le-leb, leb-true, eq-eqb, ne_eqb, false≢true, false_from_ne_true}
+use Rattle.std.specs.Prelude.{◌≡◌, ◌≢◌, refl, ℕ, zero, suc, ◌+◌, ◌*◌, ◌/◌, ◌<◌, ◌≤◌, ◌⊎◌, ◌==◌, nat_le, nat_lt, Bool, true, false, cond, if◌then◌else◌, List, [], ◌∷◌, Option, Some, None, get_or, slice_set, is_some, unwrap_or}
+use Rattle.std.proofs.Common.{inl, inr, sym, ◌∙◌, ap, subst, arith, add-one}
+use Rattle.std.proofs.lemmas.Bool.{cases_lt, lt-ltb, le-ltb, le-leb, eq-eqb, ne_eqb, false≢true}
 use Rattle.chunk_layout.specs.Pieces.{Piece, place_of, piece_at, size_at, total, with_block}
 use Rattle.chunk_layout.specs.declared.place.ChunkName.{ChunkName}
-use Rattle.chunk_contexts.specs.Rooms.{rounded, over_most, rooms, room_of, class_of}
+use Rattle.chunk_contexts.specs.Rooms.{rounded, rooms, room_of, class_of}
 use Rattle.chunk_contexts.specs.Free.{is_in}
 use Rattle.chunk_contexts.specs.Set.{SetState, new_set, set_room, set_growth, set_taken, set_freed, growth_by, taken_by}
 use Rattle.aggregation_cost.specs.Space.{grown, buckets, array_block, bucket_blocks}
 use Rattle.group_table.specs.Table.{buckets_in, buckets_for, most_buckets}
 use Rattle.group_table.specs.Standing.{IsFirst, HasSpace, HasFirst}
-use Rattle.group_table.specs.Space.{IsArraySized, IsArrayHeld, HoldsArray, AreArraysHeld}
-use Rattle.group_table.proofs.SetFacts.{sum_with}
-use Rattle.group_table.proofs.TakeLaws.{not_over}
+use Rattle.group_table.specs.Space.{IsArrayHeld, HoldsArray, AreArraysHeld}
+use Rattle.group_table.proofs.SetFacts.{sum_with, not_classed, size_beside}
 use Rattle.chunk_contexts.specs.declared.rooms.TheConstants.{LARGEST}
+use Rattle.std.proofs.lemmas.Bool.Decides.{nat_tests}
+use Rattle.chunk_layout.specs.NumberLaws.{total-set_none}
+use Rattle.std.proofs.lemmas.Grind.{common_steps}
 
 -- a short chunk has a room of a class
 AllLow : List ℕ → Type 0
@@ -28,19 +30,11 @@ low_at (x ∷ xs) (suc k) (first, rest) = low_at xs k rest
 
 pub short_room : (n : ℕ) → n ≤ 8192 → set_room n ≤ 8192
 unfolding AllLow rooms room_of
-short_room n short =
-    subst (λ b. (if b then room_of (class_of n) else Rattle.chunk_contexts.specs.Rooms.rounded n) ≤ 8192) (sym (le-leb n 8192 short))
-    (low_at rooms (class_of n) (omega arith, (omega arith, (omega arith, (omega arith, (omega arith, (omega arith, (omega arith, (omega arith, (omega arith, (omega arith, (omega arith, tt))))))))))))
+short_room n short = grind (arith, nat_tests, common_steps)
 
 -- ---- how many buckets there are
-one_more : (n : ℕ) → suc n ≡ n + 1
-one_more n = omega arith
-
 grown_by : (n b : ℕ) → (grown n b ≡ b) ⊎ ((grown n b ≡ 2 * b) × (3 * b < 4 * n))
-grown_by n b = elim (cases_lt (3 * b) (4 * n)) [
-  | inl less ↦ inr (ap (λ (c : Bool). if c then 2 * b else b) (lt-ltb (3 * b) (4 * n) less), less)
-  | inr past ↦ inl (ap (λ (c : Bool). if c then 2 * b else b) (le-ltb (3 * b) (4 * n) past))
-]
+grown_by n b = elim (cases_lt (3 * b) (4 * n)) [ inl less ↦ inr (grind (arith, nat_tests), less) | inr past ↦ inl (grind (arith, nat_tests)) ]
 
 pub some_buckets : (n : ℕ) → 256 ≤ buckets n
 some_buckets zero = omega arith
@@ -51,28 +45,16 @@ some_buckets (suc n) = elim (grown_by (suc n) (buckets n)) [
 
 -- as many, or twice as many
 pub same_or_twice : (n : ℕ) → (buckets (n + 1) ≡ buckets n) ⊎ (buckets (n + 1) ≡ 2 * buckets n)
-same_or_twice n = subst (λ m. (buckets m ≡ buckets n) ⊎ (buckets m ≡ 2 * buckets n)) (one_more n) (by (grown_by (suc n) (buckets n)))
-  where
-    by : (grown (suc n) (buckets n) ≡ buckets n) ⊎ ((grown (suc n) (buckets n) ≡ 2 * buckets n) × (3 * buckets n < 4 * suc n)) → (grown (suc n) (buckets n) ≡ buckets n) ⊎ (grown (suc n) (buckets n) ≡ 2 * buckets n)
-    by (inl same) = inl same
-    by (inr twice) = inr twice.0
+same_or_twice n = rw (add-one n) (elim (grown_by (suc n) (buckets n)) [ inl same ↦ inl same | inr twice ↦ inr twice.0 ])
 
 wanted_by : (n b : ℕ) → 256 ≤ b → buckets_for b n ≡ grown (suc n) b
-wanted_by n b some = elim (cases_lt (3 * b) (4 * suc n)) [
-  | inl less ↦
-      ap (λ (c : Bool). if c then b else max 256 (2 * b)) (false_from_ne_true (nat_le (4 * (n + 1)) (3 * b)) (λ is. omega (arith, less, leb-true (4 * (n + 1)) (3 * b) is)))
-      ∙ omega (arith, some)
-      ∙ sym (ap (λ (c : Bool). if c then 2 * b else b) (lt-ltb (3 * b) (4 * suc n) less))
-  | inr past ↦
-      ap (λ (c : Bool). if c then b else max 256 (2 * b)) (le-leb (4 * (n + 1)) (3 * b) (omega (arith, past)))
-      ∙ sym (ap (λ (c : Bool). if c then 2 * b else b) (le-ltb (3 * b) (4 * suc n) past))
-]
+wanted_by n b some = grind (arith, nat_tests)
 
 pub wanted_is : (array : Option ChunkName) (n : ℕ) (s : SetState) → HoldsArray array n s → buckets_for (buckets_in array) n ≡ buckets (n + 1)
 wanted_is None n s is = subst (λ m. buckets_for 0 m ≡ buckets (m + 1)) (sym is) refl
 wanted_is (Some name) n s is =
     let count : name.len / 32 ≡ buckets n = omega (arith, is.size.len) in
-    ap (λ b. buckets_for b n) count ∙ wanted_by n (buckets n) (some_buckets n) ∙ ap buckets (one_more n)
+    ap (λ b. buckets_for b n) count ∙ wanted_by n (buckets n) (some_buckets n) ∙ ap buckets (sym (add-one n))
 
 pub count_is : (name : ChunkName) (n : ℕ) (s : SetState) → IsArrayHeld s name n → name.len / 32 ≡ buckets n
 count_is name n s is = omega (arith, is.size.len)
@@ -114,25 +96,12 @@ space_held s (inl new) = subst (λ (x : SetState). total x.blocks ≤ 16384) (sy
 space_held s (inr has) = has.most
 
 -- an array with a block of its own
-not_classed : (n : ℕ) → 8192 < n → nat_le n LARGEST ≡ false
-not_classed n large = false_from_ne_true (nat_le n LARGEST) (λ is. omega (arith, large, leb-true n LARGEST is))
-
 large_room : (n : ℕ) → 8192 < n → set_room n ≡ rounded n
 large_room n large = ap (λ (b : Bool). if b then room_of (class_of n) else rounded n) (not_classed n large)
 
-large_grows : (s : SetState) (n : ℕ) → 8192 < n → over_most n ≡ None → set_growth s n ≡ rounded n + 8
-large_grows s n large allowed =
-    ap (λ o. growth_by (is_some o) (nat_le n LARGEST) (is_in (set_room n) s.free) (nat_le (set_room n + 8) s.left) s (set_room n)) allowed
-    ∙ ap (λ b. growth_by false b (is_in (set_room n) s.free) (nat_le (set_room n + 8) s.left) s (set_room n)) (not_classed n large)
-    ∙ ap (λ m. m + 8) (large_room n large)
-
 -- what the next array takes
 twice_grows : (s : SetState) (b : ℕ) → 256 ≤ b → 2 * b ≤ most_buckets → total s.blocks ≡ bucket_blocks b b → total s.blocks + set_growth s (2 * b * 32) ≡ bucket_blocks b (2 * b)
-twice_grows s b some few held =
-    let grows : set_growth s (2 * b * 32) ≡ rounded (2 * b * 32) + 8 = large_grows s (2 * b * 32) (omega (arith, some)) (not_over (2 * b * 32) (omega (arith, few))) in
-    let own : array_block (2 * b) ≡ 32 * (2 * b) + 8 = own_block (2 * b) (omega (arith, some)) in
-    let both : bucket_blocks b (2 * b) ≡ 16384 + array_block (2 * b) + array_block b = array_beside b (2 * b) (λ same. omega (arith, same, some)) in
-    omega (arith, grows, own, both, held, array_alone b)
+twice_grows s b some few held = grind (arith, nat_tests, common_steps)
 
 pub array_grows : (array : Option ChunkName) (n : ℕ) (s : SetState) → IsFirst s → HasSpace array s → HoldsArray array n s → buckets (n + 1) ≤ most_buckets
     → total s.blocks + cond (buckets (n + 1) == buckets_in array) 0 (set_growth s (buckets (n + 1) * 32)) ≡ bucket_blocks (buckets n) (buckets (n + 1))
@@ -156,13 +125,7 @@ array_grows (Some name) n s first space is few =
 -- the array of so many groups is that of one more
 pub still_held : (array : Option ChunkName) (n : ℕ) (s : SetState) → HoldsArray array n s → buckets_in array ≡ buckets (n + 1) → HoldsArray array (n + 1) s
 still_held None n s is same = absurd (omega (arith, same, some_buckets (n + 1)))
-still_held (Some name) n s is same =
-    let equal : buckets n ≡ buckets (n + 1) = sym (count_is name n s is) ∙ same in
-    record {
-      some = omega arith;
-      size = subst (IsArraySized s name) equal is.size;
-      held = subst (λ b. total s.blocks ≡ bucket_blocks b b) equal is.held;
-    }
+still_held (Some name) n s is same = grind (arith, nat_tests, common_steps)
 
 size_with : (bs : List (Option ℕ)) (block x : ℕ) → is_some (get_or (with_block bs block x) block None) ≡ true → size_at (with_block bs block x) block ≡ x
 size_with [] zero x there = refl
@@ -170,26 +133,13 @@ size_with [] (suc block) x there = absurd (false≢true there)
 size_with (b ∷ bs) zero x there = refl
 size_with (b ∷ bs) (suc block) x there = size_with bs block x there
 
-size_beside : (bs : List (Option ℕ)) (block x other : ℕ) → 0 < size_at bs other → other ≢ block → size_at (with_block bs block x) other ≡ size_at bs other
-size_beside [] block x other some differ = absurd (omega (arith, some))
-size_beside (b ∷ bs) zero x zero some differ = absurd (differ refl)
-size_beside (b ∷ bs) zero x (suc other) some differ = refl
-size_beside (b ∷ bs) (suc block) x zero some differ = refl
-size_beside (b ∷ bs) (suc block) x (suc other) some differ = size_beside bs block x other some (λ same. differ (ap suc same))
-
 module _ (s : SetState) (n : ℕ) (name : ChunkName) (p : Piece) where
   abbrev taken : SetState
   taken = set_taken s (buckets (n + 1) * 32) p
 
   -- the first array
   pub first_taken : n ≡ 0 → name.len ≡ buckets (n + 1) * 32 → total taken.blocks ≡ bucket_blocks (buckets n) (buckets (n + 1)) → AreArraysHeld taken None name n
-  first_taken none len held =
-      let few : buckets (n + 1) ≡ 256 = ap (λ m. buckets (m + 1)) none in
-      record {
-        older = none;
-        size = record { len = omega (arith, len); own = λ long. absurd (omega (arith, long, few)) };
-        held = held;
-      }
+  first_taken none len held = grind (arith, nat_tests, common_steps)
 
   -- a larger one
   module _ (twice : buckets (n + 1) ≡ 2 * buckets n) (room : p.room ≡ set_room (buckets (n + 1) * 32)) (at : p.place.block ≡ name.block) (len : name.len ≡ buckets (n + 1) * 32)
@@ -230,22 +180,13 @@ module _ (s : SetState) (n : ℕ) (name : ChunkName) (p : Piece) where
         }
 
 -- ---- the old array is given up
-total_without : (bs : List (Option ℕ)) (block : ℕ) → total (slice_set bs block None) + size_at bs block ≡ total bs
-total_without [] block = omega arith
-total_without (b ∷ bs) zero = omega arith
-total_without (b ∷ bs) (suc block) = omega (arith, total_without bs block)
+pub total_without : (bs : List (Option ℕ)) (block : ℕ) → total (slice_set bs block None) + size_at bs block ≡ total bs
+total_without bs block = total-set_none bs block
 
-size_without : (bs : List (Option ℕ)) (block other : ℕ) → other ≢ block → size_at (slice_set bs block None) other ≡ size_at bs other
+pub size_without : (bs : List (Option ℕ)) (block other : ℕ) → other ≢ block → size_at (slice_set bs block None) other ≡ size_at bs other
 size_without bs block other differ = ap (λ o. unwrap_or o 0) (Rattle.std.proofs.lemmas.List.get_or-set_other bs block other None None differ)
 
 -- there was none
-pub first_settled : (s : SetState) (name : ChunkName) (n : ℕ) → AreArraysHeld s None name n → IsArrayHeld s name (n + 1)
-first_settled s name n is = record {
-  some = omega arith;
-  size = is.size;
-  held = is.held ∙ subst (λ m. bucket_blocks (buckets m) (buckets (m + 1)) ≡ bucket_blocks (buckets (m + 1)) (buckets (m + 1))) (sym is.older) refl;
-}
-
 module _ (s m : SetState) (old name : ChunkName) (n : ℕ) (is : AreArraysHeld s (Some old) name n) (same : m.blocks ≡ s.blocks) (room : (piece_at m.chunks (place_of old)).room ≡ set_room old.len) where
   abbrev r : ℕ
   r = (piece_at m.chunks (place_of old)).room
@@ -257,11 +198,7 @@ module _ (s m : SetState) (old name : ChunkName) (n : ℕ) (is : AreArraysHeld s
   sum = array_beside (buckets n) (buckets (n + 1)) (λ equal. omega (arith, equal, is.older.1))
 
   settled_by : freed.blocks ≡ s.blocks → array_block (buckets n) ≡ 0 → IsArrayHeld freed name (n + 1)
-  settled_by kept none = record {
-    some = omega arith;
-    size = record { len = is.size.len; own = λ long. ap (λ bs. size_at bs name.block) kept ∙ is.size.own long };
-    held = omega (arith, ap total kept, is.held, sum, none, array_alone (buckets (n + 1)));
-  }
+  settled_by kept none = grind (arith, nat_tests, common_steps)
 
   given_back : 256 < buckets n → freed.blocks ≡ slice_set s.blocks old.block None → IsArrayHeld freed name (n + 1)
   given_back long kept =

@@ -1,27 +1,20 @@
 -- The bytes of buckets.
-use Rattle.std.specs.Prelude.{◌≡◌, ◌≢◌, ℕ, ◌+◌, ◌*◌, ◌^◌, ◌<◌, ◌≤◌, ◌==◌, cond, List, [], ◌∷◌, ◌++◌, Some, None, length, take, drop, get_or}
-use Rattle.std.specs.Int.{w32, from_be_bytes, to_be_bytes}
-use Rattle.std.proofs.Common.{rules, sym, ◌∙◌, ap, subst, arith}
+use Rattle.std.specs.Prelude.{◌≡◌, ◌≢◌, ℕ, ◌+◌, ◌*◌, ◌^◌, ◌<◌, ◌≤◌, List, ◌++◌, Some, length, take, drop, get_or}
+use Rattle.std.specs.Int.{w32, to_be_bytes}
+use Rattle.std.proofs.Common.{rules, sym, ◌∙◌, ap, arith}
 use Rattle.std.proofs.lemmas.List.{places, same_lists}
-use Rattle.std.proofs.lemmas.Nat.{from_be_bytes-to_be_bytes_4}
-use Rattle.chunk_layout.specs.declared.place.ChunkName.{ChunkName}
 use Rattle.group_table.specs.Buckets.{number_at, name_at, bucket_in, bucket_at}
 use Rattle.group_table.specs.declared.bucket.Bucket.{Bucket}
+use Rattle.std.proofs.lemmas.Bool.Decides.{nat_tests}
+use Rattle.std.proofs.lemmas.Grind.{common_steps}
 
 -- four bytes that are the same give the same number
 four : (xs ys : List ℕ) (a b : ℕ) → get_or xs a 0 ≡ get_or ys b 0 → get_or xs (a + 1) 0 ≡ get_or ys (b + 1) 0 → get_or xs (a + 2) 0 ≡ get_or ys (b + 2) 0 → get_or xs (a + 3) 0 ≡ get_or ys (b + 3) 0
     → number_at xs a ≡ number_at ys b
 unfolding number_at
-four xs ys a b first second third last =
-    ap (λ x. from_be_bytes w32 (x ∷ get_or xs (a + 1) 0 ∷ get_or xs (a + 2) 0 ∷ get_or xs (a + 3) 0 ∷ [])) first
-    ∙ ap (λ x. from_be_bytes w32 (get_or ys b 0 ∷ x ∷ get_or xs (a + 2) 0 ∷ get_or xs (a + 3) 0 ∷ [])) second
-    ∙ ap (λ x. from_be_bytes w32 (get_or ys b 0 ∷ get_or ys (b + 1) 0 ∷ x ∷ get_or xs (a + 3) 0 ∷ [])) third
-    ∙ ap (λ x. from_be_bytes w32 (get_or ys b 0 ∷ get_or ys (b + 1) 0 ∷ get_or ys (b + 2) 0 ∷ x ∷ [])) last
+four xs ys a b first second third last = rw (first, second, third, last)
 
--- a list of which k members from a place on were written over: in this part, before it and behind it
-in_part : (xs : List ℕ) (at k : ℕ) (ys : List ℕ) (i : ℕ) → at ≤ length xs → i < length ys → get_or (take at xs ++ (ys ++ drop k (drop at xs))) (at + i) 0 ≡ get_or ys i 0
-in_part xs at k ys i in_xs h = grind (arith, places)
-
+-- a list of which k members from a place on were written over: before that part and behind it
 before_part : (xs : List ℕ) (at k : ℕ) (ys : List ℕ) (i : ℕ) → at ≤ length xs → i < at → get_or (take at xs ++ (ys ++ drop k (drop at xs))) i 0 ≡ get_or xs i 0
 before_part xs at k ys i in_xs h = grind (arith, places)
 
@@ -31,13 +24,7 @@ behind_part xs at k ys i in_xs len h = grind (arith, places)
 -- a number that is written, and one beside it
 pub number_set : (at n k : ℕ) (xs ys : List ℕ) → ys ≡ to_be_bytes w32 n → n < 2 ^ 32 → at + 4 ≤ length xs → number_at (take at xs ++ (ys ++ drop k (drop at xs))) at ≡ n
 unfolding number_at
-number_set at n k xs ys bytes small in_xs =
-    let len : length ys ≡ 4 = ap length bytes in
-    let low : at ≤ length xs = omega (arith, in_xs) in
-    let each : (i : ℕ) → i < 4 → get_or (take at xs ++ (ys ++ drop k (drop at xs))) (at + i) 0 ≡ get_or (to_be_bytes w32 n) i 0 =
-    λ i h. in_part xs at k ys i low (subst (λ m. i < m) (sym len) h) ∙ ap (λ bs. get_or bs i 0) bytes in
-    four (take at xs ++ (ys ++ drop k (drop at xs))) (to_be_bytes w32 n) at 0 (subst (λ i. get_or (take at xs ++ (ys ++ drop k (drop at xs))) i 0 ≡ get_or (to_be_bytes w32 n) 0 0) (omega arith) (each 0 (omega arith))) (each 1 (omega arith)) (each 2 (omega arith)) (each 3 (omega arith))
-    ∙ from_be_bytes-to_be_bytes_4 n small
+number_set at n k xs ys bytes small in_xs = grind (arith, nat_tests, common_steps)
 
 pub number_before : (at k other : ℕ) (xs ys : List ℕ) → at ≤ length xs → other + 4 ≤ at → number_at (take at xs ++ (ys ++ drop k (drop at xs))) other ≡ number_at xs other
 number_before at k other xs ys in_xs low =
@@ -51,25 +38,17 @@ number_behind at k other xs ys is len in_xs high =
 
 -- a name whose three numbers are the same is the same
 pub same_name : (xs ys : List ℕ) (at : ℕ) → number_at xs at ≡ number_at ys at → number_at xs (at + 4) ≡ number_at ys (at + 4) → number_at xs (at + 8) ≡ number_at ys (at + 8) → name_at xs at ≡ name_at ys at
-same_name xs ys at block offset len =
-    ap (λ (n : ℕ). record { block = n; offset = number_at xs (at + 4); len = number_at xs (at + 8) }) block
-    ∙ ap (λ (n : ℕ). record { block = number_at ys at; offset = n; len = number_at xs (at + 8) }) offset
-    ∙ ap (λ (n : ℕ). record { block = number_at ys at; offset = number_at ys (at + 4); len = n }) len
+same_name xs ys at block offset len = rw (block, offset, len)
 
 -- a bucket in use, by its parts
 pub in_use : (xs : List ℕ) (b : Bucket) → name_at xs 0 ≡ b.key → name_at xs 12 ≡ b.state → number_at xs 24 ≡ b.hash → number_at xs 28 ≡ 1 → bucket_in xs ≡ Some b
 unfolding bucket_in
-in_use xs b key state hash used =
-    ap (λ n. cond (n == 0) None (Some (record { key = name_at xs 0; state = name_at xs 12; hash = number_at xs 24 }))) used
-    ∙ ap (λ (n : ChunkName). Some (record { key = n; state = name_at xs 12; hash = number_at xs 24 })) key
-    ∙ ap (λ (n : ChunkName). Some (record { key = b.key; state = n; hash = number_at xs 24 })) state
-    ∙ ap (λ (n : ℕ). Some (record { key = b.key; state = b.state; hash = n })) hash
+in_use xs b key state hash used = rw (used, key, state, hash)
 
 -- the bucket at a place of an array of which 32 bytes were written over
 pub bucket_set : (place k : ℕ) (xs ys : List ℕ) → k ≡ 32 → length ys ≡ 32 → 32 * place + 32 ≤ length xs → bucket_at (take (place * 32) xs ++ (ys ++ drop k (drop (place * 32) xs))) place ≡ bucket_in ys
 unfolding bucket_at
-bucket_set place k xs ys is len in_xs =
-    ap bucket_in (same_lists _ _ (search (rules, places)) (λ j d h. grind (arith, places)))
+bucket_set place k xs ys is len in_xs = grind (arith, nat_tests, common_steps)
 
 pub bucket_beside : (place k other : ℕ) (xs ys : List ℕ) → k ≡ 32 → length ys ≡ 32 → 32 * place + 32 ≤ length xs → other ≢ place → bucket_at (take (place * 32) xs ++ (ys ++ drop k (drop (place * 32) xs))) other ≡ bucket_at xs other
 unfolding bucket_at

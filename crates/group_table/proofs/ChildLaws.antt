@@ -1,9 +1,7 @@
 -- The contexts of a table in their tree, when they are made and taken back.
 use Rattle.std.specs.Prelude.{◌≡◌, ◌≢◌, refl, ℕ, zero, suc, ◌+◌, ◌<◌, ◌≤◌, ◌==◌, ◌&&◌, ◌||◌, not, nat_lt, if◌then◌else◌, Bool, true, false, cond, List, [], ◌∷◌, Option, Some, None, length, get_or, is_some}
-use Rattle.std.proofs.Common.{inl, inr, sym, ◌∙◌, ap, arith}
-use Rattle.std.proofs.lemmas.Bool.{cases_eq, cases_lt, cond-true, cond-false, eq-eqb, ne_eqb, leb-true, false_from_ne_true, false≢true}
-use Rattle.std.proofs.lemmas.List.{get_or_past}
-use Rattle.std.proofs.Math.Bool.{or-true}
+use Rattle.std.proofs.Common.{inl, inr, sym, ◌∙◌, ap, arith, rules}
+use Rattle.std.proofs.lemmas.Bool.{cases_eq, cond-true, cond-false, eq-eqb, ne_eqb, leb-true, false_from_ne_true, false≢true}
 use Rattle.context_tree.specs.SlotLaws.{placed-here, placed-other, tests-agree, parent-is}
 use Rattle.chunk_contexts.specs.declared.error.ContextError.{ContextError}
 use Rattle.chunk_contexts.specs.declared.error.ContextError.TheVariants.{TooLarge}
@@ -17,9 +15,12 @@ use Rattle.context_tree.specs.declared.kind.Kind.TheVariants as kind
 use Rattle.context_tree.specs.declared.links.ContextId.{ContextId}
 use Rattle.context_tree.specs.declared.links.Link.{Link}
 use Rattle.group_table.specs.Children.{AreMade, AreNew, IsNew, IsRefusedOf, IsAsBefore, IsSameBySlot}
-use Rattle.group_table.specs.Standing.{IsChild, IsApart}
+use Rattle.group_table.specs.Standing.{IsChild, IsApart, IsPlaced}
 use Rattle.group_table.specs.declared.children.Children.{Children}
 use Rattle.chunk_contexts.specs.declared.rooms.TheConstants.{MOST}
+use Rattle.group_table.specs.Table.{TableState}
+use Rattle.std.proofs.lemmas.Bool.Decides.{nat_tests}
+use Rattle.std.proofs.lemmas.Grind.{common_steps}
 
 -- lists by slots, of which some are cleared
 module _ {X : Type 0} where
@@ -29,12 +30,8 @@ module _ {X : Type 0} where
 
   cleared_from : (gone : ℕ → Bool) (x : X) (place : ℕ) (ys : List X) (i : ℕ) → get_or (cleared gone x place ys) i x ≡ cond (gone (place + i)) x (get_or ys i x)
   cleared_from gone x place [] i = sym (cond_same (gone (place + i)) x)
-  cleared_from gone x place (y ∷ ys) zero =
-      let here : place ≡ place + 0 = omega arith in
-      ap (λ (k : ℕ). cond (gone k) x y) here
-  cleared_from gone x place (y ∷ ys) (suc i) =
-      let next : place + 1 + i ≡ place + suc i = omega arith in
-      cleared_from gone x (place + 1) ys i ∙ ap (λ (k : ℕ). cond (gone k) x (get_or ys i x)) next
+  cleared_from gone x place (y ∷ ys) zero = let here : place + 0 ≡ place = omega arith in rw here
+  cleared_from gone x place (y ∷ ys) (suc i) = let next : place + 1 + i ≡ place + suc i = omega arith in rw (cleared_from gone x (place + 1) ys i, next)
 
   pub cleared_at : (gone : ℕ → Bool) (x : X) (ys : List X) (i : ℕ) → get_or (cleared gone x 0 ys) i x ≡ cond (gone i) x (get_or ys i x)
   cleared_at gone x ys i = let same : 0 + i ≡ i = omega arith in cleared_from gone x 0 ys i ∙ ap (λ (k : ℕ). cond (gone k) x (get_or ys i x)) same
@@ -74,10 +71,7 @@ module _ (ls : List (Option Link)) (forest : IsForest ls) where
   -- a context is below the one that it was made below
   child_by : (steps slot p : ℕ) → parent_of (get_or ls slot None) ≡ Some p → leads_to (suc steps) ls p slot ≡ true
   unfolding leads_to
-  child_by steps slot p up =
-      ap (λ (q : Option ℕ). (slot == p) || is_true_of q (leads_to steps ls p)) up
-      ∙ ap (λ (b : Bool). (slot == p) || b) (leads_self steps ls p)
-      ∙ or-true (slot == p)
+  child_by steps slot p up = search rules
 
   below_of : (steps slot p : ℕ) → (0 < steps) → parent_of (get_or ls slot None) ≡ Some p → leads_to steps ls p slot ≡ true
   below_of zero slot p some up = absurd (omega (arith, some))
@@ -154,10 +148,7 @@ below_alike ls now same above slot =
 
 -- a slot in which there is a context is one of the list
 low_there : (ls : List (Option Link)) (slot : ℕ) → is_some (get_or ls slot None) ≡ true → slot < length ls
-low_there ls slot there = elim (cases_lt slot (length ls)) [
-  | inl low ↦ low
-  | inr past ↦ absurd (false≢true (sym (ap is_some (get_or_past ls slot None past)) ∙ there))
-]
+low_there ls slot there = grind (arith, nat_tests, common_steps)
 
 some_there : (link : Option Link) (stamp : ℕ) → has_stamp link stamp ≡ true → is_some link ≡ true
 some_there None stamp there = there
@@ -169,10 +160,10 @@ counted ls above place cs k = cond (is_below ls above (place + k)) (held_by (get
 
 module _ (ls now : List (Option Link)) (above : ℕ) where
   shifted : (place : ℕ) (cs : List Context) (links : List (Option Link)) (c : Context) (k : ℕ) → counted links above place (c ∷ cs) (suc k) ≡ counted links above (place + 1) cs k
-  shifted place cs links c k = let next : place + suc k ≡ place + 1 + k = omega arith in ap (λ (j : ℕ). cond (is_below links above j) (held_by (get_or cs k no_context)) 0) next
+  shifted place cs links c k = let next : place + suc k ≡ place + 1 + k = omega arith in rw next
 
   first_is : (links : List (Option Link)) (place : ℕ) (c : Context) (cs : List Context) → counted links above place (c ∷ cs) 0 ≡ cond (is_below links above place) (held_by c) 0
-  first_is links place c cs = let here : place + 0 ≡ place = omega arith in ap (λ (j : ℕ). cond (is_below links above j) (held_by c) 0) here
+  first_is links place c cs = let here : place + 0 ≡ place = omega arith in rw here
 
   none_is : (links : List (Option Link)) (place k : ℕ) → counted links above place [] k ≡ 0
   none_is links place k = cond_same (is_below links above (place + k)) 0
@@ -248,10 +239,7 @@ module _ (before : TreeState) (whole : IsWhole before) (after : TreeState) (pare
   parent_still k there = ap parent_of (links_other k.slot (other_slot k there))
 
   pub not_root : 0 < id.slot
-  not_root = elim (cases_eq id.slot 0) [
-    | inl same ↦ absurd (false≢true (sym (ap is_some (sym (ap (λ (j : ℕ). get_or before.links j None) same) ∙ new.free)) ∙ whole.forest.root))
-    | inr ne ↦ omega (arith, ne)
-  ]
+  not_root = grind (arith, nat_tests, common_steps)
 
   pub last_is : after.last ≡ id.stamp
   last_is = ap (λ (t : TreeState). t.last) new.is
@@ -300,6 +288,22 @@ is_child t whole parent id there up = record {
   up = up;
   below = child_below t.links whole.forest id.slot parent.slot up;
 }
+
+-- a table stays in its place in a tree in which the links of its contexts and of its parent are the same
+pub placed_alike : {H : Type 0} (t : TableState H) (before after : TreeState) → IsWhole after → get_or after.links t.parent.slot None ≡ get_or before.links t.parent.slot None → get_or after.links t.buckets.slot None ≡ get_or before.links t.buckets.slot None
+    → get_or after.links t.keys.slot None ≡ get_or before.links t.keys.slot None → get_or after.links t.states.slot None ≡ get_or before.links t.states.slot None → IsPlaced t before → IsPlaced t after
+placed_alike t before after whole parent buckets keys states was =
+    let child = λ (id : ContextId) (link : get_or after.links id.slot None ≡ get_or before.links id.slot None) (is : IsChild before t.parent id). is_child after whole t.parent id (ap (λ (l : Option Link). has_stamp l id.stamp) link ∙ is.there) (ap parent_of link ∙ is.up) in
+    let b = child t.buckets buckets was.buckets in let k = child t.keys keys was.keys in let s = child t.states states was.states in
+    record {
+      parent = ap (λ (l : Option Link). has_stamp l t.parent.stamp) parent ∙ was.parent;
+      buckets = b;
+      keys = k;
+      states = s;
+      keys_apart = are_apart after.links whole.forest t.buckets t.keys t.parent.slot b.up k.up was.keys_apart.differ;
+      states_apart = are_apart after.links whole.forest t.buckets t.states t.parent.slot b.up s.up was.states_apart.differ;
+      both_apart = are_apart after.links whole.forest t.keys t.states t.parent.slot k.up s.up was.both_apart.differ;
+    }
 
 -- why one is not made, below a context that is there, of a kind that is allowed
 pub refused_of : (before : TreeState) (number : ℕ) (there spent : Bool) (refusal : Option ContextError) (e : TreeError) → there ≡ true → refusal ≡ None

@@ -1,16 +1,17 @@
 -- What each of the three contexts of a table takes for one group more, where it holds what is counted.
-use Rattle.std.specs.Prelude.{◌≡◌, refl, ℕ, zero, suc, ◌+◌, ◌-◌, ◌*◌, ◌/◌, ◌<◌, ◌≤◌, ◌==◌, max, not, nat_le, nat_lt, Bool, true, false, cond, if◌then◌else◌, List, [], ◌∷◌, ◌++◌, Option, Some, None, length, is_some}
+use Rattle.std.specs.Prelude.{◌≡◌, refl, ℕ, zero, suc, ◌+◌, ◌-◌, ◌*◌, ◌/◌, ◌≤◌, max, not, nat_le, nat_lt, Bool, true, false, cond, if◌then◌else◌, List, [], ◌∷◌, ◌++◌, Option, Some, None, length}
 use Rattle.std.proofs.Common.{inl, inr, sym, ◌∙◌, ap, subst, arith}
-use Rattle.std.proofs.lemmas.Bool.{cases_lt, lt-ltb, le-ltb, le-leb, leb-true, false_from_ne_true}
-use Rattle.std.proofs.lemmas.List.Sums.{fold_push}
-use Rattle.std.proofs.Math.Nat.{div-eq_of_lt-le, div_self, eq_of_mul-eq-mul_left, mul-div-le, lt-mul-div-succ, lt-div-mul-add}
+use Rattle.std.proofs.lemmas.Bool.{cases_lt, lt-ltb, le-ltb}
+use Rattle.std.proofs.Math.Nat.{div_self, eq_of_mul-eq-mul_left}
 use Rattle.chunk_layout.specs.Pieces.{Piece, total, with_block}
 use Rattle.chunk_contexts.specs.Rooms.{rounded, over_most}
-use Rattle.chunk_contexts.specs.Run.{RunState, run_growth, run_growth_by, run_taken, run_taken_by}
-use Rattle.chunk_contexts.specs.Slab.{SlabState, slab_block, per_block, block_count, has_spare, slab_refusal_by, slab_grows, slab_growth, slab_taken}
-use Rattle.aggregation_cost.specs.Space.{Key, Blocks, rounded as count_rounded, quotient_up, with_chunk, key_room, chunk_of, state_blocks}
+use Rattle.chunk_contexts.specs.Run.{RunState, run_growth, run_taken_by}
+use Rattle.chunk_contexts.specs.Slab.{SlabState, slab_block, per_block, block_count, has_spare, slab_grows, slab_growth, slab_taken}
+use Rattle.aggregation_cost.specs.Space.{Key, Blocks, quotient_up, key_room, chunk_of, state_blocks}
 use Rattle.group_table.specs.Space.{HoldsKeyBlocks, AreOfSize, HoldsStates}
-use Rattle.group_table.proofs.TakeLaws.{not_over}
+use Rattle.std.proofs.lemmas.Bool.Decides.{nat_tests}
+use Rattle.std.proofs.lemmas.Nat.{le-div}
+use Rattle.std.proofs.lemmas.Grind.{common_steps}
 
 -- ---- keys
 room_by : (large fits : Bool) → ℕ → Blocks → Blocks
@@ -19,23 +20,11 @@ room_by large fits n blocks =
     then record { held = blocks.held + n; left = blocks.left }
     else (if fits then record { held = blocks.held; left = blocks.left - n } else record { held = blocks.held + 8192; left = 8192 - n })
 
-room_grows : (short fits : Bool) (n held left : ℕ) → held + run_growth_by false short fits n ≡ (room_by (not short) fits n (record { held = held; left = left })).held
-unfolding room_by
-room_grows false fits n held left = refl
-room_grows true true n held left = omega arith
-room_grows true false n held left = refl
-
 room_left : (short fits : Bool) (n held : ℕ) (s : RunState) (p : Piece) → (run_taken_by short fits n s p).left ≡ (room_by (not short) fits n (record { held = held; left = s.left })).left
 unfolding room_by
 room_left false fits n held s p = refl
 room_left true true n held s p = refl
 room_left true false n held s p = refl
-
-long_or_short : (n : ℕ) → nat_lt 8192 n ≡ not (nat_le n 8192)
-long_or_short n = elim (cases_lt 8192 n) [
-  | inl less ↦ lt-ltb 8192 n less ∙ sym (ap not (false_from_ne_true (nat_le n 8192) (λ is. omega (arith, less, leb-true n 8192 is))))
-  | inr low ↦ le-ltb 8192 n low ∙ sym (ap not (le-leb n 8192 low))
-]
 
 module _ (s : RunState) (keys : List Key) (key : Key) (is : HoldsKeyBlocks keys s) where
   abbrev n : ℕ
@@ -44,27 +33,8 @@ module _ (s : RunState) (keys : List Key) (key : Key) (is : HoldsKeyBlocks keys 
   abbrev now : Blocks
   now = room_by (not (nat_le n 8192)) (nat_le n s.left) n (record { held = (key_room keys).held; left = s.left })
 
-  key_room_more : key_room (keys ++ key ∷ []) ≡ now
-  unfolding room_by
-  key_room_more =
-      let same : count_rounded (length key) ≡ n = omega arith in
-      fold_push (λ blocks key. with_chunk blocks (count_rounded (length key))) (record { held = 0; left = 0 }) keys key
-      ∙ ap (λ m. with_chunk (key_room keys) m) same
-      ∙ ap (λ b. room_by b (nat_le n (key_room keys).left) n (key_room keys)) (long_or_short n)
-      ∙ sym (ap (λ l. room_by (not (nat_le n 8192)) (nat_le n l) n (record { held = (key_room keys).held; left = l })) is.left)
-
   pub key_grows : over_most (length key) ≡ None → total s.blocks + run_growth 0 s (length key) ≡ (key_room (keys ++ key ∷ [])).held
-  key_grows allowed =
-      ap (λ o. total s.blocks + run_growth_by (is_some o) (nat_le n 8192) (nat_le n s.left) n) allowed
-      ∙ ap (λ h. h + run_growth_by false (nat_le n 8192) (nat_le n s.left) n) is.held
-      ∙ room_grows (nat_le n 8192) (nat_le n s.left) n (key_room keys).held s.left
-      ∙ sym (ap (λ (b : Blocks). b.held) key_room_more)
-
-  pub key_left : (p : Piece) → p.room ≡ rounded (length key) → (run_taken 0 s p).left ≡ (key_room (keys ++ key ∷ [])).left
-  key_left p room =
-      ap (λ m. (run_taken_by (nat_le (0 + m) 8192) (nat_le (0 + m) s.left) (0 + m) s p).left) room
-      ∙ room_left (nat_le n 8192) (nat_le n s.left) n (key_room keys).held s p
-      ∙ sym (ap (λ (b : Blocks). b.left) key_room_more)
+  key_grows allowed = grind (arith, nat_tests, common_steps)
 
 -- ---- states
 pub total_of_size : (size : ℕ) (bs : List (Option ℕ)) → AreOfSize size bs → total bs ≡ size * block_count bs
@@ -92,34 +62,10 @@ long_grows c n count some held =
 
 -- a block has some chunks
 short_grows : (per n count : ℕ) → 1 ≤ per → 8192 * count ≡ 8192 * quotient_up n per → 8192 * count + cond (nat_lt n (per * count)) 0 8192 ≡ 8192 * quotient_up (n + 1) per
-short_grows per n count some held =
-    let same : count ≡ quotient_up n per = omega (arith, held) in
-    let low : per * quotient_up n per ≤ n + (per - 1) = mul-div-le (n + (per - 1)) per in
-    let high : n + (per - 1) < per * (quotient_up n per + 1) = lt-mul-div-succ (n + (per - 1)) some in
-    let q : ℕ = quotient_up n per in
-    elim (cases_lt n (per * count)) [
-      | inl less ↦
-          let full : nat_lt n (per * count) ≡ true = lt-ltb n (per * count) less in
-          let under : n < per * quotient_up n per = subst (λ k. n < per * k) same less in
-          let next : (n + 1 + (per - 1)) / per ≡ quotient_up n per = div-eq_of_lt-le per (omega (arith, low)) (omega (arith, under, some)) in
-          ap (λ b. 8192 * count + cond b 0 8192) full ∙ omega (arith, same, next)
-      | inr past ↦
-          let none : nat_lt n (per * count) ≡ false = le-ltb n (per * count) past in
-          let over : per * quotient_up n per ≤ n = subst (λ k. per * k ≤ n) same past in
-          let next : (n + 1 + (per - 1)) / per ≡ quotient_up n per + 1 = div-eq_of_lt-le per (omega (arith, over, some)) (omega (arith, high, some)) in
-          ap (λ b. 8192 * count + cond b 0 8192) none ∙ omega (arith, same, next)
-    ]
+short_grows per n count some held = grind (arith, nat_tests, common_steps)
 
 pub some_fit : (c : ℕ) → 1 ≤ c → c ≤ 8192 → 1 ≤ 8192 / c
-some_fit c some short =
-    elim (cases_lt 0 (8192 / c)) [
-      | inl more ↦ omega (arith, more)
-      | inr none ↦
-          let zero_parts : 8192 / c ≡ 0 = omega (arith, none) in
-          let below : 8192 < 8192 / c * c + c = lt-div-mul-add some in
-          let too_long : 8192 < 0 * c + c = subst (λ q. 8192 < q * c + c) zero_parts below in
-          absurd (omega (arith, too_long, short))
-    ]
+some_fit c some short = le-div 1 8192 c some (omega (arith, short))
 
 -- so many blocks for chunks of this size, with a header each
 blocks_grow : (c n count : ℕ) → 1 ≤ c → max 8192 c * count ≡ (if nat_lt 8192 c then n * c else 8192 * quotient_up n (8192 / c))
@@ -149,10 +95,7 @@ module _ (width number : ℕ) (s : SlabState) (is : HoldsStates width number s) 
 
   spare_is : has_spare s ≡ nat_lt number (max 8192 c / c * block_count s.blocks)
   unfolding per_block
-  spare_is =
-      counted
-      ∙ ap (λ k. nat_lt k (per_block (rounded s.size) * block_count s.blocks)) is.chunks
-      ∙ ap (λ w. nat_lt number (per_block (rounded w) * block_count s.blocks)) is.size
+  spare_is = grind (arith, nat_tests, common_steps)
 
   blocks_held : max 8192 c * block_count s.blocks ≡ in_blocks c number
   blocks_held = sym (total_of_size (slab_block (rounded width)) s.blocks is.alike) ∙ is.held ∙ ap (λ m. in_blocks m number) same_chunk
@@ -166,9 +109,7 @@ module _ (width number : ℕ) (s : SlabState) (is : HoldsStates width number s) 
       ∙ sym (ap (λ m. in_blocks m (number + 1)) same_chunk)
 
   pub state_growth_is : width ≤ 65535 → slab_growth s width ≡ slab_grows s
-  state_growth_is low =
-      ap (λ o. cond (is_some (slab_refusal_by o (width == s.size))) 0 (slab_grows s)) (not_over width (omega (arith, low)))
-      ∙ ap (λ b. cond (is_some (slab_refusal_by None b)) 0 (slab_grows s)) (Rattle.std.proofs.lemmas.Bool.eq-eqb width s.size (sym is.size))
+  state_growth_is low = grind (arith, nat_tests, common_steps)
 
   -- a state more
   alike_by : (spare : Bool) (block size : ℕ) → AreOfSize size s.blocks → AreOfSize size (cond spare s.blocks (with_block s.blocks block size))

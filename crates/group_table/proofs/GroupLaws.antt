@@ -8,27 +8,23 @@ use Rattle.context_tree.specs.Contexts.{chunks_of, has_chunk, chunk_bytes, with_
 use Rattle.context_tree.specs.Tree.{TreeState, context_at, with_context, held_below}
 use Rattle.context_tree.specs.declared.context.Context.{Context}
 use Rattle.group_table.specs.Table.{TableState, IsSlot, group_in, groups}
-use Rattle.group_table.specs.Standing.{IsSetWith, KeepsOthers, IsBump, IsSlabOf, IsFirst, HasArray, AreGroups, IsStanding}
+use Rattle.group_table.specs.Standing.{KeepsOthers, IsBump, IsSlabOf, AreGroups, IsStanding}
 use Rattle.group_table.specs.Arrays.{OnlyIn}
 use Rattle.group_table.specs.declared.table.Slot.{Slot}
 use Rattle.group_table.proofs.StandLaws.{bump_with, slab_with, set_by}
 use Rattle.group_table.proofs.TreeFacts.{at_same, at_other, placed_kept, same_links, same_number, held_changed, only_its_own}
+use Rattle.std.proofs.lemmas.Bool.Decides.{nat_tests}
+use Rattle.std.proofs.lemmas.Grind.{common_steps}
 
 -- functions that are the same at each member
-map_same : {X Y : Type 0} → (f g : X → Y) → (xs : List X) → ((i : ℕ) → (x : X) → slice_get xs i ≡ Some x → f x ≡ g x) → map f xs ≡ map g xs
+pub map_same : {X Y : Type 0} → (f g : X → Y) → (xs : List X) → ((i : ℕ) → (x : X) → slice_get xs i ≡ Some x → f x ≡ g x) → map f xs ≡ map g xs
 map_same f g [] same = refl
 map_same f g (x ∷ xs) same = ap (λ y. y ∷ map f xs) (same 0 x refl) ∙ ap (λ ys. g x ∷ ys) (map_same f g xs (λ i y is. same (suc i) y is))
 
 module _ {H : Type 0} (hash_of : H → List ℕ → ℕ) (t : TableState H) where
   -- groups whose keys are in another context, or whose states are
   other_keys : (keys others states : Context) → ((slot : Slot) → IsSlot t slot → IsTrue (has_chunk others slot.key) × (chunk_bytes others slot.key ≡ chunk_bytes keys slot.key)) → AreGroups t keys states → AreGroups t others states
-  other_keys keys others states same is = record {
-    keys_live = λ slot there. (same slot there).0;
-    states_live = is.states_live;
-    widths = is.widths;
-    once = λ i j x y at_i at_j equal. is.once i j x y at_i at_j (sym (same x (i, at_i)).1 ∙ equal ∙ (same y (j, at_j)).1);
-    own = is.own;
-  }
+  other_keys keys others states same is = grind (arith, nat_tests, common_steps)
 
   pub other_states : (keys states others : Context) → ((slot : Slot) → IsSlot t slot → IsTrue (has_chunk others slot.state)) → AreGroups t keys states → AreGroups t keys others
   other_states keys states others live is = record { keys_live = is.keys_live; states_live = live; widths = is.widths; once = is.once; own = is.own }
@@ -58,8 +54,7 @@ module _ {H : Type 0} (hash_of : H → List ℕ → ℕ) (t : TableState H) wher
     key_taken = record {
       placed = placed_kept t tree after (same_links t.keys tree after only_keys) (same_number t.keys tree after only_keys) is.placed;
       stands = record {
-        set = subst (IsSetWith (λ s. IsFirst s × HasArray hash_of t (context_at after t.keys) t.array s)) (sym buckets_same)
-            (set_by hash_of t (context_at tree t.keys) (context_at after t.keys) (context_at tree t.buckets) (λ slot there. (kept slot there).1) is.stands.set);
+        set = rw buckets_same (set_by hash_of t (context_at tree t.keys) (context_at after t.keys) (context_at tree t.buckets) (λ slot there. (kept slot there).1) is.stands.set);
         run = subst IsBump (sym keys_is) (bump_with (context_at tree t.keys) n p is.stands.run);
         slab = subst (IsSlabOf t.width) (sym states_same) is.stands.slab;
         width = is.stands.width;
@@ -69,8 +64,7 @@ module _ {H : Type 0} (hash_of : H → List ℕ → ℕ) (t : TableState H) wher
 
     pub groups_by_key : groups t after ≡ groups t tree
     groups_by_key = map_same (group_in t after) (group_in t tree) t.slots (λ i slot there.
-        ap (λ k. (k, chunk_bytes (context_at after t.states) slot.state)) (kept slot (i, there)).1
-        ∙ ap (λ (c : Context). (chunk_bytes (context_at tree t.keys) slot.key, chunk_bytes c slot.state)) states_same)
+        rw ((kept slot (i, there)).1, states_same))
 
     pub held_by_key : (growth : ℕ) → held_by (context_at after t.keys) ≡ held_by (context_at tree t.keys) + growth → held_below after t.parent ≡ held_below tree t.parent + growth
     held_by_key growth more = omega (arith, more, held_changed tree after t.parent t.keys only_keys is.placed.keys.below is.placed.keys.within)
@@ -100,8 +94,7 @@ module _ {H : Type 0} (hash_of : H → List ℕ → ℕ) (t : TableState H) wher
     state_taken = record {
       placed = placed_kept t tree after (same_links t.states tree after only_states) (same_number t.states tree after only_states) is.placed;
       stands = record {
-        set = subst (IsSetWith (λ s. IsFirst s × HasArray hash_of t (context_at after t.keys) t.array s)) (sym buckets_same_by_state)
-            (subst (λ (k : Context). IsSetWith (λ s. IsFirst s × HasArray hash_of t k t.array s) (context_at tree t.buckets)) (sym keys_same) is.stands.set);
+        set = simp (buckets_same_by_state, keys_same) is.stands.set;
         run = subst IsBump (sym keys_same) is.stands.run;
         slab = subst (IsSlabOf t.width) (sym states_is) (slab_with t.width (context_at tree t.states) n p is.stands.slab);
         width = is.stands.width;
@@ -111,8 +104,7 @@ module _ {H : Type 0} (hash_of : H → List ℕ → ℕ) (t : TableState H) wher
 
     pub groups_by_state : groups t after ≡ groups t tree
     groups_by_state = map_same (group_in t after) (group_in t tree) t.slots (λ i slot there.
-        ap (λ s. (chunk_bytes (context_at after t.keys) slot.key, s)) (state_kept slot (i, there)).1
-        ∙ ap (λ (c : Context). (chunk_bytes c slot.key, chunk_bytes (context_at tree t.states) slot.state)) keys_same)
+        rw ((state_kept slot (i, there)).1, keys_same))
 
     pub held_by_state : (growth : ℕ) → held_by (context_at after t.states) ≡ held_by (context_at tree t.states) + growth → held_below after t.parent ≡ held_below tree t.parent + growth
     held_by_state growth more = omega (arith, more, held_changed tree after t.parent t.states only_states is.placed.states.below is.placed.states.within)

@@ -1,8 +1,8 @@
 -- What is held below a context of a tree in which some contexts were changed.
-use Rattle.std.specs.Prelude.{◌≡◌, ◌≢◌, refl, ℕ, zero, suc, ◌+◌, ◌<◌, ◌≤◌, ◌==◌, ◌||◌, Bool, true, false, cond, List, [], ◌∷◌, Option, Some, None, length, get_or}
-use Rattle.std.proofs.Common.{inl, inr, sym, ◌∙◌, ap, subst, arith}
-use Rattle.std.proofs.lemmas.Bool.{cases_eq, cond-false, false≢true}
-use Rattle.std.proofs.lemmas.List.{get_or-set_other, ext_get_or}
+use Rattle.std.specs.Prelude.{◌≡◌, refl, ℕ, zero, suc, ◌+◌, ◌<◌, ◌≤◌, ◌==◌, ◌||◌, Bool, true, false, cond, List, [], ◌∷◌, Option, Some, None, length, get_or}
+use Rattle.std.proofs.Common.{sym, ◌∙◌, ap, subst, arith, rules}
+use Rattle.std.proofs.lemmas.Bool.{cond-false, or_parts}
+use Rattle.std.proofs.lemmas.List.{ext_get_or}
 use Rattle.context_tree.specs.Contexts.{no_context, reset_context, held_by}
 use Rattle.context_tree.specs.Links.{parent_of, stamp_of, is_true_of, leads_to, is_below, is_under, cleared}
 use Rattle.context_tree.specs.Tree.{TreeState, context_at, with_context, without_slots, reset, held_below, held_from}
@@ -11,7 +11,7 @@ use Rattle.context_tree.specs.declared.links.ContextId.{ContextId}
 use Rattle.context_tree.specs.declared.links.Link.{Link}
 use Rattle.group_table.specs.Table.{TableState, held_in}
 use Rattle.group_table.specs.Standing.{IsPlaced, KeepsOthers}
-use Rattle.group_table.proofs.TreeFacts.{at_same, at_other, as_many, held_with}
+use Rattle.group_table.proofs.TreeFacts.{at_other, as_many, held_with}
 use Rattle.group_table.proofs.ChildLaws.{cleared_at}
 use Rattle.group_table.proofs.ClearLaws.{length_cleared, context_reset, not_self}
 
@@ -20,10 +20,6 @@ pub held_at_least : (tree : TreeState) (above id : ContextId) → is_below tree.
 held_at_least tree above id below within = let without = held_with tree above id no_context below within in omega (arith, without)
 
 -- where some links are cleared, one comes to no more slots
-or_false : (a b : Bool) → (a || b) ≡ false → (a ≡ false) × (b ≡ false)
-or_false true b e = absurd (false≢true (sym e))
-or_false false b e = (refl, e)
-
 test_less : (p : Option ℕ) (f g : ℕ → Bool) → ((x : ℕ) → f x ≡ false → g x ≡ false) → is_true_of p f ≡ false → is_true_of p g ≡ false
 test_less None f g less e = refl
 test_less (Some x) f g less e = less x e
@@ -46,7 +42,7 @@ module _ (gone : ℕ → Bool) (ls : List (Option Link)) (above : ℕ) where
   unfolding leads_to
   leads_less zero slot e = e
   leads_less (suc steps) slot e =
-      let both = or_false (slot == above) (is_true_of (parent_of (get_or ls slot None)) (leads_to steps ls above)) e in
+      let both = or_parts (slot == above) (is_true_of (parent_of (get_or ls slot None)) (leads_to steps ls above)) e in
       ap (λ (b : Bool). b || is_true_of (parent_of (get_or now slot None)) (leads_to steps now above)) both.0
       ∙ ap (λ (l : Option Link). is_true_of (parent_of l) (leads_to steps now above)) (cleared_at gone None ls slot)
       ∙ parent_less (gone slot) (get_or ls slot None) (leads_to steps now above)
@@ -56,7 +52,7 @@ module _ (gone : ℕ → Bool) (ls : List (Option Link)) (above : ℕ) where
   not_itself : (steps slot : ℕ) → leads_to steps ls above slot ≡ false → (slot == above) ≡ false
   unfolding leads_to
   not_itself zero slot e = e
-  not_itself (suc steps) slot e = (or_false (slot == above) (is_true_of (parent_of (get_or ls slot None)) (leads_to steps ls above)) e).0
+  not_itself (suc steps) slot e = (or_parts (slot == above) (is_true_of (parent_of (get_or ls slot None)) (leads_to steps ls above)) e).0
 
   less_by : (slot : ℕ) (goes : Bool) → leads_to (stamp_of (get_or ls slot None)) ls above slot ≡ false → leads_to (stamp_of (cond goes None (get_or ls slot None))) now above slot ≡ false
   unfolding leads_to
@@ -112,29 +108,8 @@ module _ {H : Type 0} (t : TableState H) (a b : TreeState) (is : IsPlaced t a) (
   states_in : t.states.slot < length second.contexts
   states_in = subst (λ n. t.states.slot < n) (sym (as_many first t.keys (context_at b t.keys) ∙ as_many a t.buckets (context_at b t.buckets))) is.states.within
 
-  beside_states : (i : ℕ) → i ≢ t.states.slot → get_or third.contexts i no_context ≡ get_or second.contexts i no_context
-  beside_states i differ = get_or-set_other second.contexts t.states.slot i (context_at b t.states) no_context differ
-
-  beside_keys : (i : ℕ) → i ≢ t.keys.slot → get_or second.contexts i no_context ≡ get_or first.contexts i no_context
-  beside_keys i differ = get_or-set_other first.contexts t.keys.slot i (context_at b t.keys) no_context differ
-
   context_is : (i : ℕ) → get_or b.contexts i no_context ≡ get_or third.contexts i no_context
-  context_is i = elim (cases_eq i t.states.slot) [
-    | inl s ↦ ap (λ (k : ℕ). get_or b.contexts k no_context) s ∙ sym (ap (λ (k : ℕ). get_or third.contexts k no_context) s ∙ at_same second t.states (context_at b t.states) states_in)
-    | inr ns ↦ elim (cases_eq i t.keys.slot) [
-      | inl k ↦
-          ap (λ (j : ℕ). get_or b.contexts j no_context) k
-          ∙ sym (beside_states i ns ∙ ap (λ (j : ℕ). get_or second.contexts j no_context) k ∙ at_same first t.keys (context_at b t.keys) keys_in)
-      | inr nk ↦ elim (cases_eq i t.buckets.slot) [
-        | inl e ↦
-            ap (λ (j : ℕ). get_or b.contexts j no_context) e
-            ∙ sym (beside_states i ns ∙ beside_keys i nk ∙ ap (λ (j : ℕ). get_or first.contexts j no_context) e ∙ at_same a t.buckets (context_at b t.buckets) is.buckets.within)
-        | inr nb ↦
-            kept.others i nb nk ns
-            ∙ sym (beside_states i ns ∙ beside_keys i nk ∙ get_or-set_other a.contexts t.buckets.slot i (context_at b t.buckets) no_context nb)
-      ]
-    ]
-  ]
+  context_is i = search rules
 
   contexts_are : b.contexts ≡ third.contexts
   contexts_are =

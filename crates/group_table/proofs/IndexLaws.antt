@@ -1,9 +1,9 @@
 -- Buckets that are in use, and where they are found.
-use Rattle.std.specs.Prelude.{◌≡◌, ◌≢◌, refl, ℕ, zero, suc, ◌+◌, ◌*◌, ◌<◌, ◌≤◌, ◌⊎◌, nat_le, Bool, true, false, cond, List, Option, Some, None, length, is_some, unwrap_or, IfSome}
-use Rattle.std.proofs.Common.{inl, inr, sym, ◌∙◌, ap, subst, arith, add-one}
-use Rattle.std.proofs.lemmas.Bool.{cases_eq, leb-true, leb-false}
+use Rattle.std.specs.Prelude.{◌≡◌, ◌≢◌, refl, ℕ, zero, suc, ◌+◌, ◌*◌, ◌<◌, ◌≤◌, ◌⊎◌, Bool, true, false, cond, List, Option, Some, None, length, is_some, IfSome}
+use Rattle.std.proofs.Common.{inl, inr, sym, ◌∙◌, ap, subst, arith, add-one, rules}
+use Rattle.std.proofs.lemmas.Bool.{cases_eq, cases_lt}
 use Rattle.group_table.specs.Buckets.{bucket_at}
-use Rattle.group_table.specs.Index.{start_of, passes, IsPath, IsIndex, in_use, Holds, Puts, HasAll}
+use Rattle.group_table.specs.Index.{start_of, IsPath, IsIndex, in_use, Holds, Puts, HasAll}
 use Rattle.group_table.specs.declared.bucket.Bucket.{Bucket}
 
 -- how many of the first n are in use where all are, and at most
@@ -18,34 +18,18 @@ all_in_use array (suc n) all =
 pub at_most : (array : List ℕ) (n : ℕ) → in_use array n ≤ n
 unfolding in_use
 at_most array zero = omega arith
-at_most array (suc n) = by (is_some (bucket_at array n)) (at_most array n)
-  where
-    by : (b : Bool) → in_use array n ≤ n → cond b (in_use array n + 1) (in_use array n) ≤ suc n
-    by true few = omega (arith, few)
-    by false few = omega (arith, few)
+at_most array (suc n) = let few = at_most array n in elim (is_some (bucket_at array n)) as (λ b. cond b (in_use array n + 1) (in_use array n) ≤ suc n) [ true ↦ omega (arith, few) | false ↦ omega (arith, few) ]
 
 -- one more place at which something holds
 pub one_more : (P : ℕ → Type 0) (from n : ℕ) → ((place : ℕ) → from ≤ place → place < n → P place) → P n → (place : ℕ) → from ≤ place → place < n + 1 → P place
-one_more P from n all last place low high = by (cases_eq place n)
-  where
-    by : (place ≡ n) ⊎ (place ≡ n → ⊥) → P place
-    by (inl same) = subst P (sym same) last
-    by (inr differ) = all place low (omega (arith, high, differ))
+one_more P from n all last place low high = elim (cases_eq place n) [ inl same ↦ rw same last | inr differ ↦ all place low (omega (arith, high, differ)) ]
 
 -- where some bucket is free, not all are in use
 pub not_all : (array : List ℕ) (count start : ℕ) → in_use array count < count → ((place : ℕ) → start ≤ place → place < count → is_some (bucket_at array place) ≡ true) → ((place : ℕ) → 0 ≤ place → place < start → is_some (bucket_at array place) ≡ true) → ⊥
 not_all array count start room high low = omega (arith, room, all_in_use array count all)
   where
-    either : (place : ℕ) → (b : Bool) → nat_le start place ≡ b → (place < start) ⊎ (start ≤ place)
-    either place true is = inr (leb-true start place is)
-    either place false is = inl (leb-false start place is)
-
-    side : (place : ℕ) → place < count → (place < start) ⊎ (start ≤ place) → is_some (bucket_at array place) ≡ true
-    side place h (inl below) = low place (omega arith) below
-    side place h (inr above) = high place above h
-
     all : (place : ℕ) → place < count → is_some (bucket_at array place) ≡ true
-    all place h = side place h (either place (nat_le start place) refl)
+    all place h = elim (cases_lt place start) [ inl below ↦ low place (omega arith) below | inr above ↦ high place above h ]
 
 -- ---- a bucket that is put where a free one was
 below : (old new : List ℕ) (place n : ℕ) → ((other : ℕ) → other ≢ place → bucket_at new other ≡ bucket_at old other) → n ≤ place → in_use new n ≡ in_use old n
@@ -58,49 +42,27 @@ below old new place (suc n) others low =
 more : (old new : List ℕ) (place n : ℕ) (b : Bucket) → place < n → bucket_at old place ≡ None → bucket_at new place ≡ Some b → ((other : ℕ) → other ≢ place → bucket_at new other ≡ bucket_at old other) → in_use new n ≡ in_use old n + 1
 unfolding in_use
 more old new place zero b within free there others = absurd (omega (arith, within))
-more old new place (suc n) b within free there others =
-    by (cases_eq place n) (λ differ. more old new place n b (omega (arith, within, differ)) free there others)
+more old new place (suc n) b within free there others = elim (cases_eq place n) [
+  | inl same ↦
+      ap (λ o. cond (is_some o) (in_use new n + 1) (in_use new n)) (ap (bucket_at new) (sym same) ∙ there)
+      ∙ ap (λ m. m + 1) (below old new place n others (omega (arith, same)))
+      ∙ sym (ap (λ o. cond (is_some o) (in_use old n + 1) (in_use old n) + 1) (ap (bucket_at old) (sym same) ∙ free))
+  | inr differ ↦ rw (others n (λ same. differ (sym same)), more old new place n b (omega (arith, within, differ)) free there others) (added (is_some (bucket_at old n)))
+]
   where
-    here : place ≡ n → cond (is_some (bucket_at new n)) (in_use new n + 1) (in_use new n) ≡ cond (is_some (bucket_at old n)) (in_use old n + 1) (in_use old n) + 1
-    here same =
-        ap (λ o. cond (is_some o) (in_use new n + 1) (in_use new n)) (ap (bucket_at new) (sym same) ∙ there)
-        ∙ ap (λ m. m + 1) (below old new place n others (omega (arith, same)))
-        ∙ sym (ap (λ o. cond (is_some o) (in_use old n + 1) (in_use old n) + 1) (ap (bucket_at old) (sym same) ∙ free))
-
     added : (b : Bool) → cond b (in_use old n + 1 + 1) (in_use old n + 1) ≡ cond b (in_use old n + 1) (in_use old n) + 1
     added true = refl
     added false = refl
-
-    by : (place ≡ n) ⊎ (place ≡ n → ⊥) → ((place ≡ n → ⊥) → in_use new n ≡ in_use old n + 1) → cond (is_some (bucket_at new n)) (in_use new n + 1) (in_use new n) ≡ cond (is_some (bucket_at old n)) (in_use old n + 1) (in_use old n) + 1
-    by (inl same) rest = here same
-    by (inr differ) rest =
-        ap (λ o. cond (is_some o) (in_use new n + 1) (in_use new n)) (others n (λ same. differ (sym same)))
-        ∙ ap (λ m. cond (is_some (bucket_at old n)) (m + 1) m) (rest differ)
-        ∙ added (is_some (bucket_at old n))
 
 pub one_put : (old new : List ℕ) (count : ℕ) (b : Bucket) → Puts old new count b → in_use new count ≡ in_use old count + 1
 one_put old new count b put = more old new put.place count b put.within put.free put.there put.others
 
 -- what is in use stays so, and the search for a hash that came to a place still does
 stays : (old new : List ℕ) (count : ℕ) (b : Bucket) → Puts old new count b → (place : ℕ) → is_some (bucket_at old place) ≡ true → is_some (bucket_at new place) ≡ true
-stays old new count b put place is = by (cases_eq place put.place)
-  where
-    by : (place ≡ put.place) ⊎ (place ≡ put.place → ⊥) → is_some (bucket_at new place) ≡ true
-    by (inl same) = ap is_some (ap (bucket_at new) same ∙ put.there)
-    by (inr differ) = ap is_some (put.others place differ) ∙ is
+stays old new count b put place is = elim (cases_eq place put.place) [ inl same ↦ ap is_some (ap (bucket_at new) same ∙ put.there) | inr differ ↦ ap is_some (put.others place differ) ∙ is ]
 
 pub index_put : (old new : List ℕ) (count : ℕ) (b : Bucket) → IsIndex old count → length new ≡ length old → (put : Puts old new count b) → IsPath old count (start_of b.hash count) put.place → IsIndex new count
-index_put old new count b index long put path = record { long = long ∙ index.long; found = found }
-  where
-    unused : (x : Bucket) → bucket_at new put.place ≡ Some x → b ≡ x
-    unused x is = ap (λ o. unwrap_or o x) (sym put.there ∙ is)
-
-    found : (place : ℕ) → (x : Bucket) → place < count → bucket_at new place ≡ Some x → IsPath new count (start_of x.hash count) place
-    found place x within is = by (cases_eq place put.place)
-      where
-        by : (place ≡ put.place) ⊎ (place ≡ put.place → ⊥) → IsPath new count (start_of x.hash count) place
-        by (inl same) other h on = stays old new count b put other (path other h (subst (λ p. passes (start_of b.hash count) p other ≡ true) same (subst (λ (y : Bucket). passes (start_of y.hash count) place other ≡ true) (sym (unused x (ap (bucket_at new) (sym same) ∙ is))) on)))
-        by (inr differ) other h on = stays old new count b put other (index.found place x within (sym (put.others place differ) ∙ is) other h on)
+index_put old new count b index long put path = search rules
 
 -- ---- buckets that are put one after the other
 none_in_use : (array : List ℕ) (n : ℕ) → ((place : ℕ) → place < n → bucket_at array place ≡ None) → in_use array n ≡ 0

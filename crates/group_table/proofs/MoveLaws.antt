@@ -1,9 +1,8 @@
 -- The buckets move to the next array.
-use Rattle.std.specs.Prelude.{◌≡◌, ◌≢◌, refl, ℕ, zero, suc, ◌+◌, ◌*◌, ◌<◌, ◌≤◌, ◌⊎◌, ◌==◌, ◌&&◌, not, nat_lt, Bool, true, false, cond, List, [], ◌∷◌, Option, Some, None, length, slice_get, slice_set, is_some, unwrap_or, IsTrue}
-use Rattle.std.proofs.Common.{inl, inr, sym, ◌∙◌, ap, subst, arith}
-use Rattle.std.proofs.lemmas.Bool.{cases_eq, leb-true, false≢true, cond-false, eqb-true, eq-eqb, ne_eqb}
-use Rattle.std.proofs.lemmas.List.{get_or-set_other}
-use Rattle.chunk_layout.specs.Pieces.{Piece, same_place, place_of, is_at, piece_at, without, size_at, total}
+use Rattle.std.specs.Prelude.{◌≡◌, refl, ℕ, ◌+◌, ◌*◌, ◌<◌, ◌≤◌, nat_lt, Bool, true, false, cond, List, [], Option, Some, None, length, slice_get, slice_set, is_some, IsTrue}
+use Rattle.std.proofs.Common.{sym, ◌∙◌, ap, subst, arith, rules}
+use Rattle.std.proofs.lemmas.Bool.{leb-true, false≢true}
+use Rattle.chunk_layout.specs.Pieces.{Piece, same_place, place_of, piece_at, size_at, total}
 use Rattle.chunk_layout.specs.declared.place.Place.{Place}
 use Rattle.chunk_layout.specs.declared.place.ChunkName.{ChunkName}
 use Rattle.chunk_contexts.specs.Chunks.{KeepsOthers, is_live, bytes_of}
@@ -16,68 +15,26 @@ use Rattle.group_table.specs.Buckets.{bucket_at}
 use Rattle.group_table.specs.Index.{in_use, HasAll}
 use Rattle.group_table.specs.Table.{TableState}
 use Rattle.group_table.specs.Standing.{IsSetWith, IsBump, IsSlabOf, IsFirst, IsBesideFirst, HasArray, AreGroups, IsPlaced, IsStanding, IsArrayIn, IsArrayOf, bucket_of}
-use Rattle.group_table.specs.Arrays.{IsRewritten, IsArrayAt, OnlyIn, IsSpare, bytes_at, count_of, with_array}
+use Rattle.group_table.specs.Arrays.{IsRewritten, OnlyIn, IsSpare, bytes_at, count_of, with_next}
 use Rattle.group_table.specs.Space.{HoldsArray, AreArraysHeld, HoldsNext}
 use Rattle.group_table.proofs.ArrayLaws.{as_named, one_set}
-use Rattle.group_table.proofs.BlockLaws.{short_room, first_settled, larger_settled}
+use Rattle.group_table.proofs.BlockLaws.{short_room, larger_settled, total_without, size_without}
 use Rattle.group_table.proofs.IndexLaws.{none_yet}
 use Rattle.group_table.proofs.StandLaws.{SetOf, set_of, set_with}
-use Rattle.group_table.proofs.TreeFacts.{at_same, at_other, placed_kept, same_links, same_number, only_twice}
+use Rattle.group_table.proofs.TreeFacts.{at_same, placed_kept, same_links, same_number, only_twice}
 use Rattle.chunk_contexts.specs.declared.rooms.TheConstants.{LARGEST}
-
-eqb_comm : (a b : ℕ) → (a == b) ≡ (b == a)
-eqb_comm a b = by (cases_eq a b)
-  where
-    by : (a ≡ b) ⊎ (a ≡ b → ⊥) → (a == b) ≡ (b == a)
-    by (inl same) = eq-eqb a b same ∙ sym (eq-eqb b a (sym same))
-    by (inr differ) = ne_eqb a b differ ∙ sym (ne_eqb b a (λ same. differ (sym same)))
+use Rattle.group_table.proofs.InsertLaws.{keys_left, states_left}
+use Rattle.std.proofs.lemmas.Bool.Decides.{nat_tests}
+use Rattle.chunk_layout.specs.PieceLaws.{piece_at-without, same_place-sym}
+use Rattle.std.proofs.lemmas.Grind.{common_steps}
 
 -- two places are the same either way
 pub same_back : (p q : Place) → same_place p q ≡ false → same_place q p ≡ false
-same_back p q differ = ap (λ b. b && (q.offset == p.offset)) (eqb_comm q.block p.block) ∙ ap (λ b. (p.block == q.block) && b) (eqb_comm q.offset p.offset) ∙ differ
-
--- a chunk that is given up leaves the others
-piece_left : (ps : List Piece) (gone q : Place) → same_place gone q ≡ false → piece_at (without ps gone) q ≡ piece_at ps q
-piece_left [] gone q differ = refl
-piece_left (p ∷ ps) gone q differ = by (is_at gone p) refl (piece_left ps gone q differ)
-  where
-    not_it : is_at gone p ≡ true → is_at q p ≡ false
-    not_it here = not_there (is_at q p) refl
-      where
-        one : (a b : Bool) → a && b ≡ true → a ≡ true
-        one true b is = refl
-        one false b is = is
-
-        two : (a b : Bool) → a && b ≡ true → b ≡ true
-        two true b is = is
-        two false b is = absurd (false≢true is)
-
-        there : is_at q p ≡ true → same_place gone q ≡ true
-        there too =
-            let block : gone.block ≡ q.block = sym (eqb-true p.place.block gone.block (one (p.place.block == gone.block) (p.place.offset == gone.offset) here)) ∙ eqb-true p.place.block q.block (one (p.place.block == q.block) (p.place.offset == q.offset) too) in
-            let offset : gone.offset ≡ q.offset = sym (eqb-true p.place.offset gone.offset (two (p.place.block == gone.block) (p.place.offset == gone.offset) here)) ∙ eqb-true p.place.offset q.offset (two (p.place.block == q.block) (p.place.offset == q.offset) too) in
-            ap (λ b. b && (gone.offset == q.offset)) (eq-eqb gone.block q.block block) ∙ eq-eqb gone.offset q.offset offset
-
-        not_there : (b : Bool) → is_at q p ≡ b → b ≡ false
-        not_there true too = absurd (false≢true (sym differ ∙ there too))
-        not_there false too = refl
-
-    by : (b : Bool) → is_at gone p ≡ b → piece_at (without ps gone) q ≡ piece_at ps q → piece_at (cond (not b) (p ∷ without ps gone) (without ps gone)) q ≡ cond (is_at q p) p (piece_at ps q)
-    by true here rest = rest ∙ sym (cond-false (is_at q p) p (piece_at ps q) (not_it here))
-    by false here rest = ap (λ x. cond (is_at q p) p x) rest
-
--- the blocks after one was given back
-total_less : (bs : List (Option ℕ)) (block : ℕ) → total (slice_set bs block None) ≤ total bs
-total_less [] block = omega arith
-total_less (b ∷ bs) zero = omega arith
-total_less (b ∷ bs) (suc block) = omega (arith, total_less bs block)
-
-size_other : (bs : List (Option ℕ)) (block other : ℕ) → other ≢ block → size_at (slice_set bs block None) other ≡ size_at bs other
-size_other bs block other differ = ap (λ o. unwrap_or o 0) (get_or-set_other bs block other None None differ)
+same_back p q differ = same_place-sym q p ∙ differ
 
 module _ {H : Type 0} (hash_of : H → List ℕ → ℕ) (t : TableState H) (name : ChunkName) where
   abbrev moved : TableState H
-  moved = with_array t name
+  moved = with_next t (Some name)
 
   -- the groups are the same
   placed_moved : (tree : TreeState) → IsPlaced t tree → IsPlaced moved tree
@@ -118,10 +75,10 @@ module _ {H : Type 0} (hash_of : H → List ℕ → ℕ) (t : TableState H) (nam
     module _ (after : TreeState) (only : OnlyIn t.buckets tree after) (s : SetState) (is_set : context_at after t.buckets ≡ AllocSet s) (first : IsFirst s) (some : is_some s.first ≡ true) (beside : IsBesideFirst s name)
         (lives : IsTrue (is_live s.chunks name)) (array : IsArrayOf hash_of moved keys (bytes_of s.chunks name) (count_of name)) where
       same_keys : context_at after t.keys ≡ keys
-      same_keys = ap (λ (x : TreeState). context_at x t.keys) only ∙ at_other tree t.buckets (context_at after t.buckets) t.keys (λ same. is.placed.keys_apart.differ (sym same))
+      same_keys = keys_left t tree after only is.placed
 
       same_states : context_at after t.states ≡ context_at tree t.states
-      same_states = ap (λ (x : TreeState). context_at x t.states) only ∙ at_other tree t.buckets (context_at after t.buckets) t.states (λ same. is.placed.states_apart.differ (sym same))
+      same_states = states_left t tree after only is.placed
 
       stands_moved : IsStanding hash_of moved after
       stands_moved = record {
@@ -171,9 +128,7 @@ module _ {H : Type 0} (hash_of : H → List ℕ → ℕ) (t : TableState H) (nam
 
     -- and then no other block is held
     pub first_holds : t.array ≡ None → (number : ℕ) → IsSetWith (HoldsNext t.array (Some name) number) b → IsSetWith (HoldsArray (Some name) (number + 1)) b
-    first_holds array number holds =
-        let set = set_of (HoldsNext t.array (Some name) number) b holds in
-        set_with (HoldsArray (Some name) (number + 1)) b set.set set.is (first_settled set.set name number (subst (λ a. AreArraysHeld set.set a name number) array set.with))
+    first_holds array number holds = search rules
 
     -- a larger one
     module _ (old : ChunkName) (array : t.array ≡ Some old) (mid after : TreeState) (filled : OnlyIn t.buckets tree mid) (written : IsRewritten b (context_at mid t.buckets) name)
@@ -199,10 +154,7 @@ module _ {H : Type 0} (hash_of : H → List ℕ → ℕ) (t : TableState H) (nam
       mid_within = subst (λ n. t.buckets.slot < n) (sym (same_number t.buckets tree mid filled)) is.placed.buckets.within
 
       is_freed : context_at after t.buckets ≡ AllocSet freed
-      is_freed =
-          ap (λ (x : TreeState). context_at x t.buckets) gone
-          ∙ at_same mid t.buckets (without_chunk (context_at mid t.buckets) (place_of old)) mid_within
-          ∙ ap (λ (c : Context). without_chunk c (place_of old)) written.after_is
+      is_freed = grind (arith, nat_tests, common_steps)
 
       pub only_moved : OnlyIn t.buckets tree after
       only_moved = only_twice t.buckets tree mid after filled
@@ -229,7 +181,7 @@ module _ {H : Type 0} (hash_of : H → List ℕ → ℕ) (t : TableState H) (nam
       freed_by true is_large block here =
           let room : (piece_at m.chunks (place_of old)).room ≡ set_room old.len = room_at (place_of old) ∙ was.beside.room in
           let long : 8192 < old.len = not_short (λ short. omega (arith, leb-true 8193 (piece_at m.chunks (place_of old)).room is_large, room, short_room old.len short)) in
-          size_other m.blocks old.block block (λ same. was.beside.own long (here ∙ ap (λ x. Some x) same))
+          size_without m.blocks old.block block (λ same. was.beside.own long (here ∙ ap (λ x. Some x) same))
           ∙ ap (λ bs. size_at bs block) blocks_same ∙ set.with.0.size block here
         where
           not_short : (old.len ≤ 8192 → ⊥) → 8192 < old.len
@@ -246,14 +198,12 @@ module _ {H : Type 0} (hash_of : H → List ℕ → ℕ) (t : TableState H) (nam
       beside_left =
           let spared = (spare_at s set.is).1 in
           record {
-            room = ap (λ (x : Piece). x.room) (piece_left m.chunks (place_of old) (place_of name) apart) ∙ room_at (place_of name) ∙ spared.room;
+            room = ap (λ (x : Piece). x.room) (piece_at-without m.chunks (place_of old) (place_of name) apart) ∙ room_at (place_of name) ∙ spared.room;
             own = λ long here. spared.own long (sym first_same ∙ here);
           }
 
       kept : IsTrue (is_live freed.chunks name) × (bytes_of freed.chunks name ≡ bytes_at mid t.buckets name)
-      kept =
-          let told = keeps name apart written.lives in
-          (subst (λ (c : Context). IsTrue (has_chunk c name)) is_freed told.1, subst (λ (c : Context). chunk_bytes c name ≡ bytes_at mid t.buckets name) is_freed told.2)
+      kept = search rules
 
       pub larger_moved : IsStanding hash_of moved after
       larger_moved =
@@ -269,7 +219,7 @@ module _ {H : Type 0} (hash_of : H → List ℕ → ℕ) (t : TableState H) (nam
           omega (arith, now_held, was_held, less (nat_lt LARGEST (piece_at m.chunks (place_of old)).room))
         where
           less : (large : Bool) → total (cond large (slice_set m.blocks old.block None) m.blocks) ≤ total m.blocks
-          less true = total_less m.blocks old.block
+          less true = omega (arith, total_without m.blocks old.block)
           less false = omega arith
 
       pub larger_holds : (number : ℕ) → IsSetWith (HoldsNext t.array (Some name) number) b → IsSetWith (HoldsArray (Some name) (number + 1)) (context_at after t.buckets)
@@ -277,26 +227,3 @@ module _ {H : Type 0} (hash_of : H → List ℕ → ℕ) (t : TableState H) (nam
           let all : AreArraysHeld s t.array name number = subst (IsSetWith (HoldsNext t.array (Some name) number)) set.is holds in
           set_with (HoldsArray (Some name) (number + 1)) (context_at after t.buckets) freed is_freed
           (larger_settled s m old name number (subst (λ a. AreArraysHeld s a name number) array all) blocks_same (room_at (place_of old) ∙ was.beside.room))
-
--- the array of a table is one in its tree, and still is when another was written over
-module _ {H : Type 0} (hash_of : H → List ℕ → ℕ) (t : TableState H) (tree : TreeState) (is : IsStanding hash_of t tree) (old : ChunkName) (array : t.array ≡ Some old) where
-  abbrev its_set : SetOf (λ s. IsFirst s × HasArray hash_of t (context_at tree t.keys) t.array s) (context_at tree t.buckets)
-  its_set = set_of (λ s. IsFirst s × HasArray hash_of t (context_at tree t.keys) t.array s) (context_at tree t.buckets) is.stands.set
-
-  its_array : IsArrayIn hash_of t (context_at tree t.keys) its_set.set old
-  its_array = subst (λ a. HasArray hash_of t (context_at tree t.keys) a its_set.set) array its_set.with.1
-
-  pub array_there : IsArrayAt tree t.buckets old
-  array_there = record {
-    there = is.placed.buckets.there;
-    within = is.placed.buckets.within;
-    set = its_set.set;
-    is_set = its_set.is;
-    lives = subst (λ (c : Context). IsTrue (has_chunk c old)) (sym its_set.is) its_array.lives;
-    whole = its_array.whole;
-  }
-
-  pub array_after : (after : TreeState) (name : ChunkName) → OnlyIn t.buckets tree after → IsRewritten (context_at tree t.buckets) (context_at after t.buckets) name → same_place (place_of name) (place_of old) ≡ false → IsArrayAt after t.buckets old
-  array_after after name only written apart =
-      let placed = placed_kept t tree after (same_links t.buckets tree after only) (same_number t.buckets tree after only) is.placed in
-      record { there = placed.buckets.there; within = placed.buckets.within; set = written.new; is_set = written.after_is; lives = (written.keeps old apart array_there.lives).1; whole = its_array.whole }

@@ -1,6 +1,6 @@
 -- A group comes into the table.
 use Rattle.std.specs.Prelude.{◌≡◌, refl, ℕ, zero, suc, ◌+◌, ◌*◌, ◌/◌, ◌<◌, ◌≤◌, ◌⊎◌, true, false, List, [], ◌∷◌, ◌++◌, Some, None, length, slice_get, is_some, unwrap_or, IsTrue}
-use Rattle.std.proofs.Common.{inl, inr, sym, ◌∙◌, ap, subst, arith}
+use Rattle.std.proofs.Common.{inl, inr, sym, ◌∙◌, ap, subst, arith, rules}
 use Rattle.std.proofs.lemmas.Bool.{cases_eq, false≢true}
 use Rattle.std.proofs.lemmas.List.{length_push}
 use Rattle.chunk_layout.specs.Pieces.{same_place, place_of, piece_at}
@@ -19,7 +19,8 @@ use Rattle.group_table.specs.declared.table.Slot.{Slot}
 use Rattle.group_table.proofs.ArrayLaws.{one_set}
 use Rattle.group_table.proofs.MoveLaws.{same_back}
 use Rattle.group_table.proofs.StandLaws.{SetOf, set_of, set_with}
-use Rattle.group_table.proofs.TreeFacts.{at_other, placed_kept, same_links, same_number}
+use Rattle.group_table.proofs.TreeFacts.{placed_kept, same_links, same_number}
+use Rattle.group_table.proofs.InsertLaws.{keys_left, states_left}
 
 -- a member of a list with one more
 module _ {X : Type 0} where
@@ -27,11 +28,7 @@ module _ {X : Type 0} where
   at_push [] x y zero is = inr (refl, ap (λ o. unwrap_or o y) is)
   at_push [] x y (suc i) is = inl is
   at_push (z ∷ xs) x y zero is = inl is
-  at_push (z ∷ xs) x y (suc i) is = next (at_push xs x y i is)
-    where
-      next : (slice_get xs i ≡ Some y) ⊎ ((i ≡ length xs) × (x ≡ y)) → (slice_get (z ∷ xs) (suc i) ≡ Some y) ⊎ ((suc i ≡ length (z ∷ xs)) × (x ≡ y))
-      next (inl there) = inl there
-      next (inr last) = inr (ap suc last.0, last.1)
+  at_push (z ∷ xs) x y (suc i) is = elim (at_push xs x y i is) [ inl there ↦ inl there | inr last ↦ inr (ap suc last.0, last.1) ]
 
   pub old_at : (xs : List X) (x y : X) (i : ℕ) → slice_get xs i ≡ Some y → slice_get (xs ++ x ∷ []) i ≡ Some y
   old_at [] x y i is = absurd (false≢true (ap is_some is))
@@ -97,25 +94,13 @@ module _ {H : Type 0} (hash_of : H → List ℕ → ℕ) (t : TableState H) (slo
 
     groups_more : AreGroups more keys states
     groups_more = record {
-      keys_live = λ x there. key_live x (which x there);
-      states_live = λ x there. state_live x (which x there);
-      widths = λ x there. width x (which x there);
+      keys_live = λ x there. elim (which x there) [ inl old ↦ is.stands.groups.keys_live x old | inr same ↦ subst (λ (y : Slot). IsTrue (has_chunk keys y.key)) same next.key_live ];
+      states_live = λ x there. elim (which x there) [ inl old ↦ is.stands.groups.states_live x old | inr same ↦ subst (λ (y : Slot). IsTrue (has_chunk states y.state)) same next.state_live ];
+      widths = λ x there. elim (which x there) [ inl old ↦ is.stands.groups.widths x old | inr same ↦ subst (λ (y : Slot). y.state.len ≡ t.width) same next.width ];
       once = λ i j x y at_i at_j same. once i j x y (at_push t.slots slot x i at_i) (at_push t.slots slot y j at_j) same;
       own = λ i j x y at_i at_j same. own i j x y (at_push t.slots slot x i at_i) (at_push t.slots slot y j at_j) same;
     }
       where
-        key_live : (x : Slot) → (IsSlot t x) ⊎ (slot ≡ x) → IsTrue (has_chunk keys x.key)
-        key_live x (inl there) = is.stands.groups.keys_live x there
-        key_live x (inr same) = subst (λ (y : Slot). IsTrue (has_chunk keys y.key)) same next.key_live
-
-        state_live : (x : Slot) → (IsSlot t x) ⊎ (slot ≡ x) → IsTrue (has_chunk states x.state)
-        state_live x (inl there) = is.stands.groups.states_live x there
-        state_live x (inr same) = subst (λ (y : Slot). IsTrue (has_chunk states y.state)) same next.state_live
-
-        width : (x : Slot) → (IsSlot t x) ⊎ (slot ≡ x) → x.state.len ≡ t.width
-        width x (inl there) = is.stands.groups.widths x there
-        width x (inr same) = subst (λ (y : Slot). y.state.len ≡ t.width) same next.width
-
         once : (i j : ℕ) (x y : Slot) → (slice_get t.slots i ≡ Some x) ⊎ ((i ≡ length t.slots) × (slot ≡ x)) → (slice_get t.slots j ≡ Some y) ⊎ ((j ≡ length t.slots) × (slot ≡ y)) → chunk_bytes keys x.key ≡ chunk_bytes keys y.key → i ≡ j
         once i j x y (inl at_i) (inl at_j) same = is.stands.groups.once i j x y at_i at_j same
         once i j x y (inl at_i) (inr (last, it)) same = absurd (absent x (i, at_i) (same ∙ ap (λ (s : Slot). chunk_bytes keys s.key) (sym it) ∙ next.key_is))
@@ -150,9 +135,7 @@ module _ {H : Type 0} (hash_of : H → List ℕ → ℕ) (t : TableState H) (slo
       index_at = subst (λ (c : Context). IsIndex (chunk_bytes c name) (count_of name)) (sym set.is) was.array.index
 
       pub room_at : in_use (bytes_at tree t.buckets name) (count_of name) < count_of name
-      room_at =
-          let same : room.0 ≡ name = ap (λ o. unwrap_or o name) (sym room.1 ∙ array) in
-          omega (arith, ap (λ (c : Context). in_use (chunk_bytes c name) (count_of name)) set.is, was.array.number, room.2, ap count_of same)
+      room_at = search rules
 
       module _ (after : TreeState) (only : OnlyIn t.buckets tree after) (written : IsRewritten b (context_at after t.buckets) name) (index : IsIndex (bytes_at after t.buckets name) (count_of name))
           (number : in_use (bytes_at after t.buckets name) (count_of name) ≡ in_use (bytes_at tree t.buckets name) (count_of name) + 1) (hash : ℕ) (hashed : hash ≡ hash_of t.hash key)
@@ -167,10 +150,7 @@ module _ {H : Type 0} (hash_of : H → List ℕ → ℕ) (t : TableState H) (slo
         first_same = written.first ∙ ap (λ (x : SetState). x.first) same_set
 
         first_kept : IsFirst n
-        first_kept = record {
-          none = λ gone. written.blocks ∙ ap (λ (x : SetState). x.blocks) same_set ∙ set.with.0.none (sym first_same ∙ gone);
-          size = λ block here. ap (λ bs. Rattle.chunk_layout.specs.Pieces.size_at bs block) (written.blocks ∙ ap (λ (x : SetState). x.blocks) same_set) ∙ set.with.0.size block (sym first_same ∙ here);
-        }
+        first_kept = search rules
 
         one_name : (other : ChunkName) → t.array ≡ Some other → other ≡ name
         one_name other is_other = ap (λ o. unwrap_or o name) (sym is_other ∙ array)
@@ -194,10 +174,10 @@ module _ {H : Type 0} (hash_of : H → List ℕ → ℕ) (t : TableState H) (slo
         }
 
         same_keys : context_at after t.keys ≡ keys
-        same_keys = ap (λ (x : TreeState). context_at x t.keys) only ∙ at_other tree t.buckets (context_at after t.buckets) t.keys (λ same. is.placed.keys_apart.differ (sym same))
+        same_keys = keys_left t tree after only is.placed
 
         same_states : context_at after t.states ≡ states
-        same_states = ap (λ (x : TreeState). context_at x t.states) only ∙ at_other tree t.buckets (context_at after t.buckets) t.states (λ same. is.placed.states_apart.differ (sym same))
+        same_states = states_left t tree after only is.placed
 
         pub stands_more : IsStanding hash_of more after
         stands_more =

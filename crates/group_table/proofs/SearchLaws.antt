@@ -1,7 +1,7 @@
 -- A key that is in an array is found.
-use Rattle.std.specs.Prelude.{◌≡◌, ◌≢◌, refl, ℕ, suc, ◌+◌, ◌<◌, ◌≤◌, ◌⊎◌, ◌&&◌, ◌||◌, nat_le, nat_lt, Bool, true, false, List, Option, Some, None, is_some, unwrap_or, if◌then◌else◌}
+use Rattle.std.specs.Prelude.{◌≡◌, ◌≢◌, ℕ, ◌+◌, ◌<◌, ◌≤◌, ◌⊎◌, true, List, Option, Some, None, is_some}
 use Rattle.std.proofs.Common.{inl, inr, sym, ◌∙◌, ap, subst, arith}
-use Rattle.std.proofs.lemmas.Bool.{cases_eq, cases_lt, leb-true, le-leb, false≢true, false_from_ne_true}
+use Rattle.std.proofs.lemmas.Bool.{cases_eq, cases_lt, false≢true}
 use Rattle.context_tree.specs.Contexts.{chunk_bytes}
 use Rattle.context_tree.specs.declared.context.Context.{Context}
 use Rattle.group_table.specs.Buckets.{bucket_at}
@@ -11,6 +11,8 @@ use Rattle.group_table.specs.declared.bucket.Bucket.{Bucket}
 use Rattle.group_table.specs.declared.search.Probe.{Probe}
 use Rattle.group_table.specs.declared.search.Probe.TheVariants.{Free, Passed}
 use Rattle.group_table.proofs.IndexLaws.{one_more}
+use Rattle.std.proofs.lemmas.Bool.Decides.{nat_tests}
+use Rattle.std.proofs.lemmas.Grind.{common_steps}
 
 -- one more bucket that is another's
 pub next_other : (keys : Context) (array : List ℕ) (hash : ℕ) (key : List ℕ) (from n : ℕ) (b : Bucket)
@@ -20,40 +22,24 @@ next_other keys array hash key from n b before is differs = one_more (IsOther ke
 
 -- a bucket of another key is not that of this key
 not_other : (keys : Context) (array : List ℕ) (hash : ℕ) (key : List ℕ) (place : ℕ) (b : Bucket) → IsOther keys array hash key place → bucket_at array place ≡ Some b → b.hash ≡ hash → chunk_bytes keys b.key ≢ key
-not_other keys array hash key place b (x, is, differs) there same =
-    let one : x ≡ b = ap (λ o. unwrap_or o b) (sym is ∙ there) in
-    subst (λ (y : Bucket). y.hash ≡ hash → chunk_bytes keys y.key ≢ key) one differs same
+not_other keys array hash key place b (x, is, differs) there same = grind (arith, nat_tests, common_steps)
 
 -- a free bucket has no key, and no search passes it
 not_free : (o : Option Bucket) → o ≡ None → is_some o ≡ true → ⊥
 not_free o none is = false≢true (sym (ap is_some none) ∙ is)
 
 low_passed : (start end place : ℕ) → start ≤ end → start ≤ place → place < end → passes start end place ≡ true
-low_passed start end place order low high =
-    ap (λ b. if b then nat_le start place && nat_lt place end else (nat_le start place || nat_lt place end)) (le-leb start end order)
-    ∙ ap (λ b. b && nat_lt place end) (le-leb start place low)
-    ∙ le-leb (suc place) end (omega (arith, high))
+low_passed start end place order low high = grind (arith, nat_tests)
 
 high_passed : (start end place : ℕ) → end < start → (start ≤ place) ⊎ (place < end) → passes start end place ≡ true
-high_passed start end place order there =
-    ap (λ b. if b then nat_le start place && nat_lt place end else (nat_le start place || nat_lt place end)) (false_from_ne_true (nat_le start end) (λ is. omega (arith, order, leb-true start end is)))
-    ∙ by there
-  where
-    or_true : (b : Bool) → b || true ≡ true
-    or_true true = refl
-    or_true false = refl
-
-    by : (start ≤ place) ⊎ (place < end) → nat_le start place || nat_lt place end ≡ true
-    by (inl above) = ap (λ b. b || nat_lt place end) (le-leb start place above)
-    by (inr below) = ap (λ b. nat_le start place || b) (le-leb (suc place) end (omega (arith, below))) ∙ or_true (nat_le start place)
+high_passed start end place order (inl above) = grind (arith, nat_tests)
+high_passed start end place order (inr below) = grind (arith, nat_tests)
 
 -- a key that is at a place, and a search that comes to a free bucket, or to none
 module _ (keys : Context) (array : List ℕ) (count start hash : ℕ) (key : List ℕ) (index : IsIndex array count) (from : start ≡ start_of hash count) where
   -- no search for the hash passes a free bucket before it comes to the key
   free_on_path : (b : Bucket) (place free : ℕ) → place < count → bucket_at array place ≡ Some b → b.hash ≡ hash → free < count → bucket_at array free ≡ None → passes start place free ≡ true → ⊥
-  free_on_path b place free within is same free_within none on =
-      not_free (bucket_at array free) none (index.found place b within is free free_within
-      (subst (λ s. passes s place free ≡ true) (from ∙ ap (λ h. start_of h count) (sym same)) on))
+  free_on_path b place free within is same free_within none on = grind (arith, nat_tests, common_steps)
 
   there_and_free : (b : Bucket) (place : ℕ) → bucket_at array place ≡ Some b → bucket_at array place ≡ None → ⊥
   there_and_free b place is none = not_free (bucket_at array place) none (ap is_some is)

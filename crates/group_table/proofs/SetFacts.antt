@@ -1,29 +1,38 @@
 -- What a set of arrays keeps when chunks are taken and given up.
-use Rattle.std.specs.Prelude.{◌≡◌, ◌≢◌, refl, ℕ, zero, suc, ◌+◌, ◌<◌, ◌==◌, ◌&&◌, ◌⊎◌, nat_le, Bool, true, false, List, [], ◌∷◌, Option, Some, None, get_or, unwrap_or, is_some}
+use Rattle.std.specs.Prelude.{◌≡◌, ◌≢◌, refl, ℕ, zero, suc, ◌+◌, ◌<◌, ◌⊎◌, nat_le, true, false, List, [], ◌∷◌, Option, Some, None, get_or, unwrap_or, is_some}
 use Rattle.std.proofs.Common.{inl, inr, sym, ◌∙◌, ap, subst, arith}
-use Rattle.std.proofs.lemmas.Bool.{leb-true, le-leb, false≢true, false_from_ne_true, cond-true, eq-eqb}
-use Rattle.chunk_layout.specs.Pieces.{Piece, same_place, place_of, is_at, has, piece_at, size_at, total, with_block}
-use Rattle.chunk_layout.specs.declared.place.Place.{Place}
+use Rattle.std.proofs.lemmas.Bool.{leb-true, false≢true, false_from_ne_true, cond-true}
+use Rattle.chunk_layout.specs.Pieces.{Piece, place_of, is_at, has, piece_at, size_at, total, with_block}
 use Rattle.chunk_layout.specs.declared.place.ChunkName.{ChunkName}
 use Rattle.chunk_contexts.specs.Chunks.{chunk_of}
 use Rattle.chunk_contexts.specs.Rooms.{over_most, rooms, room_of, class_of}
 use Rattle.chunk_contexts.specs.Free.{is_in}
-use Rattle.chunk_contexts.specs.Set.{SetState, new_set, set_room, set_growth, set_taken, growth_by, taken_by, dedicated}
+use Rattle.chunk_contexts.specs.Set.{SetState, new_set, set_room, set_growth, set_taken, taken_by, dedicated}
 use Rattle.group_table.specs.Standing.{IsFirst, IsBesideFirst, HasFirst}
 use Rattle.chunk_contexts.specs.declared.rooms.TheConstants.{LARGEST}
+use Rattle.chunk_layout.specs.FindingLaws.{place-same}
+use Rattle.std.proofs.lemmas.Bool.Decides.{nat_tests}
+use Rattle.std.proofs.lemmas.Grind.{common_steps}
 
 -- the size of a block, where another one came, and the sum of all
-size_kept : (bs : List (Option ℕ)) (block x first : ℕ) → size_at bs first ≡ 16384 → first ≢ block → size_at (with_block bs block x) first ≡ 16384
-size_kept [] block x first is differ = absurd (omega (arith, is))
-size_kept (b ∷ bs) zero x zero is differ = absurd (differ refl)
-size_kept (b ∷ bs) zero x (suc first) is differ = is
-size_kept (b ∷ bs) (suc block) x zero is differ = is
-size_kept (b ∷ bs) (suc block) x (suc first) is differ = size_kept bs block x first is (λ same. differ (ap suc same))
+pub size_beside : (bs : List (Option ℕ)) (block x other : ℕ) → 0 < size_at bs other → other ≢ block → size_at (with_block bs block x) other ≡ size_at bs other
+size_beside [] block x other some differ = absurd (omega (arith, some))
+size_beside (b ∷ bs) zero x zero some differ = absurd (differ refl)
+size_beside (b ∷ bs) zero x (suc other) some differ = refl
+size_beside (b ∷ bs) (suc block) x zero some differ = refl
+size_beside (b ∷ bs) (suc block) x (suc other) some differ = size_beside bs block x other some (λ same. differ (ap suc same))
 
 pub sum_with : (bs : List (Option ℕ)) (block x : ℕ) → total (with_block bs block x) + size_at bs block ≡ total bs + x
 sum_with [] block x = omega arith
 sum_with (b ∷ bs) zero x = omega arith
 sum_with (b ∷ bs) (suc block) x = omega (arith, sum_with bs block x)
+
+-- a chunk that is longer than each class has
+pub not_classed : (n : ℕ) → 8192 < n → nat_le n LARGEST ≡ false
+not_classed n large = false_from_ne_true (nat_le n LARGEST) (λ is. omega (arith, large, leb-true n LARGEST is))
+
+pub large_grows : (s : SetState) (n : ℕ) → 8192 < n → over_most n ≡ None → set_growth s n ≡ set_room n + 8
+large_grows s n large allowed = grind (arith, nat_tests, common_steps)
 
 -- the first block is not the one of a chunk that got a block of its own
 pub not_first : (s : SetState) (block x : ℕ) → IsFirst s → total (with_block s.blocks block x) ≡ total s.blocks + x → s.first ≢ Some block
@@ -33,13 +42,10 @@ not_first s block x first more same = omega (arith, more, sum_with s.blocks bloc
 pub first_kept : (s : SetState) (p : Piece) → IsFirst s → is_some s.first ≡ true → total (dedicated s p).blocks ≡ total s.blocks + (p.room + 8) → IsFirst (dedicated s p)
 first_kept s p first some more = record {
   none = λ no. absurd (false≢true (sym (ap is_some no) ∙ some));
-  size = λ block is. size_kept s.blocks p.place.block (p.room + 8) block (first.size block is) (λ same. not_first s p.place.block (p.room + 8) first more (is ∙ ap (λ b. Some b) same));
+  size = λ block is. size_beside s.blocks p.place.block (p.room + 8) block (omega (arith, first.size block is)) (λ same. not_first s p.place.block (p.room + 8) first more (is ∙ ap (λ b. Some b) same)) ∙ first.size block is;
 }
 
 -- a chunk is taken
-same_self : (place : Place) → same_place place place ≡ true
-same_self place = ap (λ b. b && (place.offset == place.offset)) (eq-eqb place.block place.block refl) ∙ eq-eqb place.offset place.offset refl
-
 module _ (s : SetState) (n : ℕ) (name : ChunkName) (bytes : List ℕ) where
   abbrev pub p : Piece
   p = chunk_of name (set_room n) bytes
@@ -48,23 +54,15 @@ module _ (s : SetState) (n : ℕ) (name : ChunkName) (bytes : List ℕ) where
   taken = set_taken s n p
 
   room_of_new : (chunks : List Piece) → (piece_at (p ∷ chunks) (place_of name)).room ≡ set_room n
-  room_of_new chunks = ap (λ (x : Piece). x.room) (cond-true (is_at (place_of name) p) p (piece_at chunks (place_of name)) (same_self (place_of name)))
+  room_of_new chunks = ap (λ (x : Piece). x.room) (cond-true (is_at (place_of name) p) p (piece_at chunks (place_of name)) (place-same (place_of name)))
 
   -- one with a block of its own
   module _ (large : 8192 < n) (allowed : over_most n ≡ None) (more : total taken.blocks ≡ total s.blocks + set_growth s n) (len : name.len ≡ n) (first : IsFirst s) (some : is_some s.first ≡ true) where
-    not_classed : nat_le n LARGEST ≡ false
-    not_classed = false_from_ne_true (nat_le n LARGEST) (λ is. omega (arith, large, leb-true n LARGEST is))
-
     is_dedicated : taken ≡ dedicated s p
-    is_dedicated = ap (λ b. taken_by b (is_in p.room s.free) (nat_le (p.room + 8) s.left) s p) not_classed
-
-    growth : set_growth s n ≡ set_room n + 8
-    growth =
-        ap (λ o. growth_by (is_some o) (nat_le n LARGEST) (is_in (set_room n) s.free) (nat_le (set_room n + 8) s.left) s (set_room n)) allowed
-        ∙ ap (λ b. growth_by false b (is_in (set_room n) s.free) (nat_le (set_room n + 8) s.left) s (set_room n)) not_classed
+    is_dedicated = ap (λ b. taken_by b (is_in p.room s.free) (nat_le (p.room + 8) s.left) s p) (not_classed n large)
 
     sum : total (dedicated s p).blocks ≡ total s.blocks + (p.room + 8)
-    sum = ap (λ (x : SetState). total x.blocks) (sym is_dedicated) ∙ more ∙ ap (λ m. total s.blocks + m) growth
+    sum = ap (λ (x : SetState). total x.blocks) (sym is_dedicated) ∙ more ∙ ap (λ m. total s.blocks + m) (large_grows s n large allowed)
 
     pub large_first : IsFirst taken
     large_first = subst IsFirst (sym is_dedicated) (first_kept s p first some sum)
@@ -105,21 +103,9 @@ module _ (s : SetState) (name : ChunkName) (bytes : List ℕ) where
 
   fits : HasFirst s → (taken_first.blocks ≡ s.blocks) × (taken_first.first ≡ s.first) × (taken_first.chunks ≡ q ∷ s.chunks)
   unfolding room_of class_of rooms
-  fits has = by (is_in 8192 s.free) (nat_le 8200 s.left) (le-leb 8200 s.left has.left)
-    where
-      by : (free fit : Bool) → fit ≡ true → ((taken_by true free fit s q).blocks ≡ s.blocks) × ((taken_by true free fit s q).first ≡ s.first) × ((taken_by true free fit s q).chunks ≡ q ∷ s.chunks)
-      by true fit is = (refl, refl, refl)
-      by false true is = (refl, refl, refl)
-      by false false is = absurd (false≢true is)
+  fits has = grind (arith, nat_tests, common_steps)
 
   module _ (first : IsFirst s) (space : (s ≡ new_set) ⊎ HasFirst s) (there : is_some (get_or taken_first.blocks name.block None) ≡ true) where
-    first_chunks_by : (s ≡ new_set) ⊎ HasFirst s → taken_first.chunks ≡ q ∷ s.chunks
-    first_chunks_by (inl new) = (new_blocks new).2
-    first_chunks_by (inr has) = (fits has).2
-
-    pub first_chunks : taken_first.chunks ≡ q ∷ s.chunks
-    first_chunks = first_chunks_by space
-
     first_some_by : (s ≡ new_set) ⊎ HasFirst s → is_some taken_first.first ≡ true
     first_some_by (inl new) = ap is_some (new_blocks new).1
     first_some_by (inr has) = ap is_some (fits has).1 ∙ has.some
@@ -144,7 +130,4 @@ module _ (s : SetState) (name : ChunkName) (bytes : List ℕ) where
     first_first = first_first_by space
 
     pub first_beside : name.len ≡ 8192 → IsBesideFirst taken_first name
-    first_beside len = record {
-      room = ap (λ ps. (piece_at ps (place_of name)).room) first_chunks ∙ room_of_new s 8192 name bytes s.chunks ∙ ap set_room (sym len);
-      own = λ long is. omega (arith, len, long);
-    }
+    first_beside len = grind (arith, nat_tests, common_steps)

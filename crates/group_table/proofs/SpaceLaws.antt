@@ -1,24 +1,23 @@
 -- What a table holds is what is counted for its keys.
-use Rattle.std.specs.Prelude.{◌≡◌, ◌≢◌, refl, ℕ, zero, suc, ◌+◌, ◌-◌, ◌*◌, ◌<◌, ◌≤◌, ◌⊎◌, ◌==◌, ◌&&◌, ◌^◌, nat_le, ◌/◌, if◌then◌else◌, Bool, true, false, cond, List, [], ◌∷◌, ◌++◌, Option, Some, None, map, length, replicate, get_or, is_some, IsTrue, Result, Ok, Err, OnOk}
-use Rattle.std.proofs.Common.{inl, inr, sym, ◌∙◌, ap, subst, arith}
-use Rattle.std.proofs.lemmas.Bool.{cases_lt, lt-ltb, le-ltb, le-leb, leb-true, false_from_ne_true, false≢true, eq-eqb, ne_eqb}
-use Rattle.std.proofs.lemmas.List.{length-map, length_push, map_push}
+use Rattle.std.specs.Prelude.{◌≡◌, ◌≢◌, refl, ℕ, zero, suc, ◌+◌, ◌-◌, ◌*◌, ◌<◌, ◌≤◌, ◌⊎◌, ◌==◌, ◌&&◌, ◌^◌, nat_le, ◌/◌, if◌then◌else◌, true, false, cond, List, [], ◌∷◌, ◌++◌, Option, Some, None, map, length, replicate, get_or, is_some, IsTrue, Result, Ok, Err, OnOk}
+use Rattle.std.proofs.Common.{inl, inr, sym, ◌∙◌, ap, subst, arith, rules}
+use Rattle.std.proofs.lemmas.Bool.{le-leb, leb-true, false_from_ne_true, false≢true, eq-eqb, ne_eqb, and_right}
+use Rattle.std.proofs.lemmas.List.{length-map, length_push}
 use Rattle.std.proofs.lemmas.Simd.{map-map}
-use Rattle.std.proofs.Math.Nat.{div-eq_of_lt}
 use Rattle.chunk_layout.specs.Pieces.{Piece, total, rewritten, is_at, with_bytes_of}
 use Rattle.chunk_layout.specs.declared.place.Place.{Place}
 use Rattle.chunk_layout.specs.declared.place.ChunkName.{ChunkName}
 use Rattle.block_memory.specs.Cells.{zeros}
 use Rattle.chunk_contexts.specs.Chunks.{chunk_of as as_chunk}
 use Rattle.chunk_contexts.specs.Rooms.{rounded}
-use Rattle.chunk_contexts.specs.Run.{RunState, new_run, run_growth, run_taken}
+use Rattle.chunk_contexts.specs.Run.{RunState}
 use Rattle.chunk_contexts.specs.Set.{SetState, set_room, set_growth, set_taken}
-use Rattle.chunk_contexts.specs.Slab.{SlabState, new_slab, slab_block, slab_growth, slab_taken}
+use Rattle.chunk_contexts.specs.Slab.{SlabState, slab_block, slab_growth, slab_taken}
 use Rattle.context_tree.specs.Contexts.{blocks_of, chunk_bytes, with_bytes, with_chunk, reset_context, room_in, growth_of, held_by, IsCounted}
 use Rattle.context_tree.specs.Tree.{TreeState, context_at, with_context, held_below}
 use Rattle.context_tree.specs.declared.context.Context.{Context}
-use Rattle.context_tree.specs.declared.context.Context.TheVariants.{AllocSet, Slab, Generation, Bump}
-use Rattle.aggregation_cost.specs.Space.{Key, buckets, bucket_blocks, key_blocks, chunk_of, quotient_up, state_blocks, need, held_after, fits}
+use Rattle.context_tree.specs.declared.context.Context.TheVariants.{AllocSet, Slab, Bump}
+use Rattle.aggregation_cost.specs.Space.{Key, buckets, bucket_blocks, key_blocks, state_blocks, need, held_after, fits}
 use Rattle.group_table.specs.Table.{TableState, groups, buckets_in, buckets_for, most_buckets, array_growth, group_growth, held_in, IsSameBut}
 use Rattle.group_table.specs.Standing.{IsSetWith, IsBump, IsSlabOf, IsFirst, HasArray, HasSpace, IsPlaced, IsTableIn, IsSameFor}
 use Rattle.group_table.specs.Arrays.{OnlyIn, with_next, with_spare}
@@ -28,11 +27,15 @@ use Rattle.context_tree.specs.declared.links.ContextId.{ContextId}
 use Rattle.group_table.specs.Space.{key_of, keys_in, IsRunWith, IsSlabWith, HoldsArray, AreArraysHeld, HoldsNext, HoldsKeyBlocks, AreOfSize, HoldsStates, HoldsKeys}
 use Rattle.group_table.specs.declared.table.Slot.{Slot}
 use Rattle.group_table.proofs.BlockLaws.{same_or_twice, wanted_is, count_is, array_grows, space_held, still_held, first_taken, larger_taken}
-use Rattle.group_table.proofs.CountLaws.{some_fit, key_grows, key_left, state_grows, state_growth_is, one_state_more}
+use Rattle.group_table.proofs.CountLaws.{key_grows, state_grows, state_growth_is, one_state_more}
 use Rattle.group_table.proofs.StandLaws.{SetOf, set_of, set_with}
 use Rattle.group_table.proofs.InsertLaws.{keys_left, states_left}
 use Rattle.group_table.proofs.TakeLaws.{not_over}
 use Rattle.group_table.proofs.TreeFacts.{at_same, at_other, held_with}
+use Rattle.group_table.proofs.ClearLaws.{total_none}
+use Rattle.std.proofs.Math.Bool.{and-true}
+use Rattle.std.proofs.lemmas.Bool.Decides.{nat_tests}
+use Rattle.std.proofs.lemmas.Grind.{common_steps}
 
 -- the run of a bump, and what a slab holds
 pub record RunOf (P : RunState → Type 0) (c : Context) : Type 0 where
@@ -41,10 +44,8 @@ pub record RunOf (P : RunState → Type 0) (c : Context) : Type 0 where
   pub with : P run
 
 pub run_of : (P : RunState → Type 0) (c : Context) → IsRunWith P c → RunOf P c
-run_of P (AllocSet s) none = absurd none
-run_of P (Slab s) none = absurd none
-run_of P (Generation s) none = absurd none
 run_of P (Bump s) with = record { run = s; is = refl; with = with }
+run_of P _ none = absurd none
 
 pub record SlabOf (P : SlabState → Type 0) (c : Context) : Type 0 where
   pub slab : SlabState
@@ -52,20 +53,12 @@ pub record SlabOf (P : SlabState → Type 0) (c : Context) : Type 0 where
   pub with : P slab
 
 pub slab_of : (P : SlabState → Type 0) (c : Context) → IsSlabWith P c → SlabOf P c
-slab_of P (AllocSet s) none = absurd none
 slab_of P (Slab s) with = record { slab = s; is = refl; with = with }
-slab_of P (Generation s) none = absurd none
-slab_of P (Bump s) none = absurd none
+slab_of P _ none = absurd none
 
 -- no state takes no block
 pub no_states : (width : ℕ) → state_blocks width 0 ≡ 0
-no_states width = elim (cases_lt 8192 (chunk_of width)) [
-  | inl long ↦ ap (λ (b : Bool). if b then 0 * chunk_of width else 8192 * quotient_up 0 (8192 / chunk_of width)) (lt-ltb 8192 (chunk_of width) long) ∙ omega arith
-  | inr short ↦
-      let per : 0 + (8192 / chunk_of width - 1) < 8192 / chunk_of width = omega (arith, some_fit (chunk_of width) (omega arith) short) in
-      ap (λ (b : Bool). if b then 0 * chunk_of width else 8192 * quotient_up 0 (8192 / chunk_of width)) (le-ltb 8192 (chunk_of width) short)
-      ∙ ap (λ q. 8192 * q) (div-eq_of_lt per)
-]
+no_states width = grind (arith, nat_tests, common_steps)
 
 module _ {H : Type 0} (t : TableState H) where
   -- keys are those of one context
@@ -110,14 +103,9 @@ module _ {H : Type 0} (hash_of : H → List ℕ → ℕ) (t : TableState H) (tre
 
     -- more buckets than there may be
     pub none_fit : most_buckets < buckets_for (buckets_in t.array) n → (limit : ℕ) (hash : Key → ℕ) → false ≡ fits (record { limit = limit; width = t.width; hash = hash }) keys
-    none_fit many limit hash = sym (by (nat_le (need t.width keys) limit) (nat_le (buckets (length keys)) (2 ^ 24)) over)
-      where
-        over : nat_le (buckets (length keys)) (2 ^ 24) ≡ false
-        over = ap (λ m. nat_le (buckets m) (2 ^ 24)) (keys_more t tree key) ∙ false_from_ne_true (nat_le (buckets (n + 1)) (2 ^ 24)) (λ low. omega (arith, wanted, many, leb-true (buckets (n + 1)) (2 ^ 24) low))
-
-        by : (x y : Bool) → y ≡ false → x && y ≡ false
-        by true y none = none
-        by false y none = refl
+    none_fit many limit hash =
+        let over : nat_le (buckets (length keys)) (2 ^ 24) ≡ false = ap (λ m. nat_le (buckets m) (2 ^ 24)) (keys_more t tree key) ∙ false_from_ne_true (nat_le (buckets (n + 1)) (2 ^ 24)) (λ low. omega (arith, wanted, many, leb-true (buckets (n + 1)) (2 ^ 24) low)) in
+        sym (and_right (nat_le (need t.width keys) limit) (nat_le (buckets (length keys)) (2 ^ 24)) over)
 
     module _ (short : length key ≤ 65535) (counted : IsCounted (context_at tree t.states)) (few : buckets_for (buckets_in t.array) n ≤ most_buckets) where
       buckets_grow : held_by b + array_growth t tree ≡ bucket_blocks (buckets n) (buckets (n + 1))
@@ -150,14 +138,8 @@ module _ {H : Type 0} (hash_of : H → List ℕ → ℕ) (t : TableState H) (tre
 
       pub fit_is : (bytes : ℕ) → bytes ≡ held_below tree t.parent + group_growth t tree (length key) → (limit : ℕ) (hash : Key → ℕ) → nat_le bytes limit ≡ fits (record { limit = limit; width = t.width; hash = hash }) keys
       fit_is bytes told limit hash =
-          ap (λ m. nat_le m limit) (told ∙ need_is) ∙ sym (by (nat_le (need t.width keys) limit) (nat_le (buckets (length keys)) (2 ^ 24)) low)
-        where
-          low : nat_le (buckets (length keys)) (2 ^ 24) ≡ true
-          low = ap (λ m. nat_le (buckets m) (2 ^ 24)) (keys_more t tree key) ∙ le-leb (buckets (n + 1)) (2 ^ 24) (omega (arith, wanted, few))
-
-          by : (x y : Bool) → y ≡ true → x && y ≡ x
-          by true y all = all
-          by false y all = refl
+          let low : nat_le (buckets (length keys)) (2 ^ 24) ≡ true = ap (λ m. nat_le (buckets m) (2 ^ 24)) (keys_more t tree key) ∙ le-leb (buckets (n + 1)) (2 ^ 24) (omega (arith, wanted, few)) in
+          ap (λ m. nat_le m limit) (told ∙ need_is) ∙ sym (ap (λ b. nat_le (need t.width keys) limit && b) low ∙ and-true (nat_le (need t.width keys) limit))
 
   -- what is held between two groups
   key_blocks_held : held_by (context_at tree t.keys) ≡ key_blocks (keys_in t tree)
@@ -194,13 +176,7 @@ module _ {H : Type 0} (hash_of : H → List ℕ → ℕ) (t : TableState H) (tre
 -- ---- the same groups
 module _ {H : Type 0} (t : TableState H) (before after : TreeState) where
   pub holds_stay : IsSameFor t before after → held_below after t.parent ≡ held_below before t.parent → HoldsKeys t before → HoldsKeys t after
-  holds_stay same held holds = record {
-    alone = omega (arith, held, holds.alone, ap held_by same.in_buckets, ap held_by same.in_keys, ap held_by same.in_states);
-    in_buckets = subst (IsSetWith (HoldsArray t.array (length t.slots))) (sym same.in_buckets) holds.in_buckets;
-    in_keys = subst (λ ks. IsRunWith (HoldsKeyBlocks ks) (context_at after t.keys)) (sym (keys_alone t before after same.in_keys))
-        (subst (IsRunWith (HoldsKeyBlocks (keys_in t before))) (sym same.in_keys) holds.in_keys);
-    in_states = subst (IsSlabWith (HoldsStates t.width (length t.slots))) (sym same.in_states) holds.in_states;
-  }
+  holds_stay same held holds = grind (arith, nat_tests, common_steps)
 
 pub holds_spare : {H : Type 0} (t : TableState H) (n : ℕ) (tree : TreeState) → HoldsKeys t tree → HoldsKeys (with_spare t n) tree
 holds_spare t n tree holds = record { alone = holds.alone; in_buckets = holds.in_buckets; in_keys = holds.in_keys; in_states = holds.in_states }
@@ -211,36 +187,12 @@ module _ {H : Type 0} (t : TableState H) (tree : TreeState) (now : TableState H)
       → IsSetWith (HoldsArray now.array (length t.slots + 1)) (context_at after t.buckets)
       → IsRunWith (HoldsKeyBlocks (keys_in t tree ++ key ∷ [])) (context_at after t.keys)
       → IsSlabWith (HoldsStates t.width (length t.slots + 1)) (context_at after t.states) → HoldsKeys now after
-  holds_more slots more alone in_buckets in_keys in_states =
-      let number : length t.slots + 1 ≡ length now.slots = sym (ap length slots ∙ length_push t.slots slot) in
-      let keys : keys_in t tree ++ key ∷ [] ≡ keys_in now after = sym (ap (map key_of) more ∙ map_push key_of (groups t tree) (key, state)) in
-      record {
-        alone = ap (held_below after) same.parent ∙ alone
-            ∙ sym (ap (λ id. held_by (context_at after id) + held_by (context_at after now.keys) + held_by (context_at after now.states)) same.buckets
-            ∙ ap (λ id. held_by (context_at after t.buckets) + held_by (context_at after id) + held_by (context_at after now.states)) same.keys
-            ∙ ap (λ id. held_by (context_at after t.buckets) + held_by (context_at after t.keys) + held_by (context_at after id)) same.states);
-        in_buckets = subst (λ id. IsSetWith (HoldsArray now.array (length now.slots)) (context_at after id)) (sym same.buckets)
-            (subst (λ m. IsSetWith (HoldsArray now.array m) (context_at after t.buckets)) number in_buckets);
-        in_keys = subst (λ id. IsRunWith (HoldsKeyBlocks (keys_in now after)) (context_at after id)) (sym same.keys)
-            (subst (λ ks. IsRunWith (HoldsKeyBlocks ks) (context_at after t.keys)) keys in_keys);
-        in_states = subst (λ id. IsSlabWith (HoldsStates now.width (length now.slots)) (context_at after id)) (sym same.states)
-            (subst (λ w. IsSlabWith (HoldsStates w (length now.slots)) (context_at after t.states)) (sym same.width)
-            (subst (λ m. IsSlabWith (HoldsStates t.width m) (context_at after t.states)) number in_states));
-      }
+  holds_more slots more alone in_buckets in_keys in_states = grind (arith, nat_tests, common_steps)
 
 -- ---- a chunk is taken for a key, and for a state
 pub run_more : (c now : Context) (key : Key) (name : ChunkName) → now ≡ with_chunk c (length key) (as_chunk name (room_in c (length key)) key) → held_by now ≡ held_by c + growth_of c (length key) → length key ≤ 65535
     → (keys : List Key) → IsRunWith (HoldsKeyBlocks keys) c → IsRunWith (HoldsKeyBlocks (keys ++ key ∷ [])) now
-run_more c now key name is more short keys holds =
-    let run = run_of (HoldsKeyBlocks keys) c holds in
-    let p : Piece = as_chunk name (rounded (length key)) key in
-    let taken : now ≡ Bump (run_taken 0 run.run p) = is ∙ ap (λ (x : Context). with_chunk x (length key) (as_chunk name (room_in x (length key)) key)) run.is in
-    let grown : held_by now ≡ total run.run.blocks + run_growth 0 run.run (length key) = more ∙ ap (λ (x : Context). held_by x + growth_of x (length key)) run.is in
-    subst (IsRunWith (HoldsKeyBlocks (keys ++ key ∷ []))) (sym taken)
-    (record {
-      held = sym (ap held_by taken) ∙ grown ∙ key_grows run.run keys key run.with (not_over (length key) (omega (arith, short)));
-      left = key_left run.run keys key run.with p refl;
-    })
+run_more c now key name is more short keys holds = grind (arith, nat_tests, common_steps)
 
 pub slab_more : (c now : Context) (width : ℕ) (state : List ℕ) (name : ChunkName) → now ≡ with_chunk c (length state) (as_chunk name (room_in c (length state)) state) → held_by now ≡ held_by c + growth_of c (length state) → length state ≡ width
     → width ≤ 65535 → IsCounted c → (number : ℕ) → IsSlabWith (HoldsStates width number) c → IsSlabWith (HoldsStates width (number + 1)) now
@@ -344,10 +296,8 @@ length_rewritten (p ∷ ps) place bytes = elim (is_at place p) as (λ b. length 
 ]
 
 slab_alone : (width number : ℕ) (c : Context) (place : Place) (ws : List ℕ) → IsSlabWith (HoldsStates width number) c → IsSlabWith (HoldsStates width number) (with_bytes c place ws) × (held_by (with_bytes c place ws) ≡ held_by c)
-slab_alone width number (AllocSet s) place ws none = absurd none
 slab_alone width number (Slab s) place ws is = (record { size = is.size; chunks = length_rewritten s.chunks place ws ∙ is.chunks; alike = is.alike; held = is.held }, refl)
-slab_alone width number (Generation s) place ws none = absurd none
-slab_alone width number (Bump s) place ws none = absurd none
+slab_alone width number _ place ws none = absurd none
 
 module _ {H : Type 0} (t : TableState H) (tree : TreeState) (placed : IsPlaced t tree) (place : Place) (ws : List ℕ) where
   abbrev now : Context
@@ -371,36 +321,22 @@ module _ {H : Type 0} (t : TableState H) (tree : TreeState) (placed : IsPlaced t
       }
 
 -- ---- no group
-total_none : (n : ℕ) → total (replicate n None) ≡ 0
-total_none zero = refl
-total_none (suc n) = omega (arith, total_none n)
-
 none_of_size : (size n : ℕ) → AreOfSize size (replicate n None)
 none_of_size size zero = tt
 none_of_size size (suc n) = none_of_size size n
 
 pub run_empty : (c : Context) → IsBump c → IsRunWith (HoldsKeyBlocks []) (reset_context c)
-run_empty (AllocSet s) none = absurd none
-run_empty (Slab s) none = absurd none
-run_empty (Generation s) none = absurd none
 run_empty (Bump s) is = record { held = total_none (length s.blocks); left = refl }
+run_empty _ none = absurd none
 
 pub slab_empty : (width : ℕ) (c : Context) → IsSlabOf width c → IsSlabWith (HoldsStates width 0) (reset_context c)
-slab_empty width (AllocSet s) none = absurd none
-slab_empty width (Generation s) none = absurd none
-slab_empty width (Bump s) none = absurd none
 slab_empty width (Slab s) is = record {
   size = is;
   chunks = refl;
   alike = none_of_size (slab_block (rounded width)) (length s.blocks);
   held = total_none (length s.blocks) ∙ sym (no_states width);
 }
-
-pub new_run_holds : IsRunWith (HoldsKeyBlocks []) (Bump new_run)
-new_run_holds = record { held = refl; left = refl }
-
-pub new_slab_holds : (width : ℕ) → IsSlabWith (HoldsStates width 0) (Slab (new_slab width))
-new_slab_holds width = record { size = refl; chunks = refl; alike = tt; held = sym (no_states width) }
+slab_empty width _ none = absurd none
 
 -- a table that was just made
 module _ {H : Type 0} (before after : TreeState) (parent : ContextId) (width : ℕ) (made : Children) (is : AreMade before after parent width made) (hash : H) (spare : ℕ) where
@@ -408,12 +344,7 @@ module _ {H : Type 0} (before after : TreeState) (parent : ContextId) (width : �
   fresh = record { parent = parent; buckets = made.buckets; keys = made.keys; states = made.states; width = width; hash = hash; array = None; slots = []; spare = spare }
 
   pub holds_fresh : held_below before parent ≡ 0 → HoldsKeys fresh after
-  holds_fresh none = record {
-    alone = omega (arith, none, is.held parent, ap held_by is.set, ap held_by is.run, ap held_by is.slab);
-    in_buckets = subst (IsSetWith (HoldsArray None 0)) (sym is.set) refl;
-    in_keys = subst (IsRunWith (HoldsKeyBlocks [])) (sym is.run) new_run_holds;
-    in_states = subst (IsSlabWith (HoldsStates width 0)) (sym is.slab) (new_slab_holds width);
-  }
+  holds_fresh none = search rules
 
 -- ---- what is kept while a group is taken
 pub ok_map : {T E P Q : Type 0} → (r : Result T E) → (P → Q) → OnOk r P → OnOk r Q
@@ -422,26 +353,14 @@ ok_map (Err e) f p = tt
 
 module _ {H : Type 0} (t : TableState H) (next : Option ChunkName) (settled : TableState H) (is : settled ≡ with_next t next) (b e d : TreeState)
     (placed_b : IsPlaced t b) (only_e : OnlyIn t.buckets b e) (placed_e : IsPlaced settled e) (only_d : OnlyIn settled.buckets e d) where
-  same_buckets : (o : Option ChunkName) → (with_next t o).buckets ≡ t.buckets
-  same_buckets None = refl
-  same_buckets (Some name) = refl
-
-  same_keys : (o : Option ChunkName) → (with_next t o).keys ≡ t.keys
-  same_keys None = refl
-  same_keys (Some name) = refl
-
-  same_states : (o : Option ChunkName) → (with_next t o).states ≡ t.states
-  same_states None = refl
-  same_states (Some name) = refl
-
   pub buckets_at : settled.buckets ≡ t.buckets
-  buckets_at = ap (λ (x : TableState H). x.buckets) is ∙ same_buckets next
+  buckets_at = ap (λ (x : TableState H). x.buckets) is
 
   keys_at : settled.keys ≡ t.keys
-  keys_at = ap (λ (x : TableState H). x.keys) is ∙ same_keys next
+  keys_at = ap (λ (x : TableState H). x.keys) is
 
   states_at : settled.states ≡ t.states
-  states_at = ap (λ (x : TableState H). x.states) is ∙ same_states next
+  states_at = ap (λ (x : TableState H). x.states) is
 
   pub keys_after : context_at d t.keys ≡ context_at b t.keys
   keys_after = subst (λ id. context_at d id ≡ context_at e id) keys_at (keys_left settled e d only_d placed_e) ∙ keys_left t b e only_e placed_b

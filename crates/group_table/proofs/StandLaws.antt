@@ -1,18 +1,19 @@
 -- A table stands, whatever else its contexts hold.
-use Rattle.std.specs.Prelude.{◌≡◌, refl, ℕ, ◌/◌, List, ◌∷◌, Option, Some, None, is_some}
-use Rattle.std.proofs.Common.{sym, ◌∙◌, ap, subst}
-use Rattle.std.proofs.lemmas.Bool.{cond-false}
-use Rattle.chunk_layout.specs.Pieces.{Piece, place_of, is_at, piece_at}
+use Rattle.std.specs.Prelude.{◌≡◌, refl, ℕ, ◌/◌, List, ◌∷◌, Option, Some, None}
+use Rattle.std.proofs.Common.{sym, ◌∙◌, ap, subst, arith}
+use Rattle.chunk_layout.specs.Pieces.{Piece}
 use Rattle.chunk_layout.specs.declared.place.ChunkName.{ChunkName}
 use Rattle.chunk_contexts.specs.Chunks.{chunk_of, bytes_of, Keeps}
 use Rattle.chunk_contexts.specs.Set.{SetState}
 use Rattle.context_tree.specs.Contexts.{chunk_bytes, with_chunk}
 use Rattle.context_tree.specs.declared.context.Context.{Context}
-use Rattle.context_tree.specs.declared.context.Context.TheVariants.{AllocSet, Slab, Generation, Bump}
+use Rattle.context_tree.specs.declared.context.Context.TheVariants.{AllocSet, Slab, Bump}
 use Rattle.group_table.specs.Index.{Holds}
 use Rattle.group_table.specs.Table.{TableState, IsSlot}
 use Rattle.group_table.specs.Standing.{IsSetWith, IsBump, IsSlabOf, IsFirst, HasArray, IsArrayIn, IsArrayOf, slot_of}
 use Rattle.group_table.specs.declared.table.Slot.{Slot}
+use Rattle.std.proofs.lemmas.Bool.Decides.{nat_tests}
+use Rattle.std.proofs.lemmas.Grind.{common_steps}
 
 -- the set of a context that is one
 pub record SetOf (P : SetState → Type 0) (c : Context) : Type 0 where
@@ -22,25 +23,19 @@ pub record SetOf (P : SetState → Type 0) (c : Context) : Type 0 where
 
 pub set_of : (P : SetState → Type 0) (c : Context) → IsSetWith P c → SetOf P c
 set_of P (AllocSet s) with = record { set = s; is = refl; with = with }
-set_of P (Slab s) none = absurd none
-set_of P (Generation s) none = absurd none
-set_of P (Bump s) none = absurd none
+set_of P _ none = absurd none
 
 pub set_with : (P : SetState → Type 0) (c : Context) (s : SetState) → c ≡ AllocSet s → P s → IsSetWith P c
 set_with P c s is with = subst (IsSetWith P) (sym is) with
 
 -- a bump and a slab with one more chunk
 pub bump_with : (c : Context) (n : ℕ) (p : Piece) → IsBump c → IsBump (with_chunk c n p)
-bump_with (AllocSet s) n p is = is
-bump_with (Slab s) n p is = is
-bump_with (Generation s) n p is = is
 bump_with (Bump s) n p is = is
+bump_with _ n p none = absurd none
 
 pub slab_with : (width : ℕ) (c : Context) (n : ℕ) (p : Piece) → IsSlabOf width c → IsSlabOf width (with_chunk c n p)
-slab_with width (AllocSet s) n p is = is
 slab_with width (Slab s) n p is = is
-slab_with width (Generation s) n p is = is
-slab_with width (Bump s) n p is = is
+slab_with width _ n p none = absurd none
 
 module _ {H : Type 0} (hash_of : H → List ℕ → ℕ) (t : TableState H) where
   -- an array by keys that are the same
@@ -68,27 +63,9 @@ module _ {H : Type 0} (hash_of : H → List ℕ → ℕ) (t : TableState H) wher
   pub set_by : (keys others c : Context) → ((slot : Slot) → IsSlot t slot → chunk_bytes others slot.key ≡ chunk_bytes keys slot.key)
       → IsSetWith (λ s. IsFirst s × HasArray hash_of t keys t.array s) c → IsSetWith (λ s. IsFirst s × HasArray hash_of t others t.array s) c
   set_by keys others (AllocSet s) same (first, is) = (first, has_array_by keys others t.array s same is)
-  set_by keys others (Slab s) same is = is
-  set_by keys others (Generation s) same is = is
-  set_by keys others (Bump s) same is = is
+  set_by keys others _ same none = absurd none
 
   -- an array beside another chunk that is taken
   pub array_beside : (keys : Context) (s after : SetState) (name old : ChunkName) (room : ℕ) (bytes : List ℕ) → after.chunks ≡ chunk_of name room bytes ∷ s.chunks → after.first ≡ s.first
       → Keeps s.chunks after.chunks name → IsArrayIn hash_of t keys s old → IsArrayIn hash_of t keys after old
-  array_beside keys s after name old room bytes chunks first keeps is =
-      let kept = keeps old is.lives in
-      record {
-        lives = kept.1;
-        whole = is.whole;
-        some = is.some;
-        most = is.most;
-        full = is.full;
-        first = ap is_some first ∙ is.first;
-        beside = record {
-          room = ap (λ ps. (piece_at ps (place_of old)).room) chunks
-              ∙ ap (λ (x : Piece). x.room) (cond-false (is_at (place_of old) (chunk_of name room bytes)) (chunk_of name room bytes) (piece_at s.chunks (place_of old)) kept.0)
-              ∙ is.beside.room;
-          own = λ long here. is.beside.own long (sym first ∙ here);
-        };
-        array = subst (λ bs. IsArrayOf hash_of t keys bs (old.len / 32)) (sym kept.2) is.array;
-      }
+  array_beside keys s after name old room bytes chunks first keeps is = grind (arith, nat_tests, common_steps)

@@ -1,20 +1,17 @@
 -- What is known of a table in its tree.
-use Rattle.std.specs.Prelude.{◌≡◌, ℕ, ◌*◌, ◌/◌, ◌<◌, ◌≤◌, List, [], Some, None, length, slice_get, is_some, IsTrue}
+use Rattle.std.specs.Prelude.{◌≡◌, ℕ, ◌*◌, ◌/◌, ◌<◌, ◌≤◌, List, [], Some, None, length, slice_get, IsTrue}
 use Rattle.std.proofs.Common.{sym, ◌∙◌, ap, subst, arith}
-use Rattle.std.proofs.lemmas.Bool.{false≢true}
 use Rattle.chunk_layout.specs.declared.place.ChunkName.{ChunkName}
 use Rattle.context_tree.specs.Contexts.{has_chunk, chunk_bytes}
 use Rattle.context_tree.specs.Tree.{TreeState, context_at}
 use Rattle.context_tree.specs.declared.context.Context.{Context}
-use Rattle.context_tree.specs.declared.context.Context.TheVariants.{AllocSet, Slab, Generation, Bump}
+use Rattle.context_tree.specs.declared.context.Context.TheVariants.{AllocSet}
 use Rattle.group_table.specs.Index.{Holds}
 use Rattle.group_table.specs.Search.{Finds}
 use Rattle.group_table.specs.Table.{TableState, Names, HasNo, most_buckets}
 use Rattle.group_table.specs.Standing.{IsSetWith, IsFirst, HasArray, IsArrayOf, IsStanding, bucket_of, slot_of}
 use Rattle.group_table.specs.declared.bucket.Bucket.{Bucket}
-
-none_some : {X : Type 0} → (x : X) → None ≡ Some x → ⊥
-none_some x e = false≢true (ap is_some e)
+use Rattle.std.proofs.lemmas.Option.{none-some}
 
 module _ {H : Type 0} (hash_of : H → List ℕ → ℕ) (t : TableState H) (tree : TreeState) where
   -- what is known of the array, whatever context has it
@@ -28,15 +25,11 @@ module _ {H : Type 0} (hash_of : H → List ℕ → ℕ) (t : TableState H) (tre
 
   array_at : (keys c : Context) (name : ChunkName) → IsSetWith (λ s. IsFirst s × HasArray hash_of t keys (Some name) s) c → ArrayFacts keys c name
   array_at keys (AllocSet s) name (first, is) = record { lives = is.lives; whole = is.whole; some = is.some; most = is.most; full = is.full; array = is.array }
-  array_at keys (Slab s) name none = absurd none
-  array_at keys (Generation s) name none = absurd none
-  array_at keys (Bump s) name none = absurd none
+  array_at keys _ name none = absurd none
 
   no_slots_at : (keys c : Context) → IsSetWith (λ s. IsFirst s × HasArray hash_of t keys None s) c → t.slots ≡ []
   no_slots_at keys (AllocSet s) (first, is) = is
-  no_slots_at keys (Slab s) none = absurd none
-  no_slots_at keys (Generation s) none = absurd none
-  no_slots_at keys (Bump s) none = absurd none
+  no_slots_at keys _ none = absurd none
 
   module _ (is : IsStanding hash_of t tree) where
     abbrev buckets : Context
@@ -52,7 +45,7 @@ module _ {H : Type 0} (hash_of : H → List ℕ → ℕ) (t : TableState H) (tre
     no_slots array = no_slots_at keys buckets (subst (λ a. IsSetWith (λ s. IsFirst s × HasArray hash_of t keys a s) buckets) array is.stands.set)
 
     pub has_none : (key : List ℕ) → t.array ≡ None → HasNo t tree key
-    has_none key array slot (place, there) = absurd (none_some slot (ap (λ slots. slice_get slots place) (sym (no_slots array)) ∙ there))
+    has_none key array slot (place, there) = absurd (none-some slot (ap (λ slots. slice_get slots place) (sym (no_slots array)) ∙ there))
 
     -- the bytes of the array
     module _ (name : ChunkName) (array : t.array ≡ Some name) (bytes : List ℕ) (read : bytes ≡ chunk_bytes buckets name) (long : length bytes ≡ name.len) where

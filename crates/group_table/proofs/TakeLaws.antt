@@ -1,8 +1,7 @@
 -- A chunk for the next array is taken.
-use Rattle.std.specs.Prelude.{◌≡◌, ◌≢◌, refl, ℕ, suc, ◌+◌, ◌-◌, ◌*◌, ◌/◌, ◌<◌, ◌≤◌, ◌⊎◌, ◌==◌, max, nat_le, nat_lt, Bool, true, false, cond, if◌then◌else◌, List, [], ◌∷◌, Option, Some, None, length, get_or, drop, slice_range, is_some, unwrap_or, IsTrue}
-use Rattle.std.specs.Int.{w32, from_be_bytes}
-use Rattle.std.proofs.Common.{inl, inr, sym, ◌∙◌, ap, subst, arith}
-use Rattle.std.proofs.lemmas.Bool.{cases_lt, leb-true, false≢true, false_from_ne_true, cond-false, ne_eqb}
+use Rattle.std.specs.Prelude.{◌≡◌, ◌≢◌, refl, ℕ, suc, ◌+◌, ◌*◌, ◌/◌, ◌<◌, ◌≤◌, max, nat_le, nat_lt, Bool, true, false, if◌then◌else◌, List, [], Option, Some, None, length, get_or, slice_range, is_some, unwrap_or, IsTrue}
+use Rattle.std.proofs.Common.{inl, inr, sym, ◌∙◌, ap, subst, arith, rules}
+use Rattle.std.proofs.lemmas.Bool.{leb-true, false_from_ne_true}
 use Rattle.std.proofs.lemmas.List.{get_or-take, get_or-drop, get_or_past, length-take}
 use Rattle.block_memory.specs.Cells.{zeros}
 use Rattle.chunk_layout.specs.Pieces.{total}
@@ -15,26 +14,26 @@ use Rattle.context_tree.specs.Contexts.{chunks_of, blocks_of, has_chunk, chunk_b
 use Rattle.context_tree.specs.Tree.{TreeState, context_at, with_context}
 use Rattle.context_tree.specs.declared.context.Context.{Context}
 use Rattle.context_tree.specs.declared.context.Context.TheVariants.{AllocSet}
-use Rattle.group_table.specs.Buckets.{number_at, name_at, bucket_in, bucket_at}
+use Rattle.group_table.specs.Buckets.{number_at, bucket_in, bucket_at}
 use Rattle.group_table.specs.Table.{TableState, buckets_in, buckets_for, most_buckets, array_growth}
 use Rattle.group_table.specs.Standing.{IsSetWith, IsFirst, IsBesideFirst, HasArray, HasSpace, IsBump, IsSlabOf, AreGroups, IsPlaced, IsStanding, IsTableIn, IsArrayIn}
 use Rattle.group_table.specs.Arrays.{OnlyIn, IsSpare, count_of}
 use Rattle.group_table.proofs.SetFacts.{large_first, large_some, large_chunks, large_same, large_beside, first_first, first_some, first_beside, taken_first}
 use Rattle.group_table.proofs.StandLaws.{SetOf, set_of, set_with, array_beside}
-use Rattle.group_table.proofs.TreeFacts.{at_same, at_other, placed_kept, same_links, same_number}
+use Rattle.group_table.proofs.TreeFacts.{at_same, placed_kept, same_links, same_number}
 use Rattle.chunk_contexts.specs.declared.rooms.TheConstants.{MOST}
+use Rattle.group_table.proofs.InsertLaws.{keys_left, states_left}
+use Rattle.std.proofs.lemmas.Option.{none-some}
+use Rattle.std.proofs.lemmas.Bool.Decides.{nat_tests}
+use Rattle.std.proofs.lemmas.Grind.{common_steps}
 
 -- how many buckets are wanted
 module _ (count number : ℕ) (full : 4 * number ≤ 3 * count) where
   abbrev wanted : ℕ
   wanted = buckets_for count number
 
-  larger_by : (b : Bool) → nat_le (4 * (number + 1)) (3 * count) ≡ b → (if b then count else max 256 (2 * count)) ≢ count → (if b then count else max 256 (2 * count)) ≡ max 256 (2 * count)
-  larger_by true is differ = absurd (differ refl)
-  larger_by false is differ = refl
-
   pub larger : wanted ≢ count → wanted ≡ max 256 (2 * count)
-  larger = larger_by (nat_le (4 * (number + 1)) (3 * count)) refl
+  larger differ = grind (arith, nat_tests)
 
   pub roomy : 256 ≤ count → wanted ≢ count → 4 * (number + 1) ≤ 3 * wanted
   roomy some differ = omega (arith, some, full, larger differ)
@@ -50,9 +49,7 @@ room_left (Some name) number same = (name, refl, room_by (nat_le (4 * (number + 
 
 -- and else the next array grows by what it takes
 pub array_grown : {H : Type 0} (t : TableState H) (tree : TreeState) → buckets_for (buckets_in t.array) (length t.slots) ≢ buckets_in t.array → array_growth t tree ≡ growth_of (context_at tree t.buckets) (buckets_for (buckets_in t.array) (length t.slots) * 32)
-array_grown t tree differ =
-    let w : ℕ = buckets_for (buckets_in t.array) (length t.slots) in
-    cond-false (w == buckets_in t.array) 0 (growth_of (context_at tree t.buckets) (w * 32)) (ne_eqb w (buckets_in t.array) differ)
+array_grown t tree differ = grind (arith, nat_tests, common_steps)
 
 -- zeros are free buckets
 zero_at : (n i : ℕ) → get_or (zeros n) i 0 ≡ 0
@@ -60,28 +57,15 @@ unfolding zeros
 zero_at n i = search (Rattle.std.proofs.Common.rules, Rattle.std.proofs.lemmas.List.places)
 
 zero_in : (xs : List ℕ) → ((i : ℕ) → get_or xs i 0 ≡ 0) → (a b i : ℕ) → get_or (slice_range xs a b) i 0 ≡ 0
-zero_in xs none a b i = by (cases_lt i (b - a))
-  where
-    by : (i < b - a) ⊎ (b - a ≤ i) → get_or (slice_range xs a b) i 0 ≡ 0
-    by (inl low) = get_or-take (b - a) (drop a xs) i 0 low ∙ get_or-drop a xs i 0 ∙ none (a + i)
-    by (inr past) = get_or_past (slice_range xs a b) i 0 (omega (arith, past, length-take (b - a) (drop a xs)))
+zero_in xs none a b i = grind (arith, nat_tests, common_steps)
 
 no_number : (bytes : List ℕ) (at : ℕ) → ((i : ℕ) → get_or bytes i 0 ≡ 0) → number_at bytes at ≡ 0
 unfolding number_at
-no_number bytes at none =
-    ap (λ x. from_be_bytes w32 (x ∷ get_or bytes (at + 1) 0 ∷ get_or bytes (at + 2) 0 ∷ get_or bytes (at + 3) 0 ∷ [])) (none at)
-    ∙ ap (λ x. from_be_bytes w32 (0 ∷ x ∷ get_or bytes (at + 2) 0 ∷ get_or bytes (at + 3) 0 ∷ [])) (none (at + 1))
-    ∙ ap (λ x. from_be_bytes w32 (0 ∷ 0 ∷ x ∷ get_or bytes (at + 3) 0 ∷ [])) (none (at + 2))
-    ∙ ap (λ x. from_be_bytes w32 (0 ∷ 0 ∷ 0 ∷ x ∷ [])) (none (at + 3))
+no_number bytes at none = rw (none at, none (at + 1), none (at + 2), none (at + 3))
 
 pub none_in_zeros : (n place : ℕ) → bucket_at (zeros n) place ≡ None
 unfolding bucket_at bucket_in
-none_in_zeros n place =
-    ap (λ m. cond (m == 0) None (Some (record { key = name_at (slice_range (zeros n) (place * 32) (place * 32 + 32)) 0; state = name_at (slice_range (zeros n) (place * 32) (place * 32 + 32)) 12; hash = number_at (slice_range (zeros n) (place * 32) (place * 32 + 32)) 24 })))
-    (no_number (slice_range (zeros n) (place * 32) (place * 32 + 32)) 28 (zero_in (zeros n) (zero_at n) (place * 32) (place * 32 + 32)))
-
-none_some : {X : Type 0} → (x : X) → None ≡ Some x → ⊥
-none_some x e = false≢true (ap is_some e)
+none_in_zeros n place = rw (no_number (slice_range (zeros n) (place * 32) (place * 32 + 32)) 28 (zero_in (zeros n) (zero_at n) (place * 32) (place * 32 + 32)))
 
 pub not_over : (n : ℕ) → n ≤ MOST → over_most n ≡ None
 not_over n low = ap (λ b. if b then Some TooLarge else None) (false_from_ne_true (nat_lt MOST n) (λ is. omega (arith, low, leb-true (suc MOST) n is)))
@@ -132,10 +116,10 @@ module _ {H : Type 0} (hash_of : H → List ℕ → ℕ) (t : TableState H) (tre
     placed = placed_kept t tree after (same_links t.buckets tree after only) (same_number t.buckets tree after only) is.standing.placed
 
     same_keys : context_at after t.keys ≡ keys
-    same_keys = ap (λ (x : TreeState). context_at x t.keys) only ∙ at_other tree t.buckets (context_at after t.buckets) t.keys (λ same. is.standing.placed.keys_apart.differ (sym same))
+    same_keys = keys_left t tree after only is.standing.placed
 
     same_states : context_at after t.states ≡ context_at tree t.states
-    same_states = ap (λ (x : TreeState). context_at x t.states) only ∙ at_other tree t.buckets (context_at after t.buckets) t.states (λ same. is.standing.placed.states_apart.differ (sym same))
+    same_states = states_left t tree after only is.standing.placed
 
     kept : Keeps s.chunks taken.chunks name
     kept = subst (λ (c : Context). Keeps s.chunks (chunks_of c) name) is_taken (subst (λ (c : Context). Keeps (chunks_of c) (chunks_of (context_at after t.buckets)) name) now.is keeps)
@@ -179,10 +163,7 @@ module _ {H : Type 0} (hash_of : H → List ℕ → ℕ) (t : TableState H) (tre
     set_is a array = subst (λ x. IsFirst s × HasArray hash_of t keys x s) array now.with
 
     space_is : (a : Option ChunkName) → t.array ≡ a → HasSpace a s
-    space_is a array = subst (λ x. HasSpace x s) array (in_set b s now.is is.space)
-      where
-        in_set : (c : Context) (s : SetState) → c ≡ AllocSet s → IsSetWith (HasSpace t.array) c → HasSpace t.array s
-        in_set c s same with = subst (IsSetWith (HasSpace t.array)) same with
+    space_is a array = subst (λ x. HasSpace x s) array (subst (IsSetWith (HasSpace t.array)) now.is is.space)
 
     first_array : t.array ≡ None → Taken hash_of t tree after name
     first_array array =
@@ -194,7 +175,7 @@ module _ {H : Type 0} (hash_of : H → List ℕ → ℕ) (t : TableState H) (tre
         let space = space_is None array in
         record {
           standing = stands (subst IsFirst (sym same) (first_first s name (zeros n) (set_is None array).0 space block)) (subst (λ a. HasArray hash_of t keys a taken) (sym array) empty);
-          spare = spare (omega (arith, few_buckets)) (omega (arith, few_buckets, ap length empty)) (λ old is_old. absurd (none_some old (sym array ∙ is_old))) (λ old is_old. absurd (none_some old (sym array ∙ is_old)))
+          spare = spare (omega (arith, few_buckets)) (omega (arith, few_buckets, ap length empty)) (λ old is_old. absurd (none-some old (sym array ∙ is_old))) (λ old is_old. absurd (none-some old (sym array ∙ is_old)))
               (ap (λ (x : SetState). is_some x.first) same ∙ first_some s name (zeros n) (set_is None array).0 space block)
               (subst (λ (x : SetState). IsBesideFirst x name) (sym same) (first_beside s name (zeros n) (set_is None array).0 space block (len ∙ short)));
         }

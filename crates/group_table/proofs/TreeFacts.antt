@@ -1,16 +1,18 @@
 -- Trees in which one context was written over.
-use Rattle.std.specs.Prelude.{◌≡◌, ◌≢◌, ℕ, zero, suc, ◌+◌, ◌<◌, true, cond, List, [], ◌∷◌, Option, None, length, get_or, slice_set}
-use Rattle.std.proofs.Common.{sym, ◌∙◌, ap, subst, arith}
+use Rattle.std.specs.Prelude.{◌≡◌, ◌≢◌, ℕ, zero, suc, ◌+◌, ◌<◌, true, cond, List, [], ◌∷◌, Option, length, get_or, slice_set}
+use Rattle.std.proofs.Common.{sym, ◌∙◌, ap, arith, rules}
 use Rattle.std.proofs.lemmas.List.{get_or-set_same, get_or-set_other, length-set, set-set, set-get_or}
 use Rattle.context_tree.specs.Contexts.{no_context, held_by}
-use Rattle.context_tree.specs.Links.{parent_of, is_below}
-use Rattle.context_tree.specs.Tree.{TreeState, has_stamp, context_at, with_context, held_below, held_from}
+use Rattle.context_tree.specs.Links.{is_below}
+use Rattle.context_tree.specs.Tree.{TreeState, context_at, with_context, held_below, held_from}
 use Rattle.context_tree.specs.declared.context.Context.{Context}
 use Rattle.context_tree.specs.declared.links.ContextId.{ContextId}
 use Rattle.context_tree.specs.declared.links.Link.{Link}
 use Rattle.group_table.specs.Arrays.{OnlyIn}
 use Rattle.group_table.specs.Table.{TableState}
-use Rattle.group_table.specs.Standing.{IsChild, IsApart, IsPlaced, KeepsOthers}
+use Rattle.group_table.specs.Standing.{IsPlaced, KeepsOthers}
+use Rattle.std.proofs.lemmas.Bool.Decides.{nat_tests}
+use Rattle.std.proofs.lemmas.Grind.{common_steps}
 
 module _ (t : TreeState) (id : ContextId) (c : Context) where
   pub at_same : id.slot < length t.contexts → context_at (with_context t id c) id ≡ c
@@ -46,41 +48,14 @@ module _ (id : ContextId) (a b : TreeState) (only : OnlyIn id a b) where
   pub same_number : length b.contexts ≡ length a.contexts
   same_number = ap (λ (t : TreeState). length t.contexts) only ∙ as_many a id (context_at b id)
 
-  pub same_others : (slot : ℕ) → slot ≢ id.slot → get_or b.contexts slot no_context ≡ get_or a.contexts slot no_context
-  same_others slot differ = ap (λ (t : TreeState). get_or t.contexts slot no_context) only ∙ get_or-set_other a.contexts id.slot slot (context_at b id) no_context differ
-
 -- where it is one of the three contexts of a table, the others stay
 pub only_its_own : {H : Type 0} (t : TableState H) (id : ContextId) (a b : TreeState) → OnlyIn id a b → ((slot : ℕ) → slot ≢ t.buckets.slot → slot ≢ t.keys.slot → slot ≢ t.states.slot → slot ≢ id.slot) → KeepsOthers t a b
-only_its_own t id a b only own = record {
-  links = same_links id a b only;
-  last = same_last id a b only;
-  number = same_number id a b only;
-  others = λ slot not_buckets not_keys not_states. same_others id a b only slot (own slot not_buckets not_keys not_states);
-}
+only_its_own t id a b only own = search rules
 
 -- a table is placed alike in a tree with the same links
 module _ {H : Type 0} (t : TableState H) (a b : TreeState) (links : b.links ≡ a.links) (number : length b.contexts ≡ length a.contexts) where
-  child_kept : (id : ContextId) → IsChild a t.parent id → IsChild b t.parent id
-  child_kept id is = record {
-    there = ap (λ (ls : List (Option Link)). has_stamp (get_or ls id.slot None) id.stamp) links ∙ is.there;
-    within = subst (λ n. id.slot < n) (sym number) is.within;
-    up = ap (λ (ls : List (Option Link)). parent_of (get_or ls id.slot None)) links ∙ is.up;
-    below = ap (λ (ls : List (Option Link)). is_below ls t.parent.slot id.slot) links ∙ is.below;
-  }
-
-  apart_kept : (x y : ContextId) → IsApart a.links x y → IsApart b.links x y
-  apart_kept x y is = subst (λ (ls : List (Option Link)). IsApart ls x y) (sym links) is
-
   pub placed_kept : IsPlaced t a → IsPlaced t b
-  placed_kept is = record {
-    parent = ap (λ (ls : List (Option Link)). has_stamp (get_or ls t.parent.slot None) t.parent.stamp) links ∙ is.parent;
-    buckets = child_kept t.buckets is.buckets;
-    keys = child_kept t.keys is.keys;
-    states = child_kept t.states is.states;
-    keys_apart = apart_kept t.buckets t.keys is.keys_apart;
-    states_apart = apart_kept t.buckets t.states is.states_apart;
-    both_apart = apart_kept t.keys t.states is.both_apart;
-  }
+  placed_kept is = grind (arith, nat_tests, common_steps)
 
 -- what is held below a context of which one that is below it was changed
 held_other : (ls : List (Option Link)) (above place n : ℕ) (cs : List Context) (c : Context) → is_below ls above (place + n) ≡ true → n < length cs

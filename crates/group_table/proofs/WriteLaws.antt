@@ -1,56 +1,35 @@
 -- The state of a group is written over.
-use Rattle.std.specs.Prelude.{◌≡◌, ◌≢◌, refl, ℕ, zero, suc, ◌⊎◌, Bool, true, false, List, [], ◌∷◌, Some, map, slice_get, slice_set, unwrap_or, IsTrue}
-use Rattle.std.proofs.Common.{inl, inr, sym, ◌∙◌, ap, subst}
-use Rattle.std.proofs.lemmas.Bool.{cases_eq, false≢true}
+use Rattle.std.specs.Prelude.{◌≡◌, ◌≢◌, refl, ℕ, zero, suc, false, List, [], ◌∷◌, Some, map, slice_get, slice_set, unwrap_or, IsTrue}
+use Rattle.std.proofs.Common.{sym, ◌∙◌, ap, subst, arith, rules}
 use Rattle.chunk_layout.specs.Pieces.{same_place, place_of}
 use Rattle.chunk_layout.specs.declared.place.Place.{Place}
 use Rattle.chunk_contexts.specs.Chunks.{KeepsOthers as KeepsChunks}
 use Rattle.context_tree.specs.Contexts.{chunks_of, has_chunk, chunk_bytes, with_bytes}
 use Rattle.context_tree.specs.Tree.{TreeState, context_at, with_context}
 use Rattle.context_tree.specs.declared.context.Context.{Context}
-use Rattle.context_tree.specs.declared.context.Context.TheVariants.{AllocSet, Slab, Generation, Bump}
+use Rattle.context_tree.specs.declared.context.Context.TheVariants.{Slab}
 use Rattle.group_table.specs.Table.{TableState, key_in, group_in, groups, IsSlot}
-use Rattle.group_table.specs.Standing.{IsSetWith, IsBump, IsSlabOf, IsFirst, HasArray, HasSpace, AreGroups, IsTableIn, KeepsOthers}
+use Rattle.group_table.specs.Standing.{IsSetWith, IsBump, IsSlabOf, HasSpace, AreGroups, IsTableIn, KeepsOthers}
 use Rattle.group_table.specs.Arrays.{OnlyIn}
 use Rattle.group_table.specs.declared.table.Slot.{Slot}
-use Rattle.group_table.proofs.GroupLaws.{other_states}
+use Rattle.group_table.proofs.GroupLaws.{other_states, map_same}
 use Rattle.group_table.proofs.TreeFacts.{at_same, at_other, placed_kept, same_links, same_number, only_its_own}
+use Rattle.std.proofs.lemmas.Bool.Decides.{nat_tests}
+use Rattle.std.proofs.lemmas.Grind.{common_steps}
 
 slab_wrote : (width : ℕ) (c : Context) (place : Place) (ws : List ℕ) → IsSlabOf width c → IsSlabOf width (with_bytes c place ws)
-slab_wrote width (AllocSet s) place ws is = is
 slab_wrote width (Slab s) place ws is = is
-slab_wrote width (Generation s) place ws is = is
-slab_wrote width (Bump s) place ws is = is
+slab_wrote width _ place ws none = absurd none
 
 -- a function that is another one but at one member
-is_zero : ℕ → Bool
-is_zero zero = true
-is_zero (suc n) = false
-
-pred : ℕ → ℕ
-pred zero = zero
-pred (suc n) = n
-
-not_zero : (n : ℕ) → suc n ≡ 0 → ⊥
-unfolding is_zero
-not_zero n equal = false≢true (ap is_zero equal)
-
-same_next : (m n : ℕ) → suc m ≡ suc n → m ≡ n
-unfolding pred
-same_next m n equal = ap pred equal
-
-map_all : {X Y : Type 0} → (f g : X → Y) → (xs : List X) → ((j : ℕ) → (y : X) → slice_get xs j ≡ Some y → f y ≡ g y) → map f xs ≡ map g xs
-map_all f g [] same = refl
-map_all f g (y ∷ ys) same = ap (λ v. v ∷ map f ys) (same 0 y refl) ∙ ap (λ vs. g y ∷ vs) (map_all f g ys (λ j z at_j. same (suc j) z at_j))
-
 map_set : {X Y : Type 0} → (f g : X → Y) → (xs : List X) → (i : ℕ) → (x : X) → slice_get xs i ≡ Some x → ((j : ℕ) → (y : X) → slice_get xs j ≡ Some y → j ≢ i → f y ≡ g y) → map f xs ≡ slice_set (map g xs) i (f x)
 map_set f g [] i x is same = refl
 map_set f g (z ∷ xs) zero x is same =
     ap (λ y. f y ∷ map f xs) (ap (λ o. unwrap_or o x) is)
-    ∙ ap (λ ys. f x ∷ ys) (map_all f g xs (λ j y at_j. same (suc j) y at_j (not_zero j)))
+    ∙ ap (λ ys. f x ∷ ys) (map_same f g xs (λ j y at_j. same (suc j) y at_j (λ e. omega (arith, e))))
 map_set f g (z ∷ xs) (suc i) x is same =
-    ap (λ v. v ∷ map f xs) (same 0 z refl (λ equal. not_zero i (sym equal)))
-    ∙ ap (λ vs. g z ∷ vs) (map_set f g xs i x is (λ j y at_j differ. same (suc j) y at_j (λ equal. differ (same_next j i equal))))
+    ap (λ v. v ∷ map f xs) (same 0 z refl (λ e. omega (arith, e)))
+    ∙ ap (λ vs. g z ∷ vs) (map_set f g xs i x is (λ j y at_j differ. same (suc j) y at_j (λ equal. differ (omega (arith, equal)))))
 
 module _ {H : Type 0} (hash_of : H → List ℕ → ℕ) (t : TableState H) (tree : TreeState) (is : IsTableIn hash_of t tree) (slot : Slot) (there : IsSlot t slot) where
   abbrev states : Context
@@ -78,28 +57,17 @@ module _ {H : Type 0} (hash_of : H → List ℕ → ℕ) (t : TableState H) (tre
 
     -- another group's state is in another chunk
     apart : (i j : ℕ) → (x : Slot) → slice_get t.slots i ≡ Some slot → slice_get t.slots j ≡ Some x → j ≢ i → same_place (place_of slot.state) (place_of x.state) ≡ false
-    apart i j x at_i at_j differ = by (same_place (place_of slot.state) (place_of x.state)) refl
-      where
-        by : (b : Bool) → same_place (place_of slot.state) (place_of x.state) ≡ b → b ≡ false
-        by true same = absurd (differ (sym (is.standing.stands.groups.own i j slot x at_i at_j same)))
-        by false same = refl
+    apart i j x at_i at_j differ = grind (arith, nat_tests, common_steps)
 
     live_at : (x : Slot) → IsSlot t x → IsTrue (has_chunk (context_at after t.states) x.state)
-    live_at x (j, at_j) = subst (λ (c : Context). IsTrue (has_chunk c x.state)) (sym states_is) (by (cases_eq j there.0))
-      where
-        by : (j ≡ there.0) ⊎ (j ≡ there.0 → ⊥) → IsTrue (has_chunk (with_bytes states (place_of slot.state) ws) x.state)
-        by (inl same) =
-            let one : slot ≡ x = ap (λ o. unwrap_or o x) (sym there.1 ∙ ap (slice_get t.slots) (sym same) ∙ at_j) in
-            subst (λ (y : Slot). IsTrue (has_chunk (with_bytes states (place_of slot.state) ws) y.state)) one lives
-        by (inr differ) = (keeps x.state (apart there.0 j x there.1 at_j differ) (is.standing.stands.groups.states_live x (j, at_j))).1
+    live_at x (j, at_j) = search rules
 
     pub table_written : IsTableIn hash_of t after
     table_written = record {
       standing = record {
         placed = placed_kept t tree after (same_links t.states tree after only) (same_number t.states tree after only) is.standing.placed;
         stands = record {
-          set = subst (IsSetWith (λ s. IsFirst s × HasArray hash_of t (context_at after t.keys) t.array s)) (sym buckets_same)
-              (subst (λ (k : Context). IsSetWith (λ s. IsFirst s × HasArray hash_of t k t.array s) (context_at tree t.buckets)) (sym keys_same) is.standing.stands.set);
+          set = simp (buckets_same, keys_same) is.standing.stands.set;
           run = subst IsBump (sym keys_same) is.standing.stands.run;
           slab = subst (IsSlabOf t.width) (sym states_is) (slab_wrote t.width states (place_of slot.state) ws is.standing.stands.slab);
           width = is.standing.stands.width;

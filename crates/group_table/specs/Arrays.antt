@@ -75,17 +75,17 @@ pub record IsNext {H : Type 0} (t : TableState H) (tree : TreeState) (key state 
   pub width : slot.state.len ≡ t.width
   pub own : (other : Slot) → IsSlot t other → same_place (place_of slot.state) (place_of other.state) ≡ false
 
--- a table with another array, and with one more group
-abbrev pub with_array : {H : Type 0} → TableState H → ChunkName → TableState H
-with_array t name = record { parent = t.parent; buckets = t.buckets; keys = t.keys; states = t.states; width = t.width; hash = t.hash; array = Some name; slots = t.slots; spare = t.spare }
-
+-- a table with one more group
 abbrev pub with_slot : {H : Type 0} → TableState H → Slot → TableState H
 with_slot t slot = record { parent = t.parent; buckets = t.buckets; keys = t.keys; states = t.states; width = t.width; hash = t.hash; array = t.array; slots = t.slots ++ slot ∷ []; spare = t.spare - 1 }
 
 -- with the next array, if there is one
+abbrev pub next_or : Option ChunkName → Option ChunkName → Option ChunkName
+next_or None array = array
+next_or (Some name) array = Some name
+
 abbrev pub with_next : {H : Type 0} → TableState H → Option ChunkName → TableState H
-with_next t None = t
-with_next t (Some name) = with_array t name
+with_next t next = record { parent = t.parent; buckets = t.buckets; keys = t.keys; states = t.states; width = t.width; hash = t.hash; array = next_or next t.array; slots = t.slots; spare = t.spare }
 
 -- with room to note so many groups without memory
 abbrev pub with_spare : {H : Type 0} → TableState H → ℕ → TableState H

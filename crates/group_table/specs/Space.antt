@@ -8,7 +8,7 @@ use Rattle.chunk_contexts.specs.Set.{SetState}
 use Rattle.chunk_contexts.specs.Slab.{SlabState, slab_block}
 use Rattle.context_tree.specs.Tree.{TreeState, context_at, held_below}
 use Rattle.context_tree.specs.declared.context.Context.{Context}
-use Rattle.context_tree.specs.declared.context.Context.TheVariants.{AllocSet, Slab, Generation, Bump}
+use Rattle.context_tree.specs.declared.context.Context.TheVariants.{Slab, Bump}
 use Rattle.aggregation_cost.specs.Space.{buckets, array_block, bucket_blocks, key_room, state_blocks}
 use Rattle.group_table.specs.Table.{TableState, groups, held_in}
 use Rattle.group_table.specs.Standing.{IsSetWith}
@@ -27,16 +27,12 @@ is_within (Some bytes) limit = nat_le bytes limit
 
 -- a bump, and a slab, with this property
 abbrev pub IsRunWith : (RunState → Type 0) → Context → Type 0
-IsRunWith P (AllocSet s) = ⊥
-IsRunWith P (Slab s) = ⊥
-IsRunWith P (Generation s) = ⊥
 IsRunWith P (Bump s) = P s
+IsRunWith P _ = ⊥
 
 abbrev pub IsSlabWith : (SlabState → Type 0) → Context → Type 0
-IsSlabWith P (AllocSet s) = ⊥
 IsSlabWith P (Slab s) = P s
-IsSlabWith P (Generation s) = ⊥
-IsSlabWith P (Bump s) = ⊥
+IsSlabWith P _ = ⊥
 
 -- an array of so many buckets in a set: one that is longer than the first has a block of its own
 pub record IsArraySized (s : SetState) (name : ChunkName) (n : ℕ) : Type 0 where

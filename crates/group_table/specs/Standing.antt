@@ -9,7 +9,7 @@ use Rattle.context_tree.specs.Contexts.{no_context, has_chunk, chunk_bytes}
 use Rattle.context_tree.specs.Links.{parent_of, is_below, is_under}
 use Rattle.context_tree.specs.Tree.{TreeState, is_there, context_at}
 use Rattle.context_tree.specs.declared.context.Context.{Context}
-use Rattle.context_tree.specs.declared.context.Context.TheVariants.{AllocSet, Slab, Generation, Bump}
+use Rattle.context_tree.specs.declared.context.Context.TheVariants.{AllocSet, Slab, Bump}
 use Rattle.context_tree.specs.declared.links.ContextId.{ContextId}
 use Rattle.context_tree.specs.declared.links.Link.{Link}
 use Rattle.group_table.specs.Index.{IsIndex, in_use, Holds}
@@ -34,21 +34,15 @@ pub record IsApart (links : List (Option Link)) (a b : ContextId) : Type 0 where
 -- a set with this property; a bump; and a slab of chunks of this size
 abbrev pub IsSetWith : (SetState → Type 0) → Context → Type 0
 IsSetWith P (AllocSet s) = P s
-IsSetWith P (Slab s) = ⊥
-IsSetWith P (Generation s) = ⊥
-IsSetWith P (Bump s) = ⊥
+IsSetWith P _ = ⊥
 
 abbrev pub IsBump : Context → Type 0
-IsBump (AllocSet s) = ⊥
-IsBump (Slab s) = ⊥
-IsBump (Generation s) = ⊥
 IsBump (Bump s) = Unit {0}
+IsBump _ = ⊥
 
 abbrev pub IsSlabOf : ℕ → Context → Type 0
-IsSlabOf width (AllocSet s) = ⊥
 IsSlabOf width (Slab s) = s.size ≡ width
-IsSlabOf width (Generation s) = ⊥
-IsSlabOf width (Bump s) = ⊥
+IsSlabOf width _ = ⊥
 
 -- the first block of the set of buckets is the one that the first array took
 pub record IsFirst (s : SetState) : Type 0 where

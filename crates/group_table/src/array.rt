@@ -55,8 +55,5 @@ pub(crate) fn give_up(tree: &mut Tree, id: ContextId, name: ChunkName)
     ensures gone { tree.new ≡ with_context tree.old id (without_chunk (context_at tree.old id) (place_of name)) }
     ensures keeps { KeepsOthers (chunks_of (context_at tree.old id)) (chunks_of (context_at tree.new id)) name name }
 {
-    match tree.free(id, name) {
-        Ok(()) => {}
-        Err(_) => unreachable!(),
-    }
+    tree.free(id, name).unwrap()
 }

@@ -1,5 +1,5 @@
 //! The bytes of buckets.
-ghost use Rattle.std.specs.Prelude.{◌≡◌, ◌≢◌, ◌<◌, ◌≤◌, ◌+◌, ◌*◌, Some, ℕ, length, is_some};
+ghost use Rattle.std.specs.Prelude.{◌≡◌, ◌≢◌, ◌<◌, ◌≤◌, ◌+◌, ◌*◌, Some, ℕ, length};
 ghost use Rattle.std.specs.Int.{from_be_bytes, w32};
 ghost use Rattle.group_table.specs.Buckets.{number_at, name_at, bucket_in, bucket_at};
 
@@ -96,15 +96,6 @@ pub(crate) fn bucket_at(array: &[u8], place: usize) -> Option<Bucket>
 {
     let start = place * BUCKET;
     Bucket::read(&array[start..start + BUCKET])
-}
-
-/// Whether the bucket at a place of an array is in use.
-pub(crate) fn is_in_use(array: &[u8], place: usize) -> bool
-    requires { 32 * place + 32 ≤ length array.now }
-    ensures { result ≡ is_some (bucket_at array.now place) }
-{
-    let start = place * BUCKET;
-    number(&array[start..start + BUCKET], 28) != 0
 }
 
 /// Writes a bucket in use to a place of an array.

@@ -78,8 +78,5 @@ fn take_back(tree: &mut Tree, id: ContextId)
     requires below { 0 < id.slot }
     ensures { tree.new ≡ deleted tree.old id }
 {
-    match tree.delete(id) {
-        Ok(()) => {}
-        Err(_) => unreachable!(),
-    }
+    tree.delete(id).unwrap()
 }

@@ -3,7 +3,7 @@ ghost use Rattle.std.specs.Prelude.{◌≡◌, ◌<◌, ◌≤◌, ◌+◌, ◌*
 ghost use Rattle.group_table.specs.Buckets.{bucket_at};
 ghost use Rattle.group_table.specs.Index.{start_of, IsPath, IsIndex, in_use, Puts};
 
-use crate::bucket::{Bucket, is_in_use, set_bucket};
+use crate::bucket::{Bucket, bucket_at, set_bucket};
 
 /// The place in an array of so many buckets where the search for a hash begins.
 pub(crate) fn start_of(hash: u32, count: usize) -> usize
@@ -22,7 +22,7 @@ fn first_free(array: &[u8], from: usize, to: usize) -> Option<usize>
     ensures none { IfNone result ((other : ℕ) → from ≤ other → other < to → is_some (bucket_at array.now other) ≡ true) }
 {
     for place in from..to {
-        if !is_in_use(array, place) {
+        if bucket_at(array, place).is_none() {
             return Some(place);
         }
     }
@@ -41,10 +41,7 @@ fn free_place(array: &[u8], count: usize, start: usize) -> usize
     if let Some(place) = first_free(array, start, count) {
         return place;
     }
-    match first_free(array, 0, start) {
-        Some(place) => place,
-        None => unreachable!(),
-    }
+    first_free(array, 0, start).unwrap()
 }
 
 /// Puts a bucket in use into an array that has a free one.

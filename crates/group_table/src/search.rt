@@ -26,10 +26,7 @@ pub(crate) fn chunk(tree: &Tree, id: ContextId, name: ChunkName) -> &[u8]
     ensures bytes { result.now ≡ chunk_bytes (context_at tree.now id) name }
     ensures len { length result.now ≡ name.len }
 {
-    match tree.get(id, name) {
-        Ok(bytes) => bytes,
-        Err(_) => unreachable!(),
-    }
+    tree.get(id, name).unwrap()
 }
 
 /// Whether a bucket is that of a key with this hash.

@@ -10,7 +10,7 @@ ghost use Rattle.aggregation_cost.specs.Space.{Key, need, held_after, fits};
 ghost use Rattle.group_table.specs.Space.{keys_in, is_within, IsRunWith, IsSlabWith, HoldsArray, HoldsNext, HoldsKeyBlocks, HoldsStates, HoldsKeys};
 ghost use Rattle.group_table.specs.Standing.{IsSetWith, IsStanding, IsTableIn, KeepsOthers, KeepsBeside, IsSameFor};
 ghost use Rattle.group_table.specs.Children.{IsRefused, IsAsBefore, IsNewTable, IsCleared};
-ghost use Rattle.group_table.specs.Arrays.{OnlyIn, HasNext, IsSpare, IsNext, with_array, with_next, with_slot, with_spare};
+ghost use Rattle.group_table.specs.Arrays.{OnlyIn, HasNext, IsSpare, IsNext, with_next, with_slot, with_spare};
 
 use crate::array::{give_up, put_into, refill};
 use crate::bucket::{BUCKET, Bucket};
@@ -72,10 +72,7 @@ fn growth(tree: &Tree, id: ContextId, n: usize) -> u64
     requires small { n < 2 ^ 32 }
     ensures { result ≡ growth_of (context_at tree.now id) n }
 {
-    match tree.growth_for(id, n as u32) {
-        Ok(growth) => growth,
-        Err(_) => unreachable!(),
-    }
+    tree.growth_for(id, n as u32).unwrap()
 }
 
 /// Gives up the chunks of a context that is there.
@@ -99,10 +96,7 @@ fn held_below(tree: &Tree, id: ContextId) -> u128
     ensures value { result ≡ held_below tree.now id }
     ensures bound { result < 2 ^ 96 }
 {
-    match tree.held_below(id) {
-        Ok(held) => held,
-        Err(_) => unreachable!(),
-    }
+    tree.held_below(id).unwrap()
 }
 
 impl<H: KeyHash + Drop> GroupTable<H> {
@@ -391,9 +385,7 @@ impl<H: KeyHash + Drop> GroupTable<H> {
         ensures held { held_by (context_at tree.new self.now.buckets) ≡ held_by (context_at tree.old self.now.buckets) }
         ensures holds { (number : ℕ) → IsSetWith (HoldsArray self.now.array number) (context_at tree.old self.now.buckets) → IsSetWith (HoldsArray self.now.array number) (context_at tree.new self.now.buckets) }
     {
-        let Some(name) = self.array else {
-            unreachable!();
-        };
+        let name = self.array.unwrap();
         let hash = self.hash.key_hash(key);
         let Slot { key, state } = slot;
         put_into(tree, self.buckets, name, Bucket { key, state, hash });

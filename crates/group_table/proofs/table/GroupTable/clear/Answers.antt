@@ -5,8 +5,7 @@ use Rattle.group_table.specs.Table.{TableState, held_in, without_groups, IsEmpti
 use Rattle.group_table.specs.Standing.{IsTableIn, KeepsBeside}
 use Rattle.group_table.specs.Space.{HoldsKeys}
 use Rattle.group_table.specs.Children.{IsCleared}
-use Rattle.group_table.proofs.ClearLaws.{p1, p2, table_cleared, is_cleared}
-use Rattle.group_table.proofs.EmptyLaws.{keeps_beside, less_held, is_emptied, holds_none}
+use Rattle.group_table.proofs.EmptyLaws.{p1, p2, table_cleared, is_cleared, keeps_beside, less_held, is_emptied, holds_none}
 use Rattle.group_table.proofs.table.GroupTable.clear.Goals as goal
 
 pub empty-requires-2 : goal.empty-requires-2

@@ -9,7 +9,7 @@ use Rattle.group_table.specs.Arrays.{IsNext, with_slot}
 use Rattle.group_table.specs.Space.{keys_in, IsRunWith, IsSlabWith, HoldsArray, HoldsNext, HoldsKeyBlocks, HoldsStates}
 use Rattle.group_table.proofs.HeldLaws.{others_held}
 use Rattle.group_table.proofs.SpaceLaws.{holds_more, buckets_at, keys_after, states_after}
-use Rattle.group_table.proofs.InsertLaws.{next_but, next_kept, keys_left, states_left, next_slots, next_same, others_twice, others_left, next_others, next_parent, any_space, groups_left, groups_pushed, held_left, next_left, settled_groups, settled_others, settled_next, settled_absent, settled_held}
+use Rattle.group_table.proofs.InsertLaws.{next_but, next_kept, keys_left, states_left, next_same, others_twice, others_left, next_others, any_space, groups_left, groups_pushed, held_left, next_left, settled_groups, settled_others, settled_next, settled_absent, settled_held}
 use Rattle.group_table.proofs.table.GroupTable.insert_noted.Goals as goal
 use Rattle.group_table.proofs.table.GroupTable.insert_noted.Given as given
 
@@ -53,7 +53,7 @@ returns-in_err-slot g c =
       slot = tt;
       groups = tt;
       refused = (
-        ap (λ (x : TableState g.row.H.Denot). x.slots) three.array ∙ next_slots t next,
+        ap (λ (x : TableState g.row.H.Denot). x.slots) three.array,
         ap (λ (x : TableState g.row.H.Denot). groups x e) three.array ∙ settled_groups t next tree a b e placed one.only two.others two.buckets two.groups two.standing.placed three.only,
       );
       others = settled_others t next tree a b e placed one.only two.others two.buckets two.groups two.standing.placed three.only;
@@ -133,7 +133,7 @@ returns-clause-held g c =
     let hash = g.H.KeyHash.hash_of in let t = c.args.self.now in let tree = c.args.tree.now in let a = c.take_array.new.tree in let b = c.take_group-taken.new.tree in let e = c.settle.new.tree in
     let one = c.in_ok-next.ensures in let two = c.take_group-taken.ensures in let three = c.settle.ensures in
     let d = c.put_slot.new.tree in let s1 = c.settle.new.self in
-    let parent = ap (λ (y : TableState g.row.H.Denot). y.parent) three.array ∙ next_parent t c.in_ok-next.next in
+    let parent = ap (λ (y : TableState g.row.H.Denot). y.parent) three.array in
     let last = held_left s1 e d c.put_slot.ensures.only three.standing.placed in
     let same = c.put_slot.ensures.held in
     let after : held_below d s1.parent ≡ held_below e s1.parent = omega (arith, last, same) in
@@ -150,7 +150,7 @@ returns-clause-holds g c holds =
     let others = returns-clause-others g c in
     let alone : held_below d t.parent ≡ held_in t d = omega (arith, holds.alone, others_held t tree d placed others) in
     let slots : v.items ≡ t.slots ++ slot ∷ [] =
-    c.push_reserved.ensures.items ∙ ap (λ (y : TableState g.row.H.Denot). y.slots ++ slot ∷ []) (c.self.view_is ∙ three.array) ∙ ap (λ ys. ys ++ slot ∷ []) (next_slots t next) in
+    c.push_reserved.ensures.items ∙ ap (λ (y : TableState g.row.H.Denot). y.slots ++ slot ∷ []) (c.self.view_is ∙ three.array) in
     let array = three.holds (length t.slots) (subst (IsSetWith (HoldsNext t.array next (length t.slots))) (sym two.buckets) (one.holds holds.in_buckets)) in
     let at = buckets_at t next s1 three.array b e d two.standing.placed three.only three.standing.placed four.only in
     let put = subst (λ id. IsSetWith (HoldsArray s1.array (length t.slots + 1)) (context_at d id)) at (four.holds (length t.slots + 1) (subst (λ id. IsSetWith (HoldsArray s1.array (length t.slots + 1)) (context_at e id)) (sym at) array)) in
@@ -165,7 +165,6 @@ returns-clause-holds g c holds =
 pub returns-clause-slot : goal.returns-clause-slot
 returns-clause-slot g c =
     c.push_reserved.ensures.items ∙ ap (λ (y : TableState g.row.H.Denot). y.slots ++ c.in_ok-slot.slot ∷ []) (c.self.view_is ∙ c.settle.ensures.array)
-    ∙ ap (λ ys. ys ++ c.in_ok-slot.slot ∷ []) (next_slots c.args.self.now c.in_ok-next.next)
 
 pub returns-clause-refused : goal.returns-clause-refused
 returns-clause-refused g c = tt

@@ -13,9 +13,9 @@ put_into-requires g c =
     let absent = subst (λ (x : TableState g.row.H.Denot). HasNo x tree key) (sym c.self.view_is) c.requires.absent in
     let room = subst (λ (x : TableState g.row.H.Denot). HasNext x tree None) (sym c.self.view_is) c.requires.room in
     record {
-      array = array_at hash _ slot tree is key state next absent c.in-Some.name c.in-Some.is room;
-      index = index_at hash _ slot tree is key state next absent c.in-Some.name c.in-Some.is room;
-      room = room_at hash _ slot tree is key state next absent c.in-Some.name c.in-Some.is room;
+      array = array_at hash _ slot tree is key state next absent c.unwrap-name.result c.unwrap-name.ensures room;
+      index = index_at hash _ slot tree is key state next absent c.unwrap-name.result c.unwrap-name.ensures room;
+      room = room_at hash _ slot tree is key state next absent c.unwrap-name.result c.unwrap-name.ensures room;
     }
 
 pub returns-clause-standing : goal.returns-clause-standing
@@ -26,7 +26,7 @@ returns-clause-standing g c =
     let absent = subst (λ (x : TableState g.row.H.Denot). HasNo x tree key) (sym c.self.view_is) c.requires.absent in
     let room = subst (λ (x : TableState g.row.H.Denot). HasNext x tree None) (sym c.self.view_is) c.requires.room in
     subst (λ (x : TableState g.row.H.Denot). IsStanding hash (with_slot x slot) c.put_into.new.tree) c.self.view_is
-    (stands_more hash _ slot tree is key state next absent c.in-Some.name c.in-Some.is room c.put_into.new.tree c.put_into.ensures.only c.put_into.ensures.rewritten c.put_into.ensures.index c.put_into.ensures.more
+    (stands_more hash _ slot tree is key state next absent c.unwrap-name.result c.unwrap-name.ensures room c.put_into.new.tree c.put_into.ensures.only c.put_into.ensures.rewritten c.put_into.ensures.index c.put_into.ensures.more
     c.key_hash-hash.result c.key_hash-hash.ensures c.put_into.ensures.put)
 
 pub returns-clause-only : goal.returns-clause-only
