@@ -1,10 +1,10 @@
 -- Runs in chunks.
 use Rattle.std.specs.Prelude.{◌≡◌, refl, ℕ, zero, suc, ◌+◌, ◌-◌, ◌<◌, ◌≤◌, List, [], ◌∷◌, ◌++◌, length, take, drop, Some, slice_get, slice_set, slice_index_or, slice_range}
 use Rattle.std.proofs.Common.{sym, ◌∙◌, ap, subst, arith, append_assoc, append-nil}
-use Rattle.std.proofs.lemmas.List.{take-append-drop, length-append, length-take, length-drop, length-set, take_all}
+use Rattle.std.proofs.lemmas.List.{take-append-drop, length-append, length-take, length-set, take_all}
 use Rattle.std.proofs.lemmas.List.Edits.{length-insert}
 use Rattle.std.specs.List.{insert}
-use Rattle.std.proofs.lemmas.Grind.{flat_map-append}
+use Rattle.std.proofs.lemmas.Grind.{flat_map-append, common_steps}
 use Rattle.std.proofs.Math.Seq.{take-append_seam, drop-append_seam}
 use Rattle.std.specs.List.Sorted.{IsStrictlySortedBy}
 use Rattle.packed_rows.specs.RowsOnEndLaws.{ends_long, ends_append}
@@ -16,6 +16,7 @@ use Rattle.group_runs.specs.Chunks.{AreChunks, IsAmong, replaced}
 use Rattle.group_runs.specs.PlaceLaws.{drop_at, take_found}
 use Rattle.group_runs.proofs.PlaceLaws.{rises_drop}
 use Rattle.group_runs.proofs.RunLaws.{run_front_rises}
+use Rattle.std.proofs.lemmas.Bool.Decides.{nat_tests}
 
 -- ---- lists
 
@@ -66,10 +67,7 @@ pub get_range : {X : Type 0} (xs : List X) (from to i : ℕ) (x : X) → slice_g
 get_range xs from to i x at low = get_taken (drop from xs) (to - from) i low ∙ get_dropped xs from i (from + i) refl ∙ at
 
 pub range_long : {X : Type 0} (xs : List X) (from to : ℕ) → from ≤ to → to ≤ length xs → length (slice_range xs from to) ≡ to - from
-range_long {X = X} xs from to order within =
-    let taken = length-take (to - from) (drop from xs) in
-    let dropped = length-drop from xs in
-    omega (arith, taken, dropped, order, within)
+range_long {X = X} xs from to order within = grind (arith, nat_tests, common_steps)
 
 -- a list by a member of it
 pub split_at : {X : Type 0} (xs : List X) (i : ℕ) (x : X) → slice_get xs i ≡ Some x → xs ≡ take i xs ++ x ∷ drop (i + 1) xs

@@ -3,7 +3,7 @@ use Rattle.std.specs.Prelude.{◌≡◌, refl, ℕ, zero, suc, ◌+◌, ◌-◌,
 use Rattle.std.proofs.Common.{sym, ◌∙◌, ap, subst, arith, append_assoc, append-nil}
 use Rattle.std.proofs.lemmas.List.{take-append-drop, length-append, length-take, length-drop}
 use Rattle.std.proofs.lemmas.List.Folds.{drop_split}
-use Rattle.std.proofs.lemmas.Grind.{flat_map-append}
+use Rattle.std.proofs.lemmas.Grind.{flat_map-append, common_steps}
 use Rattle.std.proofs.Math.Seq.{take-add, take-append_seam, drop-append_seam, drop-append-add}
 use Rattle.std.specs.List.{flat_map, AllByRecursion}
 use Rattle.std.specs.List.Sorted.{IsStrictlySortedBy}
@@ -11,6 +11,7 @@ use Rattle.std.specs.Ordering.{nat_cmp}
 use Rattle.std.specs.Cmp.Lexicographic.{slice_cmp}
 use Rattle.packed_rows.specs.RowsOnEndLaws.{between_seams}
 use Rattle.group_runs.specs.Runs.{Entry, packed_keys, keys_on_end, states_on_end, end_of, ends_of, cut, all_cut, LieAs, AreRun, Rises, IsEndFrom, moved}
+use Rattle.std.proofs.lemmas.Bool.Decides.{nat_tests}
 
 cut_behind : (keys states : List ℕ) (run : List Entry) → cut (keys ++ keys_on_end run) (states ++ states_on_end run) (length keys, length states) (ends_of (length keys, length states) run) ≡ run
 cut_behind keys states [] = refl
@@ -301,11 +302,7 @@ pub middle_is : (states : List ℕ) (a b : ℕ) (front : List Entry) (e : Entry)
 middle_is states a b front e back middle = (λ i. slice_range (middle.there i) (middle.from i) (middle.to i)) ∙ between_seams (states_on_end front) e.1 (states_on_end back)
 
 pub middle_high : (states : List ℕ) (a b : ℕ) (front : List Entry) (e : Entry) (back : List Entry) → MiddleAt states a b front e back → b ≤ length states
-middle_high states a b front e back middle =
-    let to = middle.to in
-    let all = ap length middle.there ∙ length-append (states_on_end front) (e.1 ++ states_on_end back) in
-    let rest = length-append e.1 (states_on_end back) in
-    omega (arith, to, all, rest)
+middle_high states a b front e back middle = grind (arith, nat_tests, common_steps)
 
 -- other states of the same length in their place
 pub written_at : (keys states : List ℕ) (ends : List (ℕ × ℕ)) (front : List Entry) (e : Entry) (back : List Entry) (a b : ℕ) (new states' : List ℕ) → LieAs keys states ends (front ++ e ∷ back) → MiddleAt states a b front e back → length new ≡ b - a

@@ -39,9 +39,8 @@ AllPast key groups = AllByRecursion (λ (h : Group). row_cmp h.0 key ≡ Greater
 
 pub groups_before : (q : Query) (m n : ℕ) (xs ys : List Entry) (gs hs : List Group) → AreGroups q m xs gs → AreGroups q n ys hs → AreBefore xs ys → GroupsBefore gs hs
 groups_before q m n xs [] gs [] are more before = tt
-groups_before q m n xs [] gs (h ∷ hs) are more before = absurd more
-groups_before q m n xs (e ∷ ys) gs [] are more before = absurd more
 groups_before q m n xs (e ∷ ys) gs (h ∷ hs) are (first, more) (low, before) = (groups_below q m n e.0 h first.key first.of_kinds xs gs are low, groups_before q m n xs ys gs hs are more before)
+groups_before q m n xs _ gs _ are more before = absurd more
 
 inserted_before : (key : Row) (ps : List Partial) (front back : List Group) → AllPast key back → insert_entry row_cmp (front ++ back) key ps ≡ insert_entry row_cmp front key ps ++ back
 inserted_before key ps [] [] past = refl
@@ -153,11 +152,10 @@ adds_all q run rises = λ m n groups more few are new. of_none m n groups more a
   where
     as_it_is : (n : ℕ) (run : List Entry) (more : List Group) → Rises run → AreGroups q n run more → groups_added q [] more ≡ more
     as_it_is n [] [] rises new = refl
-    as_it_is n [] (g ∷ more) rises new = absurd new
-    as_it_is n (e ∷ run) [] rises new = absurd new
     as_it_is n (e ∷ run) (g ∷ more) (above, rises) (first, new) =
         groups_added_behind q (g ∷ []) [] more (groups_before q n n (e ∷ []) run (g ∷ []) more (first, tt) new (rises_before (e ∷ []) run (above, rises)))
         ∙ ap (λ gs. g ∷ gs) (as_it_is n run more rises new)
+    as_it_is n _ _ rises new = absurd new
 
     of_none : (m n : ℕ) (groups more : List Group) → AreGroups q m [] groups → AreGroups q n run more → AreGroups q (m + n) run (groups_added q groups more)
     of_none m n [] more are new = subst (AreGroups q (m + n) run) (sym (as_it_is n run more rises new)) (groups_raised q n (m + n) run more (omega arith) new)

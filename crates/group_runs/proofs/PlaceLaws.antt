@@ -284,18 +284,6 @@ up_to_here front back key states place long below =
     (each_append (λ (e : Entry). slice_cmp nat_cmp e.0 key ≢ Greater) front ((key, states) ∷ []) (below_up_to key front below) (itself_up_to key, tt))
 
 -- ---- what a search narrows down
-pub between_within : (run : List Entry) (from low high low' high' : ℕ) (key : List ℕ) → IsBetween run from low high key → IsBetween run low low' high' key → IsBetween run from low' high' key
-between_within run from low high low' high' key outer inner =
-    let first = outer.behind in
-    let second = inner.behind in
-    record {
-      behind = omega (arith, first, second);
-      order = inner.order;
-      within = inner.within;
-      below = subst (AllBelow key) (sym (range_parts run from low low' first second)) (each_append (IsBelow key) (slice_range run from low) (slice_range run low low') outer.below inner.below);
-      not_below = inner.not_below;
-    }
-
 pub place_within : (run : List Entry) (from low high : ℕ) (key : List ℕ) (place : ℕ) → IsBetween run from low high key → IsPlaceOf run low key place → IsPlaceOf run from key place
 place_within run from low high key place outer inner =
     let first = outer.behind in

@@ -49,13 +49,12 @@ run_apart q most run groups are rises =
 -- what a group's states count at most
 pub found_within : (q : Query) (most : ℕ) (run : List Entry) (groups : List Group) (key : Row) → AreGroups q most run groups → IfSome (partials_at key groups) (AllWithin most)
 found_within q most [] [] key are = tt
-found_within q most [] (g ∷ groups) key are = absurd are
-found_within q most (e ∷ run) [] key are = absurd are
 found_within q most (e ∷ run) (g ∷ groups) key (first, rest) =
     elim (same_row g.0 key) as (λ b. IfSome (option_map (λ (group : Group). group.1) (cond b (Some g) (find (λ (group : Group). same_row group.0 key) groups))) (AllWithin most)) [
       | true ↦ all_within most first.states.kinds e.1 g.1 first.states.denote
       | false ↦ found_within q most run groups key rest
     ]
+found_within q most _ _ key are = absurd are
 
 -- a group's key is new where those before it were added
 pub within_at : (q : Query) (m n : ℕ) (old run : List Entry) (groups more : List Group) (i : ℕ) (g : Group) → AreGroups q m old groups → AreGroups q n run more → Rises run → slice_get more i ≡ Some g → IfSome (partials_at g.0 (groups_added q groups (take i more))) (AllWithin m)

@@ -1,7 +1,7 @@
 -- Where a key stands in a chunk, and among all groups.
 use Rattle.std.specs.Prelude.{◌≡◌, ℕ, ◌+◌, ◌-◌, ◌<◌, ◌≤◌, List, ◌++◌, length, take, drop, Some, slice_get, slice_range}
 use Rattle.std.proofs.Common.{sym, ◌∙◌, ap, subst, arith}
-use Rattle.std.proofs.lemmas.List.{take_all, take-append-le, drop-append-le, length-drop}
+use Rattle.std.proofs.lemmas.List.{take-append-le, drop-append-le, length-drop}
 use Rattle.std.proofs.Math.Seq.{drop-append-add}
 use Rattle.std.specs.List.{AllByRecursion}
 use Rattle.list_laws.specs.Each.{each_append, each_behind}
@@ -9,6 +9,8 @@ use Rattle.group_runs.specs.Runs.{Entry}
 use Rattle.group_runs.specs.Places.{IsNotBelow, AllBelow, IsPlaceOf}
 use Rattle.packed_rows.specs.RowsOnEnd.{on_end}
 use Rattle.group_runs.proofs.ChunkLaws.{around, next_start, front_few}
+use Rattle.std.proofs.lemmas.Bool.Decides.{nat_tests}
+use Rattle.std.proofs.lemmas.Grind.{common_steps}
 
 -- the groups from a place in a chunk on, by those of all chunks
 dropped_in : (chunks : List (List Entry)) (at : ℕ) (chunk : List Entry) (i place : ℕ) → slice_get chunks at ≡ Some chunk → length (on_end (take at chunks)) + i ≡ place → i ≤ length chunk → drop place (on_end chunks) ≡ drop i chunk ++ on_end (drop (at + 1) chunks)
@@ -28,10 +30,7 @@ range_in chunks at chunk i j low place is first second order within =
 
 -- a chunk in which groups lie is there
 pub lies_there : (chunks : List (List Entry)) (at low high : ℕ) → length (on_end (take at chunks)) ≤ low → low < high → high ≤ length (on_end chunks) → at < length chunks
-lies_there chunks at low high begun some within =
-    let no : length chunks ≤ at → ⊥ =
-    λ past. let all = ap (λ cs. length (on_end cs)) (take_all at chunks past) in omega (arith, begun, some, within, all) in
-    omega (arith, no)
+lies_there chunks at low high begun some within = grind (arith, nat_tests, common_steps)
 
 -- the place of a key in the chunk that it lies in is that among all groups
 pub place_in : (chunks : List (List Entry)) (at low high : ℕ) (chunk : List Entry) (start : ℕ) (key : List ℕ) (i : ℕ) → slice_get chunks at ≡ Some chunk → start ≡ length (on_end (take at chunks)) → start ≤ low → low ≤ high → high ≤ length (on_end (take (at + 1) chunks)) → AllByRecursion (IsNotBelow key) (drop high (on_end chunks)) → IsPlaceOf chunk (low - start) key i → IsPlaceOf (on_end chunks) low key (start + i)

@@ -65,9 +65,8 @@ parted q m (e ∷ front) back (g ∷ groups) (first, are) =
 
 pub together : (q : Query) (m : ℕ) (front back : List Entry) (before after : List Group) → AreGroups q m front before → AreGroups q m back after → AreGroups q m (front ++ back) (before ++ after)
 together q m [] back [] after are more = more
-together q m [] back (g ∷ before) after are more = absurd are
-together q m (e ∷ front) back [] after are more = absurd are
 together q m (e ∷ front) back (g ∷ before) after (first, are) more = (first, together q m front back before after are more)
+together q m _ back _ after are more = absurd are
 
 -- groups with rising keys have rising packed keys
 pub packed_rise : (q : Query) (m : ℕ) (run : List Entry) (groups : List Group) → AreGroups q m run groups → IsStrictlySortedBy row_cmp (keys_of groups) → Rises run
@@ -86,28 +85,25 @@ module _ (q : Query) (m n : ℕ) (key : List ℕ) (group : Group) (is : key ≡ 
   -- what is below and above in bytes is so in keys
   pub groups_below : (front : List Entry) (before : List Group) → AreGroups q m front before → places.AllBelow key front → AllBelow group.0 before
   groups_below [] [] are below = tt
-  groups_below [] (g ∷ before) are below = absurd are
-  groups_below (e ∷ front) [] are below = absurd are
   groups_below (e ∷ front) (g ∷ before) (first, are) (low, below) =
       (row_cmp_total.antisymm group.0 g.0 ∙ ap ordering_reverse (sym (key_order (key_kinds q) g.0 group.0 e.0 key first.key is first.of_kinds has) ∙ low), groups_below front before are below)
+  groups_below _ _ are below = absurd are
 
   -- a key that is below all is not among them, and comes first
   none_above : (back : List Entry) (after : List Group) → AreGroups q m back after → places.AllAbove key back → partials_at group.0 after ≡ None
   none_above [] [] are above = refl
-  none_above [] (g ∷ after) are above = absurd are
-  none_above (e ∷ back) [] are above = absurd are
   none_above (e ∷ back) (g ∷ after) (first, are) (high, above) =
       let order : row_cmp group.0 g.0 ≡ Less = sym (key_order (key_kinds q) group.0 g.0 key e.0 is first.key has first.of_kinds) ∙ high in
       ap (λ b. option_map (λ (group : Group). group.1) (cond b (Some g) (find (λ (g : Group). same_row g.0 group.0) after))) (same_row-swap g.0 group.0 ∙ ap is_eq order)
       ∙ none_above back after are above
+  none_above _ _ are above = absurd are
 
   comes_first : (ps : List Partial) (back : List Entry) (after : List Group) → AreGroups q m back after → places.AllAbove key back → insert_entry row_cmp after group.0 ps ≡ (group.0, ps) ∷ after
   comes_first ps [] [] are above = refl
-  comes_first ps [] (g ∷ after) are above = absurd are
-  comes_first ps (e ∷ back) [] are above = absurd are
   comes_first ps (e ∷ back) (g ∷ after) (first, are) (high, above) =
       let order : row_cmp group.0 g.0 ≡ Less = sym (key_order (key_kinds q) group.0 g.0 key e.0 is first.key has first.of_kinds) ∙ high in
       ap (λ r. match_ordering r ((group.0, ps) ∷ g ∷ after) ((g.0, ps) ∷ after) (g ∷ insert_entry row_cmp after group.0 ps)) order
+  comes_first ps _ _ are above = absurd are
 
   -- a group behind those below its key
   added_after : (front : List Entry) (before after : List Group) → AreGroups q m front before → places.AllBelow key front → group_added q (before ++ after) group ≡ before ++ insert_entry row_cmp after group.0 (merged q (partials_at group.0 after) group.1)

@@ -5,7 +5,7 @@ use Rattle.std.specs.Ordering.{nat_cmp}
 use Rattle.std.specs.Cmp.Lexicographic.{slice_cmp}
 use Rattle.std.specs.List.{AllByRecursion}
 use Rattle.grouping_model.specs.Aggregates.{Function}
-use Rattle.group_runs.specs.Runs.{Entry, packed_keys, LieAs}
+use Rattle.group_runs.specs.Runs.{Entry, packed_keys}
 use Rattle.group_runs.specs.Steps.{HaveRoomForMore, CombineWith}
 
 -- a group's key is below a key, or isn't
@@ -65,17 +65,3 @@ CombinesAt these old place more new =
     → old ≡ front ++ entry ∷ back
     → length front ≡ place
     → (states : List ℕ) × (new ≡ front ++ (entry.0, states) ∷ back) × CombineWith these entry.1 more states
-
--- the same in the states of a run that lie on end
-pub record LieFor (these : List Function) (states : List ℕ) (ends : List (ℕ × ℕ)) (place : ℕ) (more : List ℕ) : Type 0 where
-  pub keys : List ℕ
-  pub run : List Entry
-  pub lie : LieAs keys states ends run
-  pub can : HasStatesFor these run place more
-
-abbrev pub CombinesIn : List Function → List ℕ → List (ℕ × ℕ) → ℕ → List ℕ → List ℕ → Type 0
-CombinesIn these old ends place more new =
-    (keys : List ℕ) (front : List Entry) (entry : Entry) (back : List Entry)
-    → LieAs keys old ends (front ++ entry ∷ back)
-    → length front ≡ place
-    → (states : List ℕ) × LieAs keys new ends (front ++ (entry.0, states) ∷ back) × CombineWith these entry.1 more states

@@ -47,10 +47,9 @@ states_short q m bytes ps formed are =
 -- the same groups with a higher bound
 pub groups_raised : (q : Query) (m n : ℕ) (es : List Entry) (gs : List Group) → m ≤ n → AreGroups q m es gs → AreGroups q n es gs
 groups_raised q m n [] [] low are = tt
-groups_raised q m n [] (g ∷ gs) low are = absurd are
-groups_raised q m n (e ∷ es) [] low are = absurd are
 groups_raised q m n (e ∷ es) (g ∷ gs) low (first, rest) =
     (record { key = first.key; of_kinds = first.of_kinds; states = states_raised (functions q) m n e.1 g.1 low first.states }, groups_raised q m n es gs low rest)
+groups_raised q m n _ _ low are = absurd are
 
 -- an entry at a place, and the group that it stands for
 pub record GroupAt (q : Query) (most : ℕ) (groups : List Group) (i : ℕ) (entry : Entry) : Type 0 where
@@ -69,22 +68,19 @@ group_at q most (e ∷ run) (g ∷ groups) (suc i) entry (first, rest) at =
 
 pub groups_long : (q : Query) (most : ℕ) (run : List Entry) (groups : List Group) → AreGroups q most run groups → length run ≡ length groups
 groups_long q most [] [] are = refl
-groups_long q most [] (g ∷ groups) are = absurd are
-groups_long q most (e ∷ run) [] are = absurd are
 groups_long q most (e ∷ run) (g ∷ groups) (first, rest) = ap suc (groups_long q most run groups rest)
+groups_long q most _ _ are = absurd are
 
 -- the keys of a run
 pub keys_packed : (q : Query) (most : ℕ) (run : List Entry) (groups : List Group) → AreGroups q most run groups → packed_keys run ≡ map packing (keys_of groups)
 keys_packed q most [] [] are = refl
-keys_packed q most [] (g ∷ groups) are = absurd are
-keys_packed q most (e ∷ run) [] are = absurd are
 keys_packed q most (e ∷ run) (g ∷ groups) (first, rest) = λ i. first.key i ∷ keys_packed q most run groups rest i
+keys_packed q most _ _ are = absurd are
 
 pub keys_of_kinds : (q : Query) (most : ℕ) (run : List Entry) (groups : List Group) → AreGroups q most run groups → AllByRecursion (HasKinds (key_kinds q)) (keys_of groups)
 keys_of_kinds q most [] [] are = tt
-keys_of_kinds q most [] (g ∷ groups) are = absurd are
-keys_of_kinds q most (e ∷ run) [] are = absurd are
 keys_of_kinds q most (e ∷ run) (g ∷ groups) (first, rest) = (first.of_kinds, keys_of_kinds q most run groups rest)
+keys_of_kinds q most _ _ are = absurd are
 
 -- what stands for groups is their bytes
 one_stands : (query : Query) (most : ℕ) (entry : Entry) (group : Group) → StandsFor query most entry group → (entry ≡ group_bytes group) × IsGroupOf query most group
@@ -102,12 +98,11 @@ one_spelled query most group is =
 
 pub stands_spelled : (query : Query) (most : ℕ) (run : List Entry) (groups : List Group) → AreGroups query most run groups → (run ≡ run_bytes groups) × AllByRecursion (IsGroupOf query most) groups
 stands_spelled query most [] [] are = (refl, tt)
-stands_spelled query most [] (group ∷ groups) are = absurd are
-stands_spelled query most (entry ∷ run) [] are = absurd are
 stands_spelled query most (entry ∷ run) (group ∷ groups) (one, are) =
     let first = one_stands query most entry group one in
     let rest = stands_spelled query most run groups are in
     (λ i. first.0 i ∷ rest.0 i, (first.1, rest.1))
+stands_spelled query most _ _ are = absurd are
 
 pub spelled_stands : (query : Query) (most : ℕ) (groups : List Group) → AllByRecursion (IsGroupOf query most) groups → AreGroups query most (run_bytes groups) groups
 spelled_stands query most [] all = tt

@@ -6,7 +6,7 @@ ghost use Rattle.grouping_model.specs.Parts.{functions};
 ghost use Rattle.having_filter.specs.Meaning.{meaning};
 ghost use Rattle.group_runs.specs.Runs.{Rises, all_cut, LieAs, keys_on_end, states_on_end, IsEndFrom, moved};
 ghost use Rattle.group_runs.specs.Steps.{HaveRoomForMore, CombineWith};
-ghost use Rattle.group_runs.specs.Places.{HasStatesFor, CombinesAt, LieFor, CombinesIn};
+ghost use Rattle.group_runs.specs.Places.{HasStatesFor, CombinesAt};
 
 use crate::states::combine_slice;
 use having_filter::Query;
@@ -61,14 +61,6 @@ fn bound(ends: &[(usize, usize)], groups: usize) -> (usize, usize)
     } else {
         ends[groups - 1]
     }
-}
-
-/// Where the group at a place ends.
-fn end(ends: &[(usize, usize)], place: usize) -> (usize, usize)
-    requires { place < length ends.now }
-    ensures { result ≡ slice_index_or ((0, 0) ∷ ends.now) (place + 1) (0, 0) }
-{
-    ends[place]
 }
 
 /// What lies from a place to another.
@@ -136,23 +128,6 @@ fn combine_part(query: &Query, states: &mut Vec<u8>, from: usize, to: usize, mor
         more.now part }
 {
     combine_slice(query, &mut states[from..to], more);
-}
-
-/// Combines the states of the group at a place with others, which come behind.
-fn combine_one(
-    query: &Query,
-    states: &mut Vec<u8>,
-    ends: &[(usize, usize)],
-    place: usize,
-    more: &[u8],
-)
-    requires { LieFor (functions (meaning query.now)) states.old.items ends.now place more.now }
-    ensures { CombinesIn (functions (meaning query.now)) states.old.items ends.now place more.now
-        states.new.items }
-{
-    let from = bound(ends, place);
-    let to = end(ends, place);
-    combine_part(query, states, from.1, to.1, more);
 }
 
 impl Chunk {
@@ -255,7 +230,9 @@ impl Chunk {
         requires { HasStatesFor (functions (meaning query.now)) self.old place more.now }
         ensures { CombinesAt (functions (meaning query.now)) self.old place more.now self.new }
     {
-        combine_one(query, &mut self.states, &self.ends, place, more);
+        let from = bound(&self.ends, place);
+        let to = bound(&self.ends, place + 1);
+        combine_part(query, &mut self.states, from.1, to.1, more);
     }
 
     /// The same groups again. The only error is a failed allocation.

@@ -110,14 +110,7 @@ impl Chunks {
         requires { from ≤ length (on_end self.now) }
         ensures { IsTrue result → IsPlaceOf (on_end self.now) from key.now from }
     {
-        if from >= self.len() {
-            return false;
-        }
-        let (first, _) = self.group(from);
-        if is_below(first, key) {
-            return false;
-        }
-        true
+        from < self.len() && !is_below(self.group(from).0, key)
     }
 
     /// The place of a key among the groups from a place on: that of the first one whose key is not below it. `step` is a guess of

@@ -120,8 +120,5 @@ pub(crate) fn combine_slice(query: &Query, states: &mut [u8], more: &[u8])
     requires { HaveRoomForMore (functions (meaning query.now)) states.old more.now }
     ensures { CombineWith (functions (meaning query.now)) states.old more.now states.new }
 {
-    match combine_within(query, states, more, MOST_COUNTED) {
-        Ok(()) => {}
-        Err(BadState) => unreachable!(),
-    }
+    combine_within(query, states, more, MOST_COUNTED).unwrap();
 }

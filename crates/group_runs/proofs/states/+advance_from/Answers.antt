@@ -1,5 +1,5 @@
-use Rattle.std.specs.Prelude.{◌≡◌, refl, ℕ, List, length, take, drop, ◌==◌, OnErr, Result, Ok, Err}
-use Rattle.std.proofs.Common.{sym, ◌∙◌, ap, subst, arith, rules}
+use Rattle.std.specs.Prelude.{refl, ℕ, List, length, take, drop, ◌==◌, OnErr, Result, Ok, Err}
+use Rattle.std.proofs.Common.{sym, ◌∙◌, ap, arith, rules}
 use Rattle.std.proofs.lemmas.Bool.{eqb-true}
 use Rattle.std.proofs.lemmas.List.{length-take, nil_from_length}
 use Rattle.std.proofs.lemmas.Option.{slice_get_within}

@@ -5,8 +5,8 @@ use Rattle.group_runs.specs.Places.{AllBelow, IsNotBelow}
 use Rattle.group_runs.proofs.PlaceLaws.{range_none, not_below_from}
 use Rattle.group_runs.proofs.chunks.Chunks.is_next.Goals as goal
 
-pub returns : goal.returns
-returns c =
+pub returns-then-from-len : goal.returns-then-from-len
+returns-then-from-len c =
     λ so.
     let run = on_end c.args.self.now in
     let entry : Entry = (c.group.result.0.now, c.group.result.1.now) in
