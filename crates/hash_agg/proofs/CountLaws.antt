@@ -21,15 +21,17 @@ use Rattle.having_filter.specs.Meaning.{meaning}
 use Rattle.hash_agg.specs.declared.plan.Plan.{Plan}
 use Rattle.group_runs.specs.Runs.{Entry}
 use Rattle.packed_rows.specs.RowsOnEnd.{on_end}
+use Rattle.having_filter.specs.Kept.{key_kinds}
 use Rattle.hash_agg.specs.Inputs.{Brought, Packed, Counted, rows_in, all_rows, IsInput, AllBring, Given, Of_rows, Of_groups, Gives, AllGive}
 use Rattle.group_runs.specs.Adding.{row_added, rows_added, group_added, groups_added}
 use Rattle.hash_agg.specs.Added.{Are, source_of}
 use Rattle.hash_agg.specs.Passes.{Of_row, Of_group, pieces_added, made_of, piece_key, weight, rows_at, CountUpTo, given_pieces, all_pieces, PassState, setting_of, Holds, CanRead, Reads, total, brings, brought_by, Brings}
-use Rattle.group_runs.specs.StandingLaws.{groups_long}
+use Rattle.group_runs.specs.StandingLaws.{keys_packed, keys_of_kinds}
 use Rattle.group_runs.proofs.RunLaws.{run_apart}
-use Rattle.group_runs.specs.MergeLaws.{AreApart, puts_rise, nothing_rises, keys_of-rows_added, keys_of-groups_added}
+use Rattle.group_runs.proofs.MergeLaws.{puts-append}
+use Rattle.group_runs.specs.MergeLaws.{AreApart, puts, puts_rise, nothing_rises, keys_of-rows_added, keys_of-groups_added}
 use Rattle.hash_agg.proofs.PassLaws.{rows_append, pieces_append}
-use Rattle.hash_agg.proofs.WholeLaws.{GivenAt, given_added, all_added}
+use Rattle.hash_agg.proofs.WholeLaws.{GivenAt, given_added, all_added, packings_once}
 
 pub pieces_are : (q : Query) (hf : List ℕ → ℕ) (input : Brought) (given : Given) → Gives q input given → Are q hf (source_of input) (given_pieces input given)
 pieces_are q hf (Packed packed) (Of_rows rows) gives = (rows, gives, refl)
@@ -206,13 +208,14 @@ groups_bring q most (g ∷ groups) =
     let rest = groups_bring q most groups in
     omega (arith, both, rest)
 
--- inputs that bring keys give pieces that bring as many
-pub record GiveAsMany (q : Query) (inputs : List Brought) (keys : List Row) : Type 0 where
+-- inputs that bring keys give groups of these keys, and pieces that bring as many
+pub record GiveKeys (q : Query) (inputs : List Brought) (keys : List Row) : Type 0 where
   pub givens : List Given
   pub give : AllGive q inputs givens
+  pub added : (gs : List Group) → keys_of (all_added q gs givens) ≡ puts (keys_of gs) keys
   pub bring : brought_by q (all_pieces inputs givens) ≡ length keys
 
-next_bring : (q : Query) (input : Brought) (given : Given) (inputs : List Brought) (keys : List Row) (lists : List (List Row)) (rest : GiveAsMany q inputs (on_end lists)) → brought_by q (given_pieces input given) ≡ length keys
+next_bring : (q : Query) (input : Brought) (given : Given) (inputs : List Brought) (keys : List Row) (lists : List (List Row)) (rest : GiveKeys q inputs (on_end lists)) → brought_by q (given_pieces input given) ≡ length keys
     → brought_by q (given_pieces input given ++ all_pieces inputs rest.givens) ≡ length (keys ++ on_end lists)
 next_bring q input given inputs keys lists rest one =
     let both = sum_by-append (brings q) (given_pieces input given) (all_pieces inputs rest.givens) in
@@ -220,30 +223,41 @@ next_bring q input given inputs keys lists rest one =
     let long = length-append keys (on_end lists) in
     omega (arith, both, others, long, one)
 
-pub give_as_many : (q : Query) (inputs : List Brought) (lists : List (List Row)) → AllByRecursion (IsInput q) inputs → AllBring q inputs lists → GiveAsMany q inputs (on_end lists)
-give_as_many q [] [] all bring = record { givens = []; give = tt; bring = refl }
-give_as_many q [] (keys ∷ lists) all bring = absurd bring
-give_as_many q (input ∷ inputs) [] all bring = absurd bring
-give_as_many q (Packed packed ∷ inputs) (keys ∷ lists) (first, all) (one, bring) =
-    let rest = give_as_many q inputs lists all bring in
+pub keys_give : (q : Query) (inputs : List Brought) (lists : List (List Row)) → AllByRecursion (IsInput q) inputs → AllBring q inputs lists → GiveKeys q inputs (on_end lists)
+keys_give q [] [] all bring = record { givens = []; give = tt; added = λ gs. refl; bring = refl }
+keys_give q [] (ks ∷ lists) all bring = absurd bring
+keys_give q (x ∷ inputs) [] all bring = absurd bring
+keys_give q (Packed packed ∷ inputs) (ks ∷ lists) (first, all) (one, bring) =
+    let rest = keys_give q inputs lists all bring in
     record {
       givens = Of_rows one.0 ∷ rest.givens;
       give = (one.1, rest.give);
-      bring = next_bring q (Packed packed) (Of_rows one.0) inputs keys lists rest (rows_bring q one.0 ∙ sym (ap length one.2 ∙ length-map (selected q one.0) (key_of q)));
+      added =
+          λ gs.
+          rest.added (rows_added q gs one.0)
+          ∙ ap (λ ls. puts ls (on_end lists)) (keys_of-rows_added q gs one.0 ∙ ap (puts (keys_of gs)) (sym one.2))
+          ∙ sym (puts-append (keys_of gs) ks (on_end lists));
+      bring = next_bring q (Packed packed) (Of_rows one.0) inputs ks lists rest (rows_bring q one.0 ∙ sym (ap length one.2 ∙ length-map (selected q one.0) (key_of q)));
     }
-give_as_many q (Counted run most ∷ inputs) (keys ∷ lists) (first, all) (one, bring) =
-    let rest = give_as_many q inputs lists all bring in
+keys_give q (Counted run most ∷ inputs) (ks ∷ lists) (first, all) (one, bring) =
+    let rest = keys_give q inputs lists all bring in
+    let same : keys_of first.groups ≡ ks =
+    packings_once (key_kinds q) (keys_of first.groups) ks (keys_of_kinds q most run first.groups first.are) one.of_kinds (sym (keys_packed q most run first.groups first.are) ∙ one.packings_are) in
     record {
       givens = Of_groups first.groups ∷ rest.givens;
       give = (first.are, rest.give);
-      bring = next_bring q (Counted run most) (Of_groups first.groups) inputs keys lists rest
-          (groups_bring q most first.groups ∙ sym (groups_long q most run first.groups first.are) ∙ sym (length-map run (λ (e : Entry). e.0)) ∙ ap length one.packings_are ∙ length-map keys packing);
+      added =
+          λ gs.
+          rest.added (groups_added q gs first.groups)
+          ∙ ap (λ ls. puts ls (on_end lists)) (keys_of-groups_added q gs first.groups ∙ ap (puts (keys_of gs)) same)
+          ∙ sym (puts-append (keys_of gs) ks (on_end lists));
+      bring = next_bring q (Counted run most) (Of_groups first.groups) inputs ks lists rest (groups_bring q most first.groups ∙ sym (length-map first.groups (λ (g : Group). g.0)) ∙ ap length same);
     }
 
 -- what is not more than the pieces bring is not more than the keys
 pub few_keys : (q : Query) (inputs : List Brought) (lists : List (List Row)) (n : ℕ) → AllByRecursion (IsInput q) inputs → ((givens : List Given) → AllGive q inputs givens → n ≤ brought_by q (all_pieces inputs givens)) → AllBring q inputs lists → n ≤ length (on_end lists)
 few_keys q inputs lists n all few bring =
-    let many = give_as_many q inputs lists all bring in
+    let many = keys_give q inputs lists all bring in
     let low = few many.givens many.give in
     let is = many.bring in
     omega (arith, low, is)

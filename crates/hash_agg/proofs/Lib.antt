@@ -1,3 +1,4 @@
+pub mod OneByOneLaws
 pub mod TableLaws
 pub mod PassLaws
 pub mod SortLaws

@@ -41,10 +41,6 @@ keys_set [] place key states more at = absurd cc
 keys_set (e ∷ es) zero key states more at = let same : e ≡ (key, states) = cc in ap (λ (e : Entry). e.0 ∷ packed_keys es) (sym same)
 keys_set (e ∷ es) (suc place) key states more at = ap (λ ks. e.0 ∷ ks) (keys_set es place key states more at)
 
--- what was held stays within a limit
-pub none_held : (limit held : ℕ) → held ≡ 0 → held ≤ limit
-none_held limit held none = omega (arith, none)
-
 pub held_by_both : (limit before now after : ℕ) → after ≡ max before now → before ≤ limit → now ≤ limit → after ≤ limit
 held_by_both limit before now after is a b = omega (arith, is, a, b)
 

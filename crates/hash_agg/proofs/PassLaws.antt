@@ -4,6 +4,7 @@ use Rattle.std.proofs.Common.{sym, ◌∙◌, ap, subst, inl, inr, arith}
 use Rattle.std.proofs.lemmas.List.Sums.{sum_by-cons, sum_by-append}
 use Rattle.std.specs.declared.cmp.Ordering.TheVariants.{Less, Equal, Greater}
 use Rattle.std.specs.Ordering.{match_ordering, is_eq}
+use Rattle.std.specs.Option.{option_or}
 use Rattle.std.specs.Cmp.{tied_itself}
 use Rattle.std.specs.BTreeMap.{insert_entry}
 use Rattle.grouping_model.specs.Datum.{Row, HasKinds, row_cmp, same_row}
@@ -28,6 +29,7 @@ use Rattle.group_runs.proofs.MergeLaws.{found_among, found_others}
 use Rattle.group_runs.proofs.RunLaws.{packed_once}
 use Rattle.group_runs.specs.StandingLaws.{states_raised}
 use Rattle.hash_agg.proofs.TableLaws.{HasNoKey}
+use Rattle.hash_agg.proofs.OneByOneLaws.{one_append, none_to_none}
 
 -- ---- what is found at a key
 
@@ -71,32 +73,27 @@ missing k (g ∷ gs) e =
       | false ↦ λ s e. ap (λ b. cond b (Some g.1) (partials_at k gs)) (same_row-swap g.0 k ∙ s) ∙ missing k gs e
     ] refl e)
 
--- the first of two that is there
-abbrev pub or_else : {X : Type 0} → Option X → Option X → Option X
-or_else (Some x) y = Some x
-or_else None y = y
-
-pub or_none : {X : Type 0} (x : Option X) → or_else x None ≡ x
+pub or_none : {X : Type 0} (x : Option X) → option_or x None ≡ x
 or_none (Some x) = refl
 or_none None = refl
 
-pub at_append : (k : Row) (gs hs : List Group) → partials_at k (gs ++ hs) ≡ or_else (partials_at k gs) (partials_at k hs)
+pub at_append : (k : Row) (gs hs : List Group) → partials_at k (gs ++ hs) ≡ option_or (partials_at k gs) (partials_at k hs)
 at_append k [] hs = refl
 at_append k (g ∷ gs) hs =
     at_cons k g (gs ++ hs)
-    ∙ (elim (same_row g.0 k) as (λ b. cond b (Some g.1) (partials_at k (gs ++ hs)) ≡ or_else (cond b (Some g.1) (partials_at k gs)) (partials_at k hs)) [
+    ∙ (elim (same_row g.0 k) as (λ b. cond b (Some g.1) (partials_at k (gs ++ hs)) ≡ option_or (cond b (Some g.1) (partials_at k gs)) (partials_at k hs)) [
       | true ↦ refl
       | false ↦ at_append k gs hs
     ])
-    ∙ ap (λ o. or_else o (partials_at k hs)) (sym (at_cons k g gs))
+    ∙ ap (λ o. option_or o (partials_at k hs)) (sym (at_cons k g gs))
 
 -- one more group behind others, whose key none of them has
 pub behind_with : (key : Row) (ps : List Partial) (gs : List Group) → partials_at key gs ≡ None → IsWith key ps gs (gs ++ (key, ps) ∷ [])
 behind_with key ps gs none k =
     at_append k gs ((key, ps) ∷ [])
-    ∙ ap (or_else (partials_at k gs)) (at_cons k (key, ps) [])
-    ∙ (elim (same_row key k) as (λ b. same_row key k ≡ b → or_else (partials_at k gs) (cond b (Some ps) None) ≡ cond b (Some ps) (partials_at k gs)) [
-      | true ↦ λ e. ap (λ o. or_else o (Some ps)) (ap (λ k. partials_at k gs) (sym ((same_row-is key k).0 e)) ∙ none)
+    ∙ ap (option_or (partials_at k gs)) (at_cons k (key, ps) [])
+    ∙ (elim (same_row key k) as (λ b. same_row key k ≡ b → option_or (partials_at k gs) (cond b (Some ps) None) ≡ cond b (Some ps) (partials_at k gs)) [
+      | true ↦ λ e. ap (λ o. option_or o (Some ps)) (ap (λ k. partials_at k gs) (sym ((same_row-is key k).0 e)) ∙ none)
       | false ↦ λ e. or_none (partials_at k gs)
     ] refl)
 
@@ -185,17 +182,6 @@ pub pieces_append : (q : Query) (gs : List Group) (ps more : List Piece) → pie
 pieces_append q gs [] more = refl
 pieces_append q gs (p ∷ ps) more = pieces_append q (piece_added q gs p) ps more
 
-pub are_append : (q : Query) (hf : List ℕ → ℕ) (left : List Record) (rest : List Piece) (r : Record) (p : Piece) → ArePieces q hf left rest → IsPiece q hf r p → ArePieces q hf (left ++ r ∷ []) (rest ++ p ∷ [])
-are_append q hf [] [] r p all is = (is, tt)
-are_append q hf [] (x ∷ rest) r p all is = absurd all
-are_append q hf (x ∷ left) [] r p all is = absurd all
-are_append q hf (x ∷ left) (y ∷ rest) r p (first, all) is = (first, are_append q hf left rest r p all is)
-
-pub no_pieces : (q : Query) (hf : List ℕ → ℕ) (left : List Record) (rest : List Piece) → ArePieces q hf left rest → left ≡ [] → rest ≡ []
-no_pieces q hf [] [] all e = refl
-no_pieces q hf [] (x ∷ rest) all e = absurd all
-no_pieces q hf (x ∷ left) rest all e = absurd cc
-
 -- how many rows the pieces of a key count, with more of them
 pub rows_append : (q : Query) (k : Row) (ps more : List Piece) → rows_at q k (ps ++ more) ≡ rows_at q k ps + rows_at q k more
 rows_append q k ps more = sum_by-append _ ps more
@@ -220,10 +206,7 @@ by_uniform q m n (e ∷ es) (g ∷ gs) low (first, rest) =
     (record { key = first.key; of_kinds = first.of_kinds; states = states_raised (functions q) (m g.0) n e.1 g.1 (low g.0) first.states }, by_uniform q m n es gs low rest)
 
 pub by_append : (q : Query) (m : Row → ℕ) (es fs : List Entry) (gs hs : List Group) → AreGroupsBy q m es gs → AreGroupsBy q m fs hs → AreGroupsBy q m (es ++ fs) (gs ++ hs)
-by_append q m [] fs [] hs are more = more
-by_append q m [] fs (g ∷ gs) hs are more = absurd are
-by_append q m (e ∷ es) fs [] hs are more = absurd are
-by_append q m (e ∷ es) fs (g ∷ gs) hs (first, are) more = (first, by_append q m es fs gs hs are more)
+by_append q m = one_append (λ entry group. StandsFor q (m group.0) entry group)
 
 pub by_set : (q : Query) (m : Row → ℕ) (es : List Entry) (gs : List Group) (i : ℕ) (x : Entry) (h : Group) → AreGroupsBy q m es gs → StandsFor q (m h.0) x h → AreGroupsBy q m (slice_set es i x) (slice_set gs i h)
 by_set q m [] [] i x h are new = tt
@@ -315,7 +298,7 @@ module _ (q : Query) (hf : List ℕ → ℕ) (es : List Entry) (left : List Reco
       let all : List Group = made_of q ps in
       let now : Group = (piece_key q p, after q None p) in
       let apart : partials_at (piece_key q p) s.entered ≡ None = missing (piece_key q p) s.entered (none_among q (λ k. rows_at q k ps) es s.entered bytes (piece_key q p) s.are without is) in
-      let gone : partials_at (piece_key q p) (made_of q s.rest) ≡ None = ap (λ rest. partials_at (piece_key q p) (made_of q rest)) (no_pieces q hf left s.rest s.read none) in
+      let gone : partials_at (piece_key q p) (made_of q s.rest) ≡ None = ap (λ rest. partials_at (piece_key q p) (made_of q rest)) (none_to_none (IsPiece q hf) s.rest (subst (λ left. ArePieces q hf left s.rest) none s.read)) in
       let absent : partials_at (piece_key q p) all ≡ None = found_out all s.entered (made_of q s.rest) (piece_key q p) s.parted apart ∙ gone in
       let new_all : IsWith (piece_key q p) (after q None p) all (piece_added q all p) = subst (λ o. IsWith (piece_key q p) (after q o p) all (piece_added q all p)) absent (added_with q p all kept) in
       let here = rows_here in
@@ -348,7 +331,7 @@ module _ (q : Query) (hf : List ℕ → ℕ) (es : List Entry) (left : List Reco
         entered = s.entered;
         rest = s.rest ++ p ∷ [];
         are = by_raised q (λ k. rows_at q k ps) (λ k. rows_at q k (ps ++ p ∷ [])) es s.entered rows_more s.are;
-        read = are_append q hf left s.rest r p s.read piece;
+        read = one_append (IsPiece q hf) left (r ∷ []) s.rest (p ∷ []) s.read (piece, tt);
         parted = subst (λ (gs : List Group). IsParted gs s.entered (made_of q (s.rest ++ p ∷ []))) (sym added) (subst (IsParted (piece_added q all p) s.entered) (sym (pieces_append q [] s.rest (p ∷ []))) back);
         fewer = λ k.
             let a = s.fewer k in

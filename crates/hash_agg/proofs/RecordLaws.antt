@@ -1,5 +1,5 @@
 -- Records on tapes, and rows that are passed over.
-use Rattle.std.specs.Prelude.{◌≡◌, ◌≢◌, refl, ℕ, ◌≤◌, false, List, [], ◌∷◌, ◌++◌, length}
+use Rattle.std.specs.Prelude.{◌≡◌, refl, ℕ, ◌≤◌, false, List, [], ◌∷◌, ◌++◌, length}
 use Rattle.std.proofs.Common.{sym, ap, subst, arith}
 use Rattle.grouping_model.specs.Datum.{Row, HasKinds}
 use Rattle.grouping_model.specs.Condition.{is_met}
@@ -94,9 +94,3 @@ record_is_group q hf hash bytes key states formed short split more are =
     let one = group_of_record q hf hash bytes more are in
     let is = of_group_record q hf one.1 (record { hash = hash; tag = 1; bytes = bytes }) key states one.0 formed short split one.3 in
     (one.1, (one.0 ∷ [], (is.0, tt), one.2))
-
--- a record of a piece has one of the two tags
-pub tagged : (q : Query) (hf : List ℕ → ℕ) (hash tag : ℕ) (bytes : List ℕ) (more : List Piece) → tag ≢ 0 → tag ≢ 1 → ArePieces q hf (record { hash = hash; tag = tag; bytes = bytes } ∷ []) more → ⊥
-tagged q hf hash tag bytes [] no_row no_group are = are
-tagged q hf hash tag bytes (Of_row row ∷ more) no_row no_group are = no_row are.0.tag
-tagged q hf hash tag bytes (Of_group group most ∷ more) no_row no_group are = no_group are.0.tag

@@ -12,7 +12,7 @@ use Rattle.std.specs.Cmp.{Equal-is, tied_itself}
 use Rattle.std.specs.Cmp.Lexicographic.{slice_cmp}
 use Rattle.std.specs.FinMap.{slice_cmp-IsAntisymmetric, nat_cmp-IsAntisymmetric}
 use Rattle.std.specs.List.{All, AllByRecursion, IsDistinct}
-use Rattle.std.specs.List.Sorted.{IsPermutation, IsSorted, IsStrictlySortedBy}
+use Rattle.std.specs.List.Sorted.{IsPermutation, IsSorted}
 use Rattle.grouping_model.specs.MemberLaws.{false_is_not_true}
 use Rattle.packed_rows.specs.PackingOrderLaws.{less, tied}
 use Rattle.group_runs.specs.Runs.{Entry, packed_keys, Rises}
@@ -104,20 +104,6 @@ next_above x y low other led_x led_y =
             key_above x y (sym (ap (λ o. is_lt (ordering_then o (ordering_then (bytes_cmp y.1.0.now x.1.0.now) (bytes_cmp y.1.1.now x.1.1.now)))) (ap (λ z. nat_cmp z x.0) same ∙ tied x.0)) ∙ low) other
       ]
     ]
-
-above_all : (x y : List ℕ) (ks : List (List ℕ)) → bytes_cmp x y ≡ Less → AllByRecursion (λ z. bytes_cmp y z ≡ Less) ks → AllByRecursion (λ z. bytes_cmp x z ≡ Less) ks
-above_all x y [] low all = tt
-above_all x y (k ∷ ks) low (first, all) = (key_total.trans x y k low first, above_all x y ks low all)
-
-pub sorted_rises : (ps : List Led) → IsSorted entry_cmp ps → AreOnce (pairs ps) → AllByRecursion IsLed ps → Rises (pairs ps)
-unfolding IsStrictlySortedBy
-sorted_rises [] sorted once led = tt
-sorted_rises (x ∷ []) sorted once led = (tt, tt)
-sorted_rises (x ∷ y ∷ ps) sorted once led =
-    let rest : Rises (pairs (y ∷ ps)) = sorted_rises (y ∷ ps) (λ k d low high. let one_on : suc k + 1 ≡ suc (k + 1) = omega arith in subst (λ n. is_lt (entry_cmp (slice_index_or (x ∷ y ∷ ps) n d) (slice_index_or (y ∷ ps) k d)) ≡ false) one_on (sorted (suc k) d (omega arith) (omega (arith, high)))) (λ i j a b at bt same. let both : suc i ≡ suc j = once (suc i) (suc j) a b at bt same in omega (arith, both)) led.1 in
-    let low : bytes_cmp x.1.0.now y.1.0.now ≡ Less =
-    next_above x y (sorted zero x (omega arith) (omega arith)) (λ same. let one : zero ≡ suc zero = once zero (suc zero) (x.1.0.now, x.1.1.now) (y.1.0.now, y.1.1.now) refl refl same in absurd (omega (arith, one))) led.0 led.1.0 in
-    ((low, above_all x.1.0.now y.1.0.now (packed_keys (pairs ps)) low rest.0), rest)
 
 -- ---- places
 

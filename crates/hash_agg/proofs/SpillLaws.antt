@@ -18,10 +18,11 @@ use Rattle.spill_tapes.specs.Records.{Record}
 use Rattle.spill_lists.specs.declared.lists.OnTape.{OnTape}
 use Rattle.group_runs.specs.Runs.{Entry, packed_keys}
 use Rattle.group_runs.specs.Standing.{states_width}
-use Rattle.hash_agg.specs.Passes.{Piece, Of_row, Of_group, IsPiece, piece_key, cost_records, records_of, AreCosted, Spills}
+use Rattle.hash_agg.specs.Passes.{Piece, Of_row, Of_group, IsPiece, piece_key, cost_records, records_of, IsCosted, AreCosted, Spills}
 use Rattle.hash_agg.proofs.PassLaws.{IsKept}
 use Rattle.group_runs.specs.StandingLaws.{states_long}
 use Rattle.hash_agg.proofs.TableLaws.{HasNoKey}
+use Rattle.hash_agg.proofs.OneByOneLaws.{one_append, as_empty}
 
 -- ---- keys
 
@@ -57,7 +58,7 @@ abbrev pub kept_record : (q : Query) (width : ℕ) (p : Piece) → IsKept q p �
 kept_record q width (Of_row row) kept = (cost.of_row (packing (key_of q row)) (packing row), ap (λ b. cond b (cost.of_row (packing (key_of q row)) (packing row) ∷ []) []) kept, refl)
 kept_record q width (Of_group group most) kept = (record { key = packing group.0; on_tape = 9 + (2 + length (packing group.0) + width) }, refl, refl)
 
-piece_hash : (q : Query) (hf : List ℕ → ℕ) (one : Record) (p : Piece) → IsPiece q hf one p → one.hash ≡ hf (packing (piece_key q p))
+pub piece_hash : (q : Query) (hf : List ℕ → ℕ) (one : Record) (p : Piece) → IsPiece q hf one p → one.hash ≡ hf (packing (piece_key q p))
 piece_hash q hf one (Of_row row) is = is.hashed
 piece_hash q hf one (Of_group group most) is = is.hashed
 
@@ -71,24 +72,6 @@ piece_long q hf width one (Of_group group most) kept wide is =
     let both = length-append (packing group.0) is.states in
     let same = ap (λ (bytes : List ℕ). length bytes) is.bytes in
     omega (arith, states, front, whole, both, same, wide)
-
-pub costed_append : (q : Query) (s : Setting) (xs ys : List Record) (cs ds : List cost.Record) → AreCosted q s xs cs → AreCosted q s ys ds → AreCosted q s (xs ++ ys) (cs ++ ds)
-costed_append q s [] ys [] ds are more = more
-costed_append q s [] ys (c ∷ cs) ds are more = absurd are
-costed_append q s (x ∷ xs) ys [] ds are more = absurd are
-costed_append q s (x ∷ xs) ys (c ∷ cs) ds (first, are) more = (first, costed_append q s xs ys cs ds are more)
-
-pub as_empty : (q : Query) (s : Setting) (xs : List Record) (cs : List cost.Record) → AreCosted q s xs cs → cost.is_empty xs ≡ cost.is_empty cs
-as_empty q s [] [] are = refl
-as_empty q s [] (c ∷ cs) are = absurd are
-as_empty q s (x ∷ xs) [] are = absurd are
-as_empty q s (x ∷ xs) (c ∷ cs) are = refl
-
-pub as_long : (q : Query) (s : Setting) (xs : List Record) (cs : List cost.Record) → AreCosted q s xs cs → length xs ≡ length cs
-as_long q s [] [] are = refl
-as_long q s [] (c ∷ cs) are = absurd are
-as_long q s (x ∷ xs) [] are = absurd are
-as_long q s (x ∷ xs) (c ∷ cs) (first, are) = ap suc (as_long q s xs cs are)
 
 some_behind : {X : Type 0} (xs : List X) (x : X) → cost.is_empty (xs ++ x ∷ []) ≡ false
 some_behind [] x = refl
@@ -166,7 +149,7 @@ module _ (q : Query) (s : Setting) (ps : List Piece) (p : Piece) (key : Key) (na
 
   -- the lists tell whether anything was spilled
   told : none_yet ≡ cost.is_empty parts
-  told = sym (as_empty q s left (cost.spilled_from s rs) sp.spilled) ∙ sym sp.begun
+  told = sym (as_empty (IsCosted q s) left (cost.spilled_from s rs) sp.spilled) ∙ sym sp.begun
 
   may : may_enter ≡ fits s (packed_keys es ++ key ∷ [])
   may = λ i. fits s (sym sp.took i ++ new_key i ∷ [])
@@ -202,6 +185,6 @@ module _ (q : Query) (s : Setting) (ps : List Piece) (p : Piece) (key : Key) (na
       record {
         took = sp.took ∙ sym taken;
         spilled = subst (AreCosted q s (left ++ one ∷ [])) (sym spilled)
-            (costed_append q s left (one ∷ []) (cost.spilled_from s rs) (new ∷ []) sp.spilled (record { piece = p; is = is; costs = (kept_record q s.width p kept).1; hashed = piece_hash q s.hash one p is ∙ ap s.hash (sym (kept_record q s.width p kept).2); long = piece_long q s.hash s.width one p kept wide is }, tt));
+            (one_append (IsCosted q s) left (one ∷ []) (cost.spilled_from s rs) (new ∷ []) sp.spilled (record { piece = p; is = is; costs = (kept_record q s.width p kept).1; hashed = piece_hash q s.hash one p is ∙ ap s.hash (sym (kept_record q s.width p kept).2); long = piece_long q s.hash s.width one p kept wide is }, tt));
         begun = begun ∙ sym (some_behind left one);
       }

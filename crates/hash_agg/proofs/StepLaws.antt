@@ -1,5 +1,5 @@
 -- One step of a pass.
-use Rattle.std.specs.Prelude.{◌≡◌, refl, ℕ, zero, suc, ◌+◌, ◌*◌, ◌<◌, ◌≤◌, ◌&&◌, Bool, true, false, cond, List, [], ◌∷◌, ◌++◌, length, take, drop, slice_get, slice_index_or, slice_set, Some, None, IfErr, IsErrAnd}
+use Rattle.std.specs.Prelude.{◌≡◌, refl, ℕ, ◌+◌, ◌*◌, ◌≤◌, ◌&&◌, Bool, true, false, cond, List, [], ◌∷◌, ◌++◌, length, take, drop, slice_get, slice_set, Some, None, IfErr, IsErrAnd}
 use Rattle.std.specs.Int.{w16, to_be_bytes, from_be_bytes}
 use Rattle.std.specs.declared.result.Result.{Result}
 use Rattle.std.proofs.lemmas.Result.{err_from_is_err_and}
@@ -118,10 +118,7 @@ same_wide these m n a b ps qs x y =
 -- the bytes of a group on a tape
 pub group_short : (q : Query) (m : ℕ) (key states : List ℕ) (group : Group) → IsWellFormed q → StandsFor q m (key, states) group → length (group_record key states) ≤ 65535
 group_short q m key states group formed stands =
-    let long : length (key_kinds q) ≡ length q.keys = length-map q.keys _ in
-    let few : length q.keys ≤ 16 = formed.few_keys in
-    let short = row_short (key_kinds q) group.0 stands.of_kinds in
-    let same : length key ≡ length (packing group.0) = ap length stands.key in
+    let brief = key_brief q key group.0 formed stands.key stands.of_kinds in
     let wide = states_wide m stands.states.kinds states group.1 stands.states.denote in
     let thin = narrow stands.states.kinds in
     let many : length stands.states.kinds ≡ length q.aggregates = sym (length-map stands.states.kinds _) ∙ ap length stands.states.named ∙ length-map q.aggregates _ in
@@ -129,7 +126,7 @@ group_short q m key states group formed stands =
     let front : length (to_be_bytes w16 (length key)) ≡ 2 = refl in
     let whole = length-append (to_be_bytes w16 (length key)) (key ++ states) in
     let both = length-append key states in
-    omega (arith, long, few, short, same, wide, thin, many, most, front, whole, both)
+    omega (arith, brief, wide, thin, many, most, front, whole, both)
 
 -- two groups with the same bytes are the same
 pub group_apart : (key other states others : List ℕ) → length key ≤ 65535 → length other ≤ 65535 → group_record key states ≡ group_record other others → (key ≡ other) × (states ≡ others)
@@ -427,11 +424,6 @@ next_brings q Are One i old now next before at after place some one more are =
 
 pub all_brings : (q : Query) (Are : List Piece → Type 0) (i : ℕ) (old new : List Entry) (before after : ListsState) → BringsSome q Are i old before new after → ((more : List Piece) → Are more → length more ≤ i) → Brings q Are old before new after
 all_brings q Are i old new before after some short more are = subst (λ some. total new after ≤ total old before + brought_by q some) (take_all i more (short more are)) (some more are)
-
-pub get_in : {X : Type 0} (xs : List X) (i : ℕ) (d : X) → i < length xs → slice_get xs i ≡ Some (slice_index_or xs i d)
-get_in [] i d low = absurd (omega (arith, low))
-get_in (x ∷ xs) zero d low = refl
-get_in (x ∷ xs) (suc i) d low = get_in xs i d (omega (arith, low))
 
 -- ---- whether a group enters
 

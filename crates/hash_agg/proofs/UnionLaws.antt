@@ -1,5 +1,5 @@
 -- The groups of some passes together.
-use Rattle.std.specs.Prelude.{◌≡◌, ◌≢◌, refl, ℕ, zero, suc, ◌⊎◌, true, false, cond, ◌||◌, List, [], ◌∷◌, ◌++◌, length, slice_get, slice_set, slice_index_or, Some, None, is_some}
+use Rattle.std.specs.Prelude.{◌≡◌, ◌≢◌, refl, ℕ, zero, suc, ◌⊎◌, true, false, cond, ◌||◌, List, [], ◌∷◌, ◌++◌, slice_get, slice_set, slice_index_or, Some, None, is_some}
 use Rattle.std.proofs.Common.{sym, ◌∙◌, ap, subst, inl, inr, arith, append-nil}
 use Rattle.std.proofs.lemmas.List.Sorted.{Contains-permutation, IsPermutation-sym}
 use Rattle.std.proofs.lemmas.Grind.{flat_map-append}
@@ -19,12 +19,11 @@ use Rattle.spill_tapes.specs.Records.{Record}
 use Rattle.group_runs.specs.Runs.{Entry, Rises}
 use Rattle.group_runs.specs.Standing.{StandsFor, AreGroups, IsRun}
 use Rattle.packed_rows.specs.RowsOnEnd.{on_end}
-use Rattle.hash_agg.specs.Passes.{Piece, made_of, rows_at, CountUpTo, AreOnce, IsParted, AreGroupsBy, AreSafe, Stands}
+use Rattle.hash_agg.specs.Passes.{Piece, IsPiece, made_of, rows_at, CountUpTo, AreOnce, AreGroupsBy, AreSafe, Stands}
 use Rattle.hash_agg.proofs.FoldLaws.{run_keys_rise}
-use Rattle.having_filter.specs.Kept.{key_kinds}
-use Rattle.group_runs.proofs.RunLaws.{packed_once}
 use Rattle.group_runs.specs.MergeLaws.{AreApart, apart_from, rising_apart}
-use Rattle.hash_agg.proofs.PassLaws.{set_with, at_cons, at_append, or_else, or_none, missing, by_raised, by_uniform, by_append, by_set, by_at, once_apart, no_pieces, same_itself}
+use Rattle.hash_agg.proofs.PassLaws.{at_cons, missing, by_uniform, by_append, by_set, once_apart, same_itself}
+use Rattle.hash_agg.proofs.OneByOneLaws.{as_long, none_to_none}
 use Rattle.hash_agg.proofs.SortLaws.{once_permuted, rises_once}
 
 -- ---- groups in another order
@@ -48,12 +47,6 @@ by_swap q m (e ∷ es) (g ∷ gs) i j (first, are) =
 by_swaps : (q : Query) (m : Row → ℕ) (es : List Entry) (gs : List Group) (moves : List (ℕ × ℕ)) → AreGroupsBy q m es gs → AreGroupsBy q m (apply_swaps es moves) (apply_swaps gs moves)
 by_swaps q m es gs [] are = are
 by_swaps q m es gs (p ∷ moves) are = by_swap q m (apply_swaps es moves) (apply_swaps gs moves) p.0 p.1 (by_swaps q m es gs moves are)
-
-by_long : (q : Query) (m : Row → ℕ) (es : List Entry) (gs : List Group) → AreGroupsBy q m es gs → length es ≡ length gs
-by_long q m [] [] are = refl
-by_long q m [] (g ∷ gs) are = absurd are
-by_long q m (e ∷ es) [] are = absurd are
-by_long q m (e ∷ es) (g ∷ gs) (first, are) = let rest : length es ≡ length gs = by_long q m es gs are in omega (arith, rest)
 
 -- what is found at a key is a member
 found_member : (k : Row) (gs : List Group) (ps : List Partial) → partials_at k gs ≡ Some ps → Member gs (k, ps)
@@ -101,7 +94,7 @@ moved_stands q hf ps es fs left moved once s =
     let m : Row → ℕ = λ k. rows_at q k ps in
     let gs : List Group = apply_swaps s.entered moved.moves in
     let are : AreGroupsBy q m fs gs = subst (λ fs. AreGroupsBy q m fs gs) (sym moved.is) (by_swaps q m es s.entered moved.moves s.are) in
-    let same : IsPermutation s.entered gs = record { moves = moved.moves; below = subst (λ n. SwapsInRange n moved.moves) (by_long q m es s.entered s.are) moved.below; is = refl } in
+    let same : IsPermutation s.entered gs = record { moves = moved.moves; below = subst (λ n. SwapsInRange n moved.moves) (as_long (λ entry group. StandsFor q (m group.0) entry group) es s.entered s.are) moved.below; is = refl } in
     let found = same_found s.entered gs same (once_apart q m es s.entered s.are once) (once_apart q m fs gs are (once_permuted es fs moved once)) in
     record {
       entered = gs;
@@ -111,30 +104,6 @@ moved_stands q hf ps es fs left moved once s =
       parted = λ k. subst (λ o. ((partials_at k (made_of q ps) ≡ o) × (partials_at k (made_of q s.rest) ≡ None)) ⊎ ((partials_at k (made_of q ps) ≡ partials_at k (made_of q s.rest)) × (o ≡ None))) (sym (found k)) (s.parted k);
       fewer = s.fewer;
     }
-
--- ---- a pass over what another left
-
-module _ (q : Query) (ps rest : List Piece) (gs hs others : List Group) (first : IsParted (made_of q ps) gs (made_of q rest)) (second : IsParted (made_of q rest) hs others) where
-  pub parted_on : IsParted (made_of q ps) (gs ++ hs) others
-  parted_on k = subst (λ o. ((partials_at k (made_of q ps) ≡ o) × (partials_at k others ≡ None)) ⊎ ((partials_at k (made_of q ps) ≡ partials_at k others) × (o ≡ None))) (sym (at_append k gs hs)) (cases (first k) (second k))
-    where
-      cases : ((partials_at k (made_of q ps) ≡ partials_at k gs) × (partials_at k (made_of q rest) ≡ None)) ⊎ ((partials_at k (made_of q ps) ≡ partials_at k (made_of q rest)) × (partials_at k gs ≡ None))
-          → ((partials_at k (made_of q rest) ≡ partials_at k hs) × (partials_at k others ≡ None)) ⊎ ((partials_at k (made_of q rest) ≡ partials_at k others) × (partials_at k hs ≡ None))
-          → ((partials_at k (made_of q ps) ≡ or_else (partials_at k gs) (partials_at k hs)) × (partials_at k others ≡ None)) ⊎ ((partials_at k (made_of q ps) ≡ partials_at k others) × (or_else (partials_at k gs) (partials_at k hs) ≡ None))
-      cases (inl (is, gone)) (inl (that, none)) = inl (is ∙ sym (ap (or_else (partials_at k gs)) (sym that ∙ gone) ∙ or_none (partials_at k gs)), none)
-      cases (inl (is, gone)) (inr (that, none)) = inl (is ∙ sym (ap (or_else (partials_at k gs)) none ∙ or_none (partials_at k gs)), sym that ∙ gone)
-      cases (inr (is, gone)) (inl (that, none)) = inl (is ∙ that ∙ ap (λ o. or_else o (partials_at k hs)) (sym gone), none)
-      cases (inr (is, gone)) (inr (that, none)) = inr (is ∙ that, (λ i. or_else (gone i) (none i)))
-
-  -- no key is in both
-  pub none_shared : (k : Row) (here there : List Partial) → partials_at k gs ≡ Some here → partials_at k hs ≡ Some there → ⊥
-  none_shared k here there a b = cases (first k) (second k)
-    where
-      cases : ((partials_at k (made_of q ps) ≡ partials_at k gs) × (partials_at k (made_of q rest) ≡ None)) ⊎ ((partials_at k (made_of q ps) ≡ partials_at k (made_of q rest)) × (partials_at k gs ≡ None))
-          → ((partials_at k (made_of q rest) ≡ partials_at k hs) × (partials_at k others ≡ None)) ⊎ ((partials_at k (made_of q rest) ≡ partials_at k others) × (partials_at k hs ≡ None)) → ⊥
-      cases (inl (is, gone)) (inl (that, none)) = cc
-      cases (inl (is, gone)) (inr (that, none)) = cc
-      cases (inr (is, gone)) other = cc
 
 -- ---- two runs on end
 
@@ -162,29 +131,6 @@ once_append (e ∷ es) fs a b c (suc i) zero x y at bt same = gone (get_append e
     gone (inr (k, ft)) = absurd (c zero k y x bt ft (sym same))
 once_append (e ∷ es) fs a b c (suc i) (suc j) x y at bt same =
     ap suc (once_append es fs (λ i j x y at bt same. let both : suc i ≡ suc j = a (suc i) (suc j) x y at bt same in omega (arith, both)) b (λ i j. c (suc i) j) i j x y at bt same)
-
-module _ (q : Query) (hf : List ℕ → ℕ) (ps : List Piece) (es fs : List Entry) (left more : List Record) (s : Stands q hf ps es left) (t : Stands q hf s.rest fs more) where
-  pub next_stands : Stands q hf ps (es ++ fs) more
-  next_stands = record {
-    entered = s.entered ++ t.entered;
-    rest = t.rest;
-    are = by_append q (λ k. rows_at q k ps) es fs s.entered t.entered s.are (by_raised q (λ k. rows_at q k s.rest) (λ k. rows_at q k ps) fs t.entered s.fewer t.are);
-    read = t.read;
-    parted = parted_on q ps s.rest s.entered t.entered (made_of q t.rest) s.parted t.parted;
-    fewer = λ k. let a = s.fewer k in let b = t.fewer k in omega (arith, a, b);
-  }
-
-  pub next_once : AreOnce es → AreOnce fs → AreOnce (es ++ fs)
-  next_once a b = once_append es fs a b shared
-    where
-      shared : (i j : ℕ) (x y : Entry) → slice_get es i ≡ Some x → slice_get fs j ≡ Some y → x.0 ≢ y.0
-      shared i j x y at bt same =
-          let g = by_at q (λ k. rows_at q k ps) es s.entered i x s.are at in
-          let h = by_at q (λ k. rows_at q k s.rest) fs t.entered j y t.are bt in
-          let key : h.group.0 ≡ g.group.0 = packed_once (key_kinds q) y.0 h.group.0 g.group.0 h.stands.of_kinds g.stands.of_kinds h.stands.key (sym same ∙ g.stands.key) in
-          let here = (set_with g.group.0 [] g.group.1 s.entered i (once_apart q (λ k. rows_at q k ps) es s.entered s.are a) g.at).1 in
-          let there = (set_with h.group.0 [] h.group.1 t.entered j (once_apart q (λ k. rows_at q k s.rest) fs t.entered t.are b) h.at).1 in
-          none_shared q ps s.rest s.entered t.entered (made_of q t.rest) s.parted t.parted g.group.0 g.group.1 h.group.1 here (subst (λ k. partials_at k t.entered ≡ Some h.group.1) key there)
 
 -- ---- all groups
 
@@ -241,7 +187,7 @@ all_stand q hf most ps run s count rises rising =
     found k = chosen (s.parted k)
       where
         none : partials_at k (made_of q s.rest) ≡ None
-        none = ap (λ rest. partials_at k (made_of q rest)) (no_pieces q hf [] s.rest s.read refl)
+        none = ap (λ rest. partials_at k (made_of q rest)) (none_to_none (IsPiece q hf) s.rest s.read)
 
         chosen : ((partials_at k (made_of q ps) ≡ partials_at k s.entered) × (partials_at k (made_of q s.rest) ≡ None)) ⊎ ((partials_at k (made_of q ps) ≡ partials_at k (made_of q s.rest)) × (partials_at k s.entered ≡ None)) → partials_at k (made_of q ps) ≡ partials_at k s.entered
         chosen (inl (is, gone)) = is

@@ -1,10 +1,11 @@
 -- Lists of records that are left to later passes.
 use Rattle.std.specs.Prelude.{◌≡◌, ◌≢◌, refl, ℕ, zero, suc, ◌+◌, ◌<◌, ◌≤◌, ◌⊎◌, ◌==◌, ◌-◌, ◌/◌, ◌%◌, ◌^◌, nat_lt, Bool, true, false, not, cond, List, [], ◌∷◌, ◌++◌, map, filter, slice_get, Option, Some, None}
 use Rattle.std.specs.List.{AllByRecursion, range_with_len}
+use Rattle.std.specs.Option.{option_or}
 use Rattle.std.proofs.Common.{sym, ◌∙◌, ap, subst, inl, inr, arith}
 use Rattle.std.proofs.lemmas.List.{map-append}
 use Rattle.std.proofs.lemmas.List.Filters.{sum_by-filter_both}
-use Rattle.list_laws.specs.Each.{each_append, each_weaker}
+use Rattle.list_laws.specs.Each.{each_append, each_front, each_behind, each_weaker}
 use Rattle.grouping_model.specs.Datum.{Row, same_row}
 use Rattle.grouping_model.specs.Aggregates.{Partial}
 use Rattle.grouping_model.specs.Condition.{is_met}
@@ -13,13 +14,17 @@ use Rattle.grouping_model.specs.Grouping.{Group, column_of}
 use Rattle.grouping_model.specs.Parts.{partials_at, with_row}
 use Rattle.grouping_model.specs.DatumOrderLaws.{same_row-is}
 use Rattle.packed_rows.specs.Packing.{packing}
+use Rattle.aggregation_cost.specs.ListLaws.{each_of_filter}
+use Rattle.aggregation_cost.specs.Passes.{is_empty}
 use Rattle.spill_tapes.specs.Records.{Record}
 use Rattle.spill_lists.proofs.CountLaws.{is_not, is_it, is_past}
 use Rattle.spill_lists.specs.Lists.{LeftList, list_of, on_list, deeper, is_none, lists, left_by}
 use Rattle.group_runs.specs.Runs.{Entry}
 use Rattle.hash_agg.specs.Passes.{Piece, Of_row, Of_group, IsPiece, ArePieces, piece_key, piece_added, pieces_added, made_of, weight, rows_at, CountUpTo, AreOnce, Stands}
 use Rattle.hash_agg.specs.Waiting.{AreListed, AreNone, IsOneOf, each_at, Waits}
-use Rattle.hash_agg.proofs.PassLaws.{after, added_with, IsKept, or_else, or_none, at_append, set_with, found_in, by_append, by_raised, by_at, once_apart}
+use Rattle.hash_agg.proofs.PassLaws.{after, added_with, IsKept, or_none, at_append, set_with, found_in, by_append, by_raised, by_at, once_apart}
+use Rattle.hash_agg.proofs.OneByOneLaws.{one_append, none_to_none, one_filtered, LastOf, last_of, as_none}
+use Rattle.hash_agg.proofs.SpillLaws.{piece_hash}
 use Rattle.hash_agg.proofs.UnionLaws.{once_append}
 use Rattle.group_runs.proofs.RunLaws.{packed_once}
 use Rattle.having_filter.specs.Kept.{key_kinds}
@@ -31,8 +36,7 @@ abbrev Found : Type 0
 Found = Option (List Partial)
 
 none_parts : (xs ys : List Found) → AreNone (xs ++ ys) → AreNone xs × AreNone ys
-none_parts [] ys gone = (tt, gone)
-none_parts (x ∷ xs) ys (first, gone) = let both = none_parts xs ys gone in ((first, both.0), both.1)
+none_parts xs ys gone = (each_front (λ (o : Found). o ≡ None) xs ys gone, each_behind (λ (o : Found). o ≡ None) xs ys gone)
 
 none_append : (xs ys : List Found) → AreNone xs → AreNone ys → AreNone (xs ++ ys)
 none_append xs ys gone more = each_append (λ (o : Found). o ≡ None) xs ys gone more
@@ -64,9 +68,9 @@ one_first all b (x ∷ xs) zs (inr (none, one)) = behind (one_first all b xs zs 
     behind (inr (gone, rest)) = inr (gone, inr (none, rest))
 
 -- two of them become one
-one_merged : (all a b : Found) (xs zs : List Found) → IsOneOf all (a ∷ (xs ++ b ∷ zs)) → IsOneOf all (or_else a b ∷ (xs ++ zs))
-one_merged all a b xs zs (inl (is, others)) = let both = none_parts xs (b ∷ zs) others in inl (ap (or_else a) both.1.0 ∙ or_none a ∙ is, none_append xs zs both.0 both.1.1)
-one_merged all a b xs zs (inr (none, one)) = subst (λ o. IsOneOf all (o ∷ (xs ++ zs))) (sym (ap (λ o. or_else o b) none)) (one_first all b xs zs one)
+one_merged : (all a b : Found) (xs zs : List Found) → IsOneOf all (a ∷ (xs ++ b ∷ zs)) → IsOneOf all (option_or a b ∷ (xs ++ zs))
+one_merged all a b xs zs (inl (is, others)) = let both = none_parts xs (b ∷ zs) others in inl (ap (option_or a) both.1.0 ∙ or_none a ∙ is, none_append xs zs both.0 both.1.1)
+one_merged all a b xs zs (inr (none, one)) = subst (λ o. IsOneOf all (o ∷ (xs ++ zs))) (sym (ap (λ o. option_or o b) none)) (one_first all b xs zs one)
 
 -- ---- pieces of some keys
 
@@ -145,23 +149,8 @@ fewer_of q t ps k =
 abbrev falls_on : (List ℕ → ℕ) → ℕ → ℕ → Row → Bool
 falls_on hf level i k = list_of level (hf (packing k)) == i
 
-hash_of : (q : Query) (hf : List ℕ → ℕ) (r : Record) (p : Piece) → IsPiece q hf r p → r.hash ≡ hf (packing (piece_key q p))
-hash_of q hf r (Of_row row) is = is.hashed
-hash_of q hf r (Of_group group most) is = is.hashed
-
 are_on : (q : Query) (hf : List ℕ → ℕ) (level i : ℕ) (rs : List Record) (ps : List Piece) → ArePieces q hf rs ps → ArePieces q hf (on_list level rs i) (of_keys q (falls_on hf level i) ps)
-are_on q hf level i [] [] are = tt
-are_on q hf level i [] (p ∷ ps) are = absurd are
-are_on q hf level i (r ∷ rs) [] are = absurd are
-are_on q hf level i (r ∷ rs) (p ∷ ps) (first, are) =
-    let rest = are_on q hf level i rs ps are in
-    let some : List Record = on_list level rs i in
-    let those : List Piece = of_keys q (falls_on hf level i) ps in
-    subst (λ h. ArePieces q hf (cond (list_of level h == i) (r ∷ some) some) (cond (falls_on hf level i (piece_key q p)) (p ∷ those) those)) (sym (hash_of q hf r p first))
-    (elim (falls_on hf level i (piece_key q p)) as (λ b. ArePieces q hf (cond b (r ∷ some) some) (cond b (p ∷ those) those)) [
-      | true ↦ (first, rest)
-      | false ↦ rest
-    ])
+are_on q hf level i = one_filtered (IsPiece q hf) (λ one. list_of level one.hash == i) (λ p. falls_on hf level i (piece_key q p)) (λ one p is. ap (λ h. list_of level h == i) (piece_hash q hf one p is))
 
 -- the pieces of n lists from a on
 abbrev some_rests : Query → (List ℕ → ℕ) → ℕ → List Piece → ℕ → ℕ → List (List Piece)
@@ -200,33 +189,12 @@ among_all q hf level ps k a (suc n) low high =
 
 -- ---- those that have records
 
--- there are no pieces
-abbrev has_none : List Piece → Bool
-has_none [] = true
-has_none (p ∷ ps) = false
-
 -- only these are read
 abbrev with_pieces : List (List Piece) → List (List Piece)
-with_pieces rests = filter (λ (rest : List Piece). not (has_none rest)) rests
-
-same_none : (q : Query) (hf : List ℕ → ℕ) (rs : List Record) (ps : List Piece) → ArePieces q hf rs ps → is_none rs ≡ has_none ps
-same_none q hf [] [] are = refl
-same_none q hf [] (p ∷ ps) are = absurd are
-same_none q hf (r ∷ rs) [] are = absurd are
-same_none q hf (r ∷ rs) (p ∷ ps) are = refl
+with_pieces rests = filter (λ (rest : List Piece). not (is_empty rest)) rests
 
 listed_with : (q : Query) (hf : List ℕ → ℕ) (ls : List LeftList) (rests : List (List Piece)) → AreListed q hf ls rests → AreListed q hf (filter (λ (list : LeftList). not (is_none list.records)) ls) (with_pieces rests)
-listed_with q hf [] [] are = tt
-listed_with q hf [] (rest ∷ rests) are = absurd are
-listed_with q hf (l ∷ ls) [] are = absurd are
-listed_with q hf (l ∷ ls) (rest ∷ rests) (first, are) =
-    let more = listed_with q hf ls rests are in
-    let those : List LeftList = filter (λ (list : LeftList). not (is_none list.records)) ls in
-    subst (λ b. AreListed q hf (cond (not b) (l ∷ those) those) (cond (not (has_none rest)) (rest ∷ with_pieces rests) (with_pieces rests))) (sym (same_none q hf l.records rest first))
-    (elim (has_none rest) as (λ b. AreListed q hf (cond (not b) (l ∷ those) those) (cond (not b) (rest ∷ with_pieces rests) (with_pieces rests))) [
-      | true ↦ more
-      | false ↦ (first, more)
-    ])
+listed_with q hf = one_filtered (λ list rest. ArePieces q hf list.records rest) (λ list. not (is_none list.records)) (λ rest. not (is_empty rest)) (λ list rest are. ap not (as_none (IsPiece q hf) list.records rest are))
 
 none_with : (q : Query) (k : Row) (rests : List (List Piece)) → AreNone (each_at q k rests) → AreNone (each_at q k (with_pieces rests))
 none_with q k [] gone = tt
@@ -240,14 +208,6 @@ one_with q all k ([] ∷ rests) (inr (none, one)) = one_with q all k rests one
 one_with q all k ((p ∷ ps) ∷ rests) (inl (is, gone)) = inl (is, none_with q k rests gone)
 one_with q all k ((p ∷ ps) ∷ rests) (inr (none, one)) = inr (none, one_with q all k rests one)
 
-all_of : {A : Type 0} (P : A → Type 0) (t : A → Bool) (xs : List A) → AllByRecursion P xs → AllByRecursion P (filter t xs)
-all_of P t [] all = tt
-all_of {A} P t (x ∷ xs) (first, all) =
-    elim (t x) as (λ b. AllByRecursion P (cond b (x ∷ filter t xs) (filter t xs))) [
-      | true ↦ (first, all_of P t xs all)
-      | false ↦ all_of P t xs all
-    ]
-
 -- ---- after the first pass
 
 pub waits_first : (q : Query) (hf : List ℕ → ℕ) (ps : List Piece) (es : List Entry) (left : List Record) (level : ℕ) → Stands q hf ps es left → Waits q hf ps es (left_by level left)
@@ -260,9 +220,9 @@ waits_first q hf ps es left level s =
       read = listed_with q hf (lists level left) rests (some_listed q hf level left s.rest s.read 0 16);
       parted = λ k. parts k (s.parted k) (among k);
       fewer =
-          each_weaker (λ rest. (k : Row) → rows_at q k rest ≤ rows_at q k s.rest) (λ rest. (k : Row) → rows_at q k rest ≤ rows_at q k ps)
-          (λ rest low k. let a = low k in let b = s.fewer k in omega (arith, a, b)) (with_pieces rests)
-          (all_of (λ rest. (k : Row) → rows_at q k rest ≤ rows_at q k s.rest) (λ (rest : List Piece). not (has_none rest)) rests (some_fewer q hf level s.rest 0 16));
+          each_weaker (λ rest. ((k : Row) → rows_at q k rest ≤ rows_at q k s.rest) × (not (is_empty rest) ≡ true)) (λ rest. (k : Row) → rows_at q k rest ≤ rows_at q k ps)
+          (λ rest low k. let a = low.0 k in let b = s.fewer k in omega (arith, a, b)) (with_pieces rests)
+          (each_of_filter (λ rest. (k : Row) → rows_at q k rest ≤ rows_at q k s.rest) (λ (rest : List Piece). not (is_empty rest)) rests (some_fewer q hf level s.rest 0 16));
     }
   where
     among : (k : Row) → IsOneOf (partials_at k (made_of q s.rest)) (each_at q k (with_pieces (some_rests q hf level s.rest 0 16)))
@@ -285,46 +245,15 @@ waits_end q hf ps es w = record {
   rest = [];
   are = w.are;
   read = tt;
-  parted = λ k. inl (alone (partials_at k (made_of q ps)) (partials_at k w.entered) (subst (λ rests. IsOneOf (partials_at k (made_of q ps)) (partials_at k w.entered ∷ each_at q k rests)) (nothing w.rests w.read) (w.parted k)), refl);
+  parted = λ k. inl (alone (partials_at k (made_of q ps)) (partials_at k w.entered) (subst (λ rests. IsOneOf (partials_at k (made_of q ps)) (partials_at k w.entered ∷ each_at q k rests)) (none_to_none (λ (list : LeftList) rest. ArePieces q hf list.records rest) w.rests w.read) (w.parted k)), refl);
   fewer = λ k. omega arith;
 }
   where
-    nothing : (rests : List (List Piece)) → AreListed q hf [] rests → rests ≡ []
-    nothing [] are = refl
-    nothing (rest ∷ rests) are = absurd are
-
     alone : (all o : Found) → IsOneOf all (o ∷ []) → all ≡ o
     alone all o (inl (is, gone)) = sym is
     alone all o (inr (none, is)) = is ∙ sym none
 
 -- ---- after one pass more
-
--- the last list and its pieces, behind the others
-record Last (q : Query) (hf : List ℕ → ℕ) (others : List LeftList) (list : LeftList) (rests : List (List Piece)) : Type 0 where
-  front : List (List Piece)
-  rest : List Piece
-  is : rests ≡ front ++ rest ∷ []
-  are : AreListed q hf others front
-  one : ArePieces q hf list.records rest
-
-last_of : (q : Query) (hf : List ℕ → ℕ) (others : List LeftList) (list : LeftList) (rests : List (List Piece)) → AreListed q hf (others ++ list ∷ []) rests → Last q hf others list rests
-last_of q hf [] list [] are = absurd are
-last_of q hf [] list (rest ∷ []) (first, are) = record { front = []; rest = rest; is = refl; are = tt; one = first }
-last_of q hf [] list (rest ∷ r ∷ rests) (first, are) = absurd are
-last_of q hf (l ∷ others) list [] are = absurd are
-last_of q hf (l ∷ others) list (rest ∷ rests) (first, are) =
-    let found = last_of q hf others list rests are in
-    record { front = rest ∷ found.front; rest = found.rest; is = ap (λ rs. rest ∷ rs) found.is; are = (first, found.are); one = found.one }
-
-listed_append : (q : Query) (hf : List ℕ → ℕ) (ls ms : List LeftList) (rests more : List (List Piece)) → AreListed q hf ls rests → AreListed q hf ms more → AreListed q hf (ls ++ ms) (rests ++ more)
-listed_append q hf [] ms [] more are these = these
-listed_append q hf [] ms (rest ∷ rests) more are these = absurd are
-listed_append q hf (l ∷ ls) ms [] more are these = absurd are
-listed_append q hf (l ∷ ls) ms (rest ∷ rests) more (first, are) these = (first, listed_append q hf ls ms rests more are these)
-
-all_parts : {A : Type 0} (P : A → Type 0) (xs ys : List A) → AllByRecursion P (xs ++ ys) → AllByRecursion P xs × AllByRecursion P ys
-all_parts P [] ys all = (tt, all)
-all_parts P (x ∷ xs) ys (first, all) = let both = all_parts P xs ys all in ((first, both.0), both.1)
 
 -- what a pass finds that reads the last list, and what it leaves
 pub record Next (q : Query) (hf : List ℕ → ℕ) (ps : List Piece) (es : List Entry) (others : List LeftList) (list : LeftList) : Type 0 where
@@ -335,35 +264,35 @@ pub record Next (q : Query) (hf : List ℕ → ℕ) (ps : List Piece) (es : List
   pub once : (more : List Entry) (left : List Record) → Stands q hf rest more left → AreOnce es → AreOnce more → AreOnce (es ++ more)
 
 module _ (q : Query) (hf : List ℕ → ℕ) (ps : List Piece) (es : List Entry) (others : List LeftList) (list : LeftList) (w : Waits q hf ps es (others ++ list ∷ [])) where
-  last : Last q hf others list w.rests
-  last = last_of q hf others list w.rests w.read
+  last : LastOf (λ (list : LeftList) rest. ArePieces q hf list.records rest) others list w.rests
+  last = last_of (λ list rest. ArePieces q hf list.records rest) others list w.rests w.read
 
-  low : AllByRecursion (λ rest. (k : Row) → rows_at q k rest ≤ rows_at q k ps) last.front × ((k : Row) → rows_at q k last.rest ≤ rows_at q k ps)
+  low : AllByRecursion (λ rest. (k : Row) → rows_at q k rest ≤ rows_at q k ps) last.front × ((k : Row) → rows_at q k last.last ≤ rows_at q k ps)
   low =
-      let both = all_parts (λ rest. (k : Row) → rows_at q k rest ≤ rows_at q k ps) last.front (last.rest ∷ []) (subst (AllByRecursion (λ rest. (k : Row) → rows_at q k rest ≤ rows_at q k ps)) last.is w.fewer) in
-      (both.0, both.1.0)
+      let all : AllByRecursion (λ rest. (k : Row) → rows_at q k rest ≤ rows_at q k ps) (last.front ++ last.last ∷ []) = subst (AllByRecursion (λ rest. (k : Row) → rows_at q k rest ≤ rows_at q k ps)) last.is w.fewer in
+      (each_front (λ rest. (k : Row) → rows_at q k rest ≤ rows_at q k ps) last.front (last.last ∷ []) all, (each_behind (λ rest. (k : Row) → rows_at q k rest ≤ rows_at q k ps) last.front (last.last ∷ []) all).0)
 
   -- at a key
-  here : (k : Row) → IsOneOf (partials_at k (made_of q ps)) (partials_at k w.entered ∷ (each_at q k last.front ++ partials_at k (made_of q last.rest) ∷ []))
+  here : (k : Row) → IsOneOf (partials_at k (made_of q ps)) (partials_at k w.entered ∷ (each_at q k last.front ++ partials_at k (made_of q last.last) ∷ []))
   here k =
-      subst (λ os. IsOneOf (partials_at k (made_of q ps)) (partials_at k w.entered ∷ os)) (map-append (λ rest. partials_at k (made_of q rest)) last.front (last.rest ∷ []))
+      subst (λ os. IsOneOf (partials_at k (made_of q ps)) (partials_at k w.entered ∷ os)) (map-append (λ rest. partials_at k (made_of q rest)) last.front (last.last ∷ []))
       (subst (λ rests. IsOneOf (partials_at k (made_of q ps)) (partials_at k w.entered ∷ each_at q k rests)) last.is (w.parted k))
 
-  next_waits : (more : List Entry) (todo : List LeftList) → Waits q hf last.rest more todo → Waits q hf ps (es ++ more) (others ++ todo)
+  next_waits : (more : List Entry) (todo : List LeftList) → Waits q hf last.last more todo → Waits q hf ps (es ++ more) (others ++ todo)
   next_waits more todo v = record {
     entered = w.entered ++ v.entered;
     rests = last.front ++ v.rests;
-    are = by_append q (λ k. rows_at q k ps) es more w.entered v.entered w.are (by_raised q (λ k. rows_at q k last.rest) (λ k. rows_at q k ps) more v.entered low.1 v.are);
-    read = listed_append q hf others todo last.front v.rests last.are v.read;
+    are = by_append q (λ k. rows_at q k ps) es more w.entered v.entered w.are (by_raised q (λ k. rows_at q k last.last) (λ k. rows_at q k ps) more v.entered low.1 v.are);
+    read = one_append (λ list rest. ArePieces q hf list.records rest) others todo last.front v.rests last.are v.read;
     parted = λ k.
         let all : Found = partials_at k (made_of q ps) in
-        let two = one_last all (partials_at k (made_of q last.rest)) (partials_at k w.entered ∷ each_at q k last.front) (partials_at k v.entered ∷ each_at q k v.rests) (here k) (v.parted k) in
+        let two = one_last all (partials_at k (made_of q last.last)) (partials_at k w.entered ∷ each_at q k last.front) (partials_at k v.entered ∷ each_at q k v.rests) (here k) (v.parted k) in
         let one = one_merged all (partials_at k w.entered) (partials_at k v.entered) (each_at q k last.front) (each_at q k v.rests) two in
         subst (λ o. IsOneOf all (o ∷ each_at q k (last.front ++ v.rests))) (sym (at_append k w.entered v.entered))
-        (subst (λ os. IsOneOf all (or_else (partials_at k w.entered) (partials_at k v.entered) ∷ os)) (sym (map-append (λ rest. partials_at k (made_of q rest)) last.front v.rests)) one);
+        (subst (λ os. IsOneOf all (option_or (partials_at k w.entered) (partials_at k v.entered) ∷ os)) (sym (map-append (λ rest. partials_at k (made_of q rest)) last.front v.rests)) one);
     fewer =
         each_append (λ rest. (k : Row) → rows_at q k rest ≤ rows_at q k ps) last.front v.rests low.0
-        (each_weaker (λ rest. (k : Row) → rows_at q k rest ≤ rows_at q k last.rest) (λ rest. (k : Row) → rows_at q k rest ≤ rows_at q k ps)
+        (each_weaker (λ rest. (k : Row) → rows_at q k rest ≤ rows_at q k last.last) (λ rest. (k : Row) → rows_at q k rest ≤ rows_at q k ps)
         (λ rest less k. let a = less k in let b = low.1 k in omega (arith, a, b)) v.rests v.fewer);
   }
 
@@ -372,25 +301,25 @@ module _ (q : Query) (hf : List ℕ → ℕ) (ps : List Piece) (es : List Entry)
   not_both all a o xs u v (inl (is, others)) at there = let none : o ≡ None = (none_parts xs (o ∷ []) others).1.0 in absurd cc
   not_both all a o xs u v (inr (none, one)) at there = absurd cc
 
-  next_once : (more : List Entry) (left : List Record) → Stands q hf last.rest more left → AreOnce es → AreOnce more → AreOnce (es ++ more)
+  next_once : (more : List Entry) (left : List Record) → Stands q hf last.last more left → AreOnce es → AreOnce more → AreOnce (es ++ more)
   next_once more left t a b = once_append es more a b shared
     where
       shared : (i j : ℕ) (x y : Entry) → slice_get es i ≡ Some x → slice_get more j ≡ Some y → x.0 ≢ y.0
       shared i j x y at bt same =
           let g = by_at q (λ k. rows_at q k ps) es w.entered i x w.are at in
-          let h = by_at q (λ k. rows_at q k last.rest) more t.entered j y t.are bt in
+          let h = by_at q (λ k. rows_at q k last.last) more t.entered j y t.are bt in
           let key : h.group.0 ≡ g.group.0 = packed_once (key_kinds q) y.0 h.group.0 g.group.0 h.stands.of_kinds g.stands.of_kinds h.stands.key (sym same ∙ g.stands.key) in
           let entered = (set_with g.group.0 [] g.group.1 w.entered i (once_apart q (λ k. rows_at q k ps) es w.entered w.are a) g.at).1 in
-          let later = (set_with h.group.0 [] h.group.1 t.entered j (once_apart q (λ k. rows_at q k last.rest) more t.entered t.are b) h.at).1 in
-          let left = (found_in (made_of q last.rest) t.entered (made_of q t.rest) h.group.0 h.group.1 t.parted later).0 in
-          not_both (partials_at g.group.0 (made_of q ps)) (partials_at g.group.0 w.entered) (partials_at g.group.0 (made_of q last.rest)) (each_at q g.group.0 last.front) g.group.1 h.group.1
-          (here g.group.0) entered (subst (λ k. partials_at k (made_of q last.rest) ≡ Some h.group.1) key left)
+          let later = (set_with h.group.0 [] h.group.1 t.entered j (once_apart q (λ k. rows_at q k last.last) more t.entered t.are b) h.at).1 in
+          let left = (found_in (made_of q last.last) t.entered (made_of q t.rest) h.group.0 h.group.1 t.parted later).0 in
+          not_both (partials_at g.group.0 (made_of q ps)) (partials_at g.group.0 w.entered) (partials_at g.group.0 (made_of q last.last)) (each_at q g.group.0 last.front) g.group.1 h.group.1
+          (here g.group.0) entered (subst (λ k. partials_at k (made_of q last.last) ≡ Some h.group.1) key left)
 
   pub waits_next : Next q hf ps es others list
   waits_next = record {
-    rest = last.rest;
+    rest = last.last;
     are = last.one;
     count = λ m few k. let a = few k in let b = low.1 k in omega (arith, a, b);
-    waits = λ more left level t. next_waits more (left_by level left) (waits_first q hf last.rest more left level t);
+    waits = λ more left level t. next_waits more (left_by level left) (waits_first q hf last.last more left level t);
     once = next_once;
   }

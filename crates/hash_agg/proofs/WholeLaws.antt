@@ -9,16 +9,15 @@ use Rattle.grouping_model.specs.Query.{Query}
 use Rattle.grouping_model.specs.Grouping.{Group, part}
 use Rattle.grouping_model.specs.Parts.{keys_of}
 use Rattle.packed_rows.specs.Packing.{packing}
-use Rattle.having_filter.specs.Kept.{key_kinds}
 use Rattle.hash_agg.specs.declared.input.Input.{Input}
 use Rattle.group_runs.specs.Runs.{Entry, packed_keys}
 use Rattle.group_runs.specs.Standing.{AreGroups}
 use Rattle.packed_rows.specs.RowsOnEnd.{on_end}
-use Rattle.hash_agg.specs.Inputs.{Brought, Packed, Counted, brought, IsInput, AreInputsOf, AllBring, Given, Of_rows, Of_groups, Gives, AllGive}
+use Rattle.hash_agg.specs.Inputs.{Brought, Packed, Counted, brought, IsInput, AreInputsOf, Given, Of_rows, Of_groups, Gives, AllGive}
 use Rattle.group_runs.specs.Adding.{rows_added, groups_added}
-use Rattle.group_runs.specs.MergeLaws.{puts, keys_of-rows_added, keys_of-groups_added}
-use Rattle.group_runs.proofs.MergeLaws.{rows_added_part, groups_added_part, puts-append, puts_all, distinct_few}
-use Rattle.group_runs.specs.StandingLaws.{keys_packed, keys_of_kinds}
+use Rattle.group_runs.specs.MergeLaws.{puts}
+use Rattle.group_runs.proofs.MergeLaws.{rows_added_part, groups_added_part, puts_all, distinct_few}
+use Rattle.group_runs.specs.StandingLaws.{keys_packed}
 use Rattle.group_runs.proofs.RunLaws.{packed_once}
 
 -- the groups after all that an input gives, and after all that some inputs give
@@ -61,12 +60,6 @@ pub brought_at : (inputs : List Input) (i : ℕ) (input : Input) → i < length 
 brought_at inputs i input low is =
     let same : length (map brought inputs) ≡ length inputs = length-map inputs brought in
     (ap brought is ∙ sym (get_or-map brought inputs i input (brought input) low), omega (arith, low, same))
-
-pub given_long : (q : Query) (inputs : List Brought) (givens : List Given) → AllGive q inputs givens → length inputs ≡ length givens
-given_long q [] [] all = refl
-given_long q [] (g ∷ givens) all = absurd all
-given_long q (x ∷ inputs) [] all = absurd all
-given_long q (x ∷ inputs) (g ∷ givens) (first, all) = let long : length inputs ≡ length givens = given_long q inputs givens all in omega (arith, long)
 
 -- ---- lists of rows
 
@@ -112,41 +105,6 @@ packings_once kinds (x ∷ xs) (y ∷ ys) (hx, hxs) (hy, hys) e =
     let first : packing x ≡ packing y = cc in
     let rest : map packing xs ≡ map packing ys = cc in
     λ i. packed_once kinds (packing y) x y hx hy (sym first) refl i ∷ packings_once kinds xs ys hxs hys rest i
-
--- inputs that bring keys give groups of these keys
-pub record GiveKeys (q : Query) (inputs : List Brought) (keys : List Row) : Type 0 where
-  pub givens : List Given
-  pub give : AllGive q inputs givens
-  pub added : (gs : List Group) → keys_of (all_added q gs givens) ≡ puts (keys_of gs) keys
-
-pub keys_give : (q : Query) (inputs : List Brought) (lists : List (List Row)) → AllByRecursion (IsInput q) inputs → AllBring q inputs lists → GiveKeys q inputs (on_end lists)
-keys_give q [] [] all bring = record { givens = []; give = tt; added = λ gs. refl }
-keys_give q [] (ks ∷ lists) all bring = absurd bring
-keys_give q (x ∷ inputs) [] all bring = absurd bring
-keys_give q (Packed packed ∷ inputs) (ks ∷ lists) (first, all) (one, bring) =
-    let rest = keys_give q inputs lists all bring in
-    record {
-      givens = Of_rows one.0 ∷ rest.givens;
-      give = (one.1, rest.give);
-      added =
-          λ gs.
-          rest.added (rows_added q gs one.0)
-          ∙ ap (λ ls. puts ls (on_end lists)) (keys_of-rows_added q gs one.0 ∙ ap (puts (keys_of gs)) (sym one.2))
-          ∙ sym (puts-append (keys_of gs) ks (on_end lists));
-    }
-keys_give q (Counted run most ∷ inputs) (ks ∷ lists) (first, all) (one, bring) =
-    let rest = keys_give q inputs lists all bring in
-    let same : keys_of first.groups ≡ ks =
-    packings_once (key_kinds q) (keys_of first.groups) ks (keys_of_kinds q most run first.groups first.are) one.of_kinds (sym (keys_packed q most run first.groups first.are) ∙ one.packings_are) in
-    record {
-      givens = Of_groups first.groups ∷ rest.givens;
-      give = (first.are, rest.give);
-      added =
-          λ gs.
-          rest.added (groups_added q gs first.groups)
-          ∙ ap (λ ls. puts ls (on_end lists)) (keys_of-groups_added q gs first.groups ∙ ap (puts (keys_of gs)) same)
-          ∙ sym (puts-append (keys_of gs) ks (on_end lists));
-    }
 
 -- the keys of a run that stands for the groups of some keys
 pub keys_are : (q : Query) (most : ℕ) (run : List Entry) (groups : List Group) (keys : List Row) → AreGroups q most run groups → keys_of groups ≡ puts [] keys → packed_keys run ≡ map packing (distinct row_cmp keys)

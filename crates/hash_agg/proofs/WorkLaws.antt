@@ -8,7 +8,7 @@ use Rattle.std.proofs.lemmas.List.{length-append}
 use Rattle.std.proofs.lemmas.Nat.{mul-le}
 use Rattle.std.proofs.lemmas.List.Sums.{sum_by-cons}
 use Rattle.std.proofs.lemmas.List.Sorted.{IsPermutation-append_comm}
-use Rattle.list_laws.specs.Each.{each_append}
+use Rattle.list_laws.specs.Each.{each_append, each_front, each_behind}
 use Rattle.grouping_model.specs.Query.{Query}
 use Rattle.grouping_model.specs.Datum.{Row}
 use Rattle.packed_rows.specs.Packing.{packing}
@@ -28,7 +28,7 @@ use Rattle.hash_agg.specs.Waiting.{capped, IsLeft, AreLeft, Costs, AddsUp, pass_
 use Rattle.hash_agg.specs.declared.work.Work.{Work}
 use Rattle.group_runs.proofs.RunLaws.{packed_once}
 use Rattle.hash_agg.proofs.StepLaws.{key_short, group_apart}
-use Rattle.hash_agg.proofs.SpillLaws.{as_long}
+use Rattle.hash_agg.proofs.OneByOneLaws.{one_append, as_long, none_to_none, one_filtered, LastOf, last_of, as_none}
 
 -- ---- the pieces of records are told by their bytes
 
@@ -67,24 +67,7 @@ module _ (q : Query) (s : Setting) (level : ℕ) where
   same_list one c is = ap (list_of (capped level)) is.hashed ∙ capped_list level (s.hash c.key)
 
   costed_on : (i : ℕ) (rs : List Record) (cs : List cost.Record) → AreCosted q s rs cs → AreCosted q s (on_list (capped level) rs i) (cost.on_list s level cs i)
-  costed_on i [] [] are = tt
-  costed_on i [] (c ∷ cs) are = absurd are
-  costed_on i (r ∷ rs) [] are = absurd are
-  costed_on i (r ∷ rs) (c ∷ cs) (first, are) =
-      let rest = costed_on i rs cs are in
-      let some : List Record = on_list (capped level) rs i in
-      let those : List cost.Record = cost.on_list s level cs i in
-      subst (λ n. AreCosted q s (cond (n == i) (r ∷ some) some) (cond (cost.list_of s level c.key == i) (c ∷ those) those)) (sym (same_list r c first))
-      (elim (cost.list_of s level c.key == i) as (λ b. AreCosted q s (cond b (r ∷ some) some) (cond b (c ∷ those) those)) [
-        | true ↦ (first, rest)
-        | false ↦ rest
-      ])
-
-  none_of_none : (rs : List Record) (cs : List cost.Record) → AreCosted q s rs cs → is_none rs ≡ cost.is_empty cs
-  none_of_none [] [] are = refl
-  none_of_none [] (c ∷ cs) are = absurd are
-  none_of_none (r ∷ rs) [] are = absurd are
-  none_of_none (r ∷ rs) (c ∷ cs) are = refl
+  costed_on i = one_filtered (IsCosted q s) (λ one. list_of (capped level) one.hash == i) (λ c. cost.list_of s level c.key == i) (λ one c is. ap (λ n. n == i) (same_list one c is))
 
   abbrev lists_of_some : List Record → ℕ → ℕ → List LeftList
   lists_of_some rs a n = map (λ i. record { level = deeper (capped level); records = on_list (capped level) rs i }) (range_with_len a n)
@@ -105,7 +88,7 @@ module _ (q : Query) (s : Setting) (level : ℕ) where
       let list : LeftList = record { level = deeper (capped level); records = xs } in
       let more : List LeftList = those_left (lists_of_some rs (a + 1) n) in
       let others : List (List cost.Record) = filter (λ records. not (cost.is_empty records)) (map (cost.on_list s level cs) (range_with_len (a + 1) n)) in
-      subst (λ b. AreLeft q s (cond (not b) (list ∷ more) more) (map (cost.one_deeper level) (cond (not (cost.is_empty ys)) (ys ∷ others) others))) (sym (none_of_none xs ys here))
+      subst (λ b. AreLeft q s (cond (not b) (list ∷ more) more) (map (cost.one_deeper level) (cond (not (cost.is_empty ys)) (ys ∷ others) others))) (sym (as_none (IsCosted q s) xs ys here))
       (elim (cost.is_empty ys) as (λ b. AreLeft q s (cond (not b) (list ∷ more) more) (map (cost.one_deeper level) (cond (not b) (ys ∷ others) others))) [
         | true ↦ rest
         | false ↦ (record { records = here; level = capped_deeper level }, rest)
@@ -151,33 +134,6 @@ one_made s made others pass fit =
     ap (both made) (cost_reordered s (pass ∷ others) (others ++ pass ∷ []) (IsPermutation-append_comm (pass ∷ []) others) ∙ cost_of_next s pass others fit)
     ∙ sym (both_once made (cost_of s (pass ∷ [])) (cost_of s (flat_map (cost.passes_from s) (cost.left_by s pass ++ others))))
     ∙ ap (both (both made (cost_of s (pass ∷ [])))) (cost_reordered s (others ++ cost.left_by s pass) (cost.left_by s pass ++ others) (IsPermutation-append_comm others (cost.left_by s pass)))
-
-left_append : (q : Query) (s : Setting) (ls ms : List LeftList) (ps rs : List cost.Pass) → AreLeft q s ls ps → AreLeft q s ms rs → AreLeft q s (ls ++ ms) (ps ++ rs)
-left_append q s [] ms [] rs are more = more
-left_append q s [] ms (p ∷ ps) rs are more = absurd are
-left_append q s (l ∷ ls) ms [] rs are more = absurd are
-left_append q s (l ∷ ls) ms (p ∷ ps) rs (first, are) more = (first, left_append q s ls ms ps rs are more)
-
--- the last list, and the pass over it
-pub record LastPass (q : Query) (s : Setting) (others : List LeftList) (list : LeftList) (passes : List cost.Pass) : Type 0 where
-  pub front : List cost.Pass
-  pub pass : cost.Pass
-  pub is : passes ≡ front ++ pass ∷ []
-  pub are : AreLeft q s others front
-  pub one : IsLeft q s list pass
-
-last_pass : (q : Query) (s : Setting) (others : List LeftList) (list : LeftList) (passes : List cost.Pass) → AreLeft q s (others ++ list ∷ []) passes → LastPass q s others list passes
-last_pass q s [] list [] are = absurd are
-last_pass q s [] list (p ∷ []) (first, are) = record { front = []; pass = p; is = refl; are = tt; one = first }
-last_pass q s [] list (p ∷ r ∷ passes) (first, are) = absurd are
-last_pass q s (l ∷ others) list [] are = absurd are
-last_pass q s (l ∷ others) list (p ∷ passes) (first, are) =
-    let found = last_pass q s others list passes are in
-    record { front = p ∷ found.front; pass = found.pass; is = ap (λ ps. p ∷ ps) found.is; are = (first, found.are); one = found.one }
-
-all_parts : {A : Type 0} (P : A → Type 0) (xs ys : List A) → AllByRecursion P (xs ++ ys) → AllByRecursion P xs × AllByRecursion P ys
-all_parts P [] ys all = (tt, all)
-all_parts P (x ∷ xs) ys (first, all) = let both = all_parts P xs ys all in ((first, both.0), both.1)
 
 -- ---- pages
 
@@ -225,7 +181,7 @@ pub costs_first : (q : Query) (s : Setting) (pieces : List Piece) (entries : Lis
     → Costs q s pieces (pass_cost s.width entries (length spilled) (pages_of (lists 0 spilled))) (left_by 0 spilled)
 costs_first q s pieces entries parts spilled fit sp =
     let first : cost.Pass = record { level = 0; records = records_of q s.width pieces } in
-    let long = as_long q s spilled (cost.spilled_from s first.records) sp.spilled in
+    let long = as_long (IsCosted q s) spilled (cost.spilled_from s first.records) sp.spilled in
     let pages = pages_left q s first spilled sp.spilled in
     let made : cost_of s (first ∷ []) ≡ pass_cost s.width entries (length spilled) (pages_of (lists 0 spilled)) =
     cost_of_one s first ∙ (λ i. record { passes = 1; spilled = sym long i; pages = sym pages i; most_held = greatest (map (need s.width) (fronts (sym sp.took i))) }) in
@@ -243,40 +199,37 @@ costs_first q s pieces entries parts spilled fit sp =
 
 -- after one pass more, which read the last list
 module _ (q : Query) (s : Setting) (pieces : List Piece) (made : Cost) (others : List LeftList) (list : LeftList) (c : Costs q s pieces made (others ++ list ∷ [])) where
-  last : LastPass q s others list c.passes
-  last = last_pass q s others list c.passes c.left
+  last : LastOf (IsLeft q s) others list c.passes
+  last = last_of (IsLeft q s) others list c.passes c.left
 
   pub costs_next : (rest : List Piece) (entries : List Entry) (parts : List OnTape) (spilled : List Record) (level : ℕ) → IsWellFormed q → level ≡ list.level → ArePieces q s.hash list.records rest → Spills q s rest entries parts spilled
       → Costs q s pieces (both made (pass_cost s.width entries (length spilled) (pages_of (lists level spilled)))) (others ++ left_by level spilled)
   costs_next rest entries parts spilled level formed deep are sp =
-      let pass : cost.Pass = last.pass in
+      let pass : cost.Pass = last.last in
       let told : records_of q s.width rest ≡ pass.records = told_costs q s list.records rest pass.records formed are last.one.records in
-      let fits = all_parts (λ (pass : cost.Pass). cost.EachFits s pass.records) last.front (pass ∷ []) (subst (AllByRecursion (λ (pass : cost.Pass). cost.EachFits s pass.records)) last.is c.fit) in
+      let fits : AllByRecursion (λ (pass : cost.Pass). cost.EachFits s pass.records) (last.front ++ pass ∷ []) = subst (AllByRecursion (λ (pass : cost.Pass). cost.EachFits s pass.records)) last.is c.fit in
+      let fit = (each_behind (λ (pass : cost.Pass). cost.EachFits s pass.records) last.front (pass ∷ []) fits).0 in
       let took : packed_keys entries ≡ cost.taken_from s pass.records = sp.took ∙ ap (cost.taken_from s) told in
       let sent : AreCosted q s spilled (cost.spilled_from s pass.records) = subst (λ records. AreCosted q s spilled (cost.spilled_from s records)) told sp.spilled in
-      let long = as_long q s spilled (cost.spilled_from s pass.records) sent in
+      let long = as_long (IsCosted q s) spilled (cost.spilled_from s pass.records) sent in
       let level_is : level ≡ capped pass.level = deep ∙ last.one.level in
       let pages : pages_of (lists level spilled) ≡ pages_by s pass = ap (λ level. pages_of (lists level spilled)) level_is ∙ pages_left q s pass spilled sent in
       let by : cost_of s (pass ∷ []) ≡ pass_cost s.width entries (length spilled) (pages_of (lists level spilled)) =
       cost_of_one s pass ∙ (λ i. record { passes = 1; spilled = sym long i; pages = sym pages i; most_held = greatest (map (need s.width) (fronts (sym took i))) }) in
       record {
         passes = last.front ++ cost.left_by s pass;
-        left = left_append q s others (left_by level spilled) last.front (cost.left_by s pass) last.are (subst (λ level. AreLeft q s (left_by level spilled) (cost.left_by s pass)) (sym level_is) (lists_left q s pass spilled sent));
-        fit = each_append (λ (pass : cost.Pass). cost.EachFits s pass.records) last.front (cost.left_by s pass) fits.0 (recursion_from_All (λ (next : cost.Pass). cost.EachFits s next.records) (cost.left_by s pass) (fits_further_down s pass fits.1.0));
+        left = one_append (IsLeft q s) others (left_by level spilled) last.front (cost.left_by s pass) last.are (subst (λ level. AreLeft q s (left_by level spilled) (cost.left_by s pass)) (sym level_is) (lists_left q s pass spilled sent));
+        fit = each_append (λ (pass : cost.Pass). cost.EachFits s pass.records) last.front (cost.left_by s pass) (each_front (λ (pass : cost.Pass). cost.EachFits s pass.records) last.front (pass ∷ []) fits) (recursion_from_All (λ (next : cost.Pass). cost.EachFits s next.records) (cost.left_by s pass) (fits_further_down s pass fit));
         whole =
             ap (λ one. both (both made one) (cost_of s (flat_map (cost.passes_from s) (last.front ++ cost.left_by s pass)))) (sym by)
-            ∙ sym (one_made s made last.front pass fits.1.0)
+            ∙ sym (one_made s made last.front pass fit)
             ∙ ap (λ passes. both made (cost_of s (flat_map (cost.passes_from s) passes))) (sym last.is)
             ∙ c.whole;
       }
 
 -- no list is left
 pub costs_end : (q : Query) (s : Setting) (pieces : List Piece) (made : Cost) → Costs q s pieces made [] → made ≡ cost_from s (record { level = 0; records = records_of q s.width pieces })
-costs_end q s pieces made c = sym (none_after made) ∙ ap (λ passes. both made (cost_of s (flat_map (cost.passes_from s) passes))) (sym (none c.passes c.left)) ∙ c.whole
-  where
-    none : (passes : List cost.Pass) → AreLeft q s [] passes → passes ≡ []
-    none [] are = refl
-    none (pass ∷ passes) are = absurd are
+costs_end q s pieces made c = sym (none_after made) ∙ ap (λ passes. both made (cost_of s (flat_map (cost.passes_from s) passes))) (sym (none_to_none (IsLeft q s) c.passes c.left)) ∙ c.whole
 
 -- ---- what was counted
 

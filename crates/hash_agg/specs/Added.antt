@@ -65,20 +65,18 @@ pub record IsFresh {H : Type 0} (pass : Pass H) : Type 0 where
   pub empty : entries_of pass.groups ≡ []
   pub parts : pass.lists.parts ≡ []
 
--- it is the first, and has read nothing
-pub record IsFirst {H D : Type 0} (g : Ghosts D) (pass : Pass H) (disk : D) : Type 0 where
-  pub ready : IsReady pass
-  pub fresh : IsFresh pass
-  pub none : HasLists (g.last disk) pass.lists [] [] []
-  pub source : pass.lists.source ≡ []
-  pub todo : pass.lists.todo ≡ []
-  pub level : pass.lists.level ≡ 0
-
 -- it is over, and the next one may begin
 pub record IsOver {H : Type 0} (pass : Pass H) : Type 0 where
   pub ready : IsReady pass
   pub fresh : IsFresh pass
   pub source : pass.lists.source ≡ []
+
+-- it is the first, before which there is nothing
+pub record IsFirst {H D : Type 0} (g : Ghosts D) (pass : Pass H) (disk : D) : Type 0 where
+  pub over : IsOver pass
+  pub none : HasLists (g.last disk) pass.lists [] [] []
+  pub todo : pass.lists.todo ≡ []
+  pub level : pass.lists.level ≡ 0
 
 -- its plan, its table but for the groups, and the lists to which it doesn't spill are the same
 pub record KeepsPass {H : Type 0} (old new : Pass H) : Type 0 where

@@ -64,6 +64,12 @@ abbrev pub IsInputOf : Query → Brought → List Row → Type 0
 IsInputOf query (Packed packed) rows = ArePackings query.kinds packed rows
 IsInputOf query (Counted run most) rows = AreGroups query most run (part query rows)
 
+-- two lists are as long as each other, and what is at a place of the one belongs to what is at that place of the other
+abbrev pub OneByOne : {X Y : Type 0} → (X → Y → Type 0) → List X → List Y → Type 0
+OneByOne Belongs [] [] = Unit {0}
+OneByOne Belongs (x ∷ xs) (y ∷ ys) = Belongs x y × OneByOne Belongs xs ys
+OneByOne Belongs xs ys = ⊥
+
 -- input by input, these stand for lists of rows
 abbrev pub AreInputsOf : Query → List Brought → List (List Row) → Type 0
 AreInputsOf query [] [] = Unit {0}
@@ -81,9 +87,7 @@ Gives query (Counted run most) (Of_groups groups) = AreGroups query most run gro
 Gives query input given = ⊥
 
 abbrev pub AllGive : Query → List Brought → List Given → Type 0
-AllGive query [] [] = Unit {0}
-AllGive query (input ∷ inputs) (given ∷ givens) = Gives query input given × AllGive query inputs givens
-AllGive query inputs givens = ⊥
+AllGive query = OneByOne (Gives query)
 
 -- the keys that an input brings: those of its selected rows, or of its groups
 abbrev pub Brings : Query → Brought → List Row → Type 0

@@ -30,7 +30,7 @@ use Rattle.having_filter.specs.Meaning.{meaning}
 use Rattle.hash_agg.specs.declared.plan.Plan.{Plan}
 use Rattle.group_runs.specs.Runs.{Entry, packed_keys}
 use Rattle.group_runs.specs.Standing.{AreStates, StandsFor, AreGroups, states_width}
-use Rattle.hash_agg.specs.Inputs.{Brought, ArePackings, rows_in, Given, Of_rows, Of_groups}
+use Rattle.hash_agg.specs.Inputs.{Brought, OneByOne, ArePackings, rows_in, Given, Of_rows, Of_groups}
 use Rattle.group_runs.specs.Adding.{row_added, group_added}
 
 -- ---- what is read
@@ -64,9 +64,7 @@ IsPiece query hash one (Of_row row) = IsRowRecord query hash one row
 IsPiece query hash one (Of_group group most) = IsGroupRecord query hash one group most
 
 abbrev pub ArePieces : Query → (List ℕ → ℕ) → List Record → List Piece → Type 0
-ArePieces query hash [] [] = Unit {0}
-ArePieces query hash (one ∷ records) (piece ∷ pieces) = IsPiece query hash one piece × ArePieces query hash records pieces
-ArePieces query hash records pieces = ⊥
+ArePieces query hash = OneByOne (IsPiece query hash)
 
 -- the key of the group to which it goes
 abbrev pub piece_key : Query → Piece → Row
@@ -146,9 +144,7 @@ IsParted all some others =
 
 -- entry by entry, these stand for groups, that of a key counting at most as many rows as are said of the key
 abbrev pub AreGroupsBy : Query → (Row → ℕ) → List Entry → List Group → Type 0
-AreGroupsBy query most [] [] = Unit {0}
-AreGroupsBy query most (entry ∷ entries) (group ∷ groups) = StandsFor query (most group.0) entry group × AreGroupsBy query most entries groups
-AreGroupsBy query most entries groups = ⊥
+AreGroupsBy query most = OneByOne (λ entry group. StandsFor query (most group.0) entry group)
 
 -- what was read is in entries and in records that are left: each group that the pieces make up is an entry, or is what the records
 -- of its key make up
@@ -184,9 +180,7 @@ pub record IsCosted (query : Query) (setting : Setting) (one : Record) (costed :
   pub long : 9 + length one.bytes ≡ costed.on_tape
 
 abbrev pub AreCosted : Query → Setting → List Record → List cost.Record → Type 0
-AreCosted query setting [] [] = Unit {0}
-AreCosted query setting (one ∷ records) (costed ∷ others) = IsCosted query setting one costed × AreCosted query setting records others
-AreCosted query setting records others = ⊥
+AreCosted query setting = OneByOne (IsCosted query setting)
 
 -- of what it has read, a pass took the keys and spilled the records that the cost says; it has lists once it spilled
 pub record Spills (query : Query) (setting : Setting) (pieces : List Piece) (entries : List Entry) (parts : List OnTape) (left : List Record) : Type 0 where

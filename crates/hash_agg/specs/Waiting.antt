@@ -11,14 +11,13 @@ use Rattle.aggregation_cost.specs.Passes as cost
 use Rattle.aggregation_cost.specs.Space.{Setting, need, fronts}
 use Rattle.spill_lists.specs.Lists.{LeftList}
 use Rattle.group_runs.specs.Runs.{Entry, packed_keys}
+use Rattle.hash_agg.specs.Inputs.{OneByOne}
 use Rattle.hash_agg.specs.Passes.{Piece, ArePieces, made_of, rows_at, AreGroupsBy, records_of, AreCosted}
 use Rattle.hash_agg.specs.declared.work.Work.{Work}
 
 -- list by list, these are pieces
 abbrev pub AreListed : Query → (List ℕ → ℕ) → List LeftList → List (List Piece) → Type 0
-AreListed query hash [] [] = Unit {0}
-AreListed query hash (list ∷ lists) (rest ∷ rests) = ArePieces query hash list.records rest × AreListed query hash lists rests
-AreListed query hash lists rests = ⊥
+AreListed query hash = OneByOne (λ list rest. ArePieces query hash list.records rest)
 
 -- none of these is there; and just one of them is, which is this one, or none is, as this one isn't
 abbrev pub AreNone : List (Option (List Partial)) → Type 0
@@ -54,9 +53,7 @@ pub record IsLeft (query : Query) (setting : Setting) (list : LeftList) (pass : 
   pub level : list.level ≡ capped pass.level
 
 abbrev pub AreLeft : Query → Setting → List LeftList → List cost.Pass → Type 0
-AreLeft query setting [] [] = Unit {0}
-AreLeft query setting (list ∷ lists) (pass ∷ passes) = IsLeft query setting list pass × AreLeft query setting lists passes
-AreLeft query setting lists passes = ⊥
+AreLeft query setting = OneByOne (IsLeft query setting)
 
 -- the passes that were made, and those over the lists that are left, cost what is said of the pieces
 pub record Costs (query : Query) (setting : Setting) (pieces : List Piece) (made : Cost) (todo : List LeftList) : Type 0 where

@@ -1,6 +1,6 @@
 //! The groups of a pass, in a table whose bytes lie in memory contexts.
 
-ghost use Rattle.std.specs.Prelude.{◌≡◌, ◌++◌, ◌∷◌, ◌≤◌, ◌<◌, max, ℕ, true, [], map, Some, is_some, length, slice_get, MatchOption, IfOk, IfSome, OnOk, OnErr};
+ghost use Rattle.std.specs.Prelude.{◌≡◌, ◌++◌, ◌∷◌, ◌≤◌, ◌<◌, ℕ, [], map, Some, is_some, length, slice_get, MatchOption, IfOk, IfErr, IfSome, OnOk, OnErr};
 ghost use Rattle.std.specs.List.Sorted.{IsPermutation};
 ghost use Rattle.grouping_model.specs.Datum.{HasKinds};
 ghost use Rattle.grouping_model.specs.Parts.{functions};
@@ -8,21 +8,22 @@ ghost use Rattle.packed_rows.specs.View.{row_of};
 ghost use Rattle.agg_protocol.specs.States.{most_rows};
 ghost use Rattle.aggregation_cost.specs.Cost.{greatest};
 ghost use Rattle.aggregation_cost.specs.Space.{Key, need, fits, fronts};
-ghost use Rattle.context_tree.specs.Tree.{is_there, new_tree, held_below};
 ghost use Rattle.group_table.specs.Table.{IsSlot, Names, HasNo, state_in};
+ghost use Rattle.spill_lists.specs.declared.error.SpillError.TheVariants.{NoMemory};
 ghost use Rattle.having_filter.specs.Kept.{IsWellFormed};
 ghost use Rattle.having_filter.specs.Meaning.{meaning};
 ghost use Rattle.group_runs.specs.Runs.{Rises, packed_keys};
 ghost use Rattle.hash_agg.specs.Passes.{AreOnce, entries_of, HasPlace, WritesAt, IsSameTable};
 ghost use Rattle.group_runs.specs.Steps.{HaveRoomForRow, AreAdvanced, HaveRoomWithin, AreCombined};
 
-use crate::sorting::{led, sorted};
+use crate::sorting::{led, told_apart};
 use agg_protocol::BadState;
-use context_tree::{ContextId, Kind, Tree};
+use context_tree::{Kind, Tree};
 use group_runs::{Run, advance_slice, combine_within};
 use group_table::{GroupTable, KeyHash, Seed, SipHash, Slot};
 use having_filter::Query;
 use packed_rows::Value;
+use spill_lists::SpillError;
 use std::alloc::{AllocError, Global};
 use std::marker::Model;
 
@@ -48,19 +49,6 @@ impl<H: KeyHash + Drop> Model for Groups<H> {
     ghost invariant = { λ g. AreHeld (record { table = g.table; tree = g.tree; most_held = g.most_held; hash = g.hash }) };
 }
 
-/// The context of a pass, below the root of a new tree.
-fn pass_context(tree: &mut Tree) -> Result<ContextId, AllocError>
-    requires { tree.old ≡ new_tree 0 }
-    ensures there { IfOk result (λ id. is_there tree.new id ≡ true) }
-    ensures empty { IfOk result (λ id. held_below tree.new id ≡ 0) }
-{
-    let root = tree.root();
-    match tree.create(root, Kind::AllocSet) {
-        Ok(id) => Ok(id),
-        Err(_) => Err(AllocError),
-    }
-}
-
 impl<H: KeyHash + Drop> Groups<H> {
     /// No groups, whose states will have `width` bytes each. Records are spilled by `hash`; the table's hash function has this seed.
     pub(crate) fn new(
@@ -76,7 +64,10 @@ impl<H: KeyHash + Drop> Groups<H> {
         ensures held { IfOk result (λ made. made.most_held ≡ 0) }
     {
         let mut tree = Tree::new(alloc);
-        let pass = pass_context(&mut tree)?;
+        let root = tree.root();
+        let Ok(pass) = tree.create(root, Kind::AllocSet) else {
+            return Err(AllocError);
+        };
         match GroupTable::new(alloc, &mut tree, pass, width, SipHash::new(seed)) {
             Ok(table) => Ok(Groups {
                 tree,
@@ -222,16 +213,17 @@ impl<H: KeyHash + Drop> Groups<H> {
         self.most_held = 0;
     }
 
-    /// The groups in the order of their keys.
-    pub(crate) fn sorted(&self, alloc: Global) -> Result<Run, AllocError>
+    /// The groups in the order of their keys. The only error is want of memory.
+    pub(crate) fn sorted(&self, alloc: Global) -> Result<Run, SpillError>
         ensures sorted { IfOk result (IsPermutation (entries_of self.now)) }
         ensures rises { IfOk result Rises }
+        ensures refused { IfErr result (λ error. error ≡ NoMemory) }
     {
         let mut entries = Vec::with_capacity(alloc, self.len())?;
         for place in 0..self.len() {
             let (key, states) = self.entry(place);
             entries.push(led(key, states))?;
         }
-        sorted(alloc, entries.as_mut_slice())
+        told_apart(alloc, entries.as_mut_slice())
     }
 }

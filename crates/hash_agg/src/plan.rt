@@ -6,7 +6,7 @@ ghost use Rattle.grouping_model.specs.Datum.{Row, HasKinds};
 ghost use Rattle.grouping_model.specs.Grouping.{Group, column_of, key_of};
 ghost use Rattle.grouping_model.specs.Parts.{functions};
 ghost use Rattle.packed_rows.specs.Packing.{packing};
-ghost use Rattle.packed_rows.specs.View.{row_of};
+ghost use Rattle.packed_rows.specs.View.{kinds_of, row_of};
 ghost use Rattle.agg_protocol.specs.States.{most_rows};
 ghost use Rattle.spill_lists.specs.declared.error.SpillError.TheVariants.{TapeDamaged, TapeFault};
 ghost use Rattle.having_filter.specs.Kept.{IsWellFormed};
@@ -19,7 +19,7 @@ use agg_library::StateRow;
 use agg_protocol::BadState;
 use group_runs::{advance_slice, first_states};
 use having_filter::Query;
-use packed_rows::{RowError, Value, pack_value, unpack_into};
+use packed_rows::{RowError, Value, ValueKind, pack_value, unpack_into};
 use spill_lists::SpillError;
 use std::alloc::{AllocError, Global};
 
@@ -34,15 +34,19 @@ pub(crate) struct Plan<'a> {
     pub(crate) first: Vec<u8>,
 }
 
-/// Reads the values of a row from its packing into `row`, where they take the place of what was there.
-fn unpack<'r>(query: &Query, packed: &'r [u8], row: &mut Vec<Value<'r>>) -> Result<(), SpillError>
-    ensures row { OnOk result (HasKinds (meaning query.now).kinds (row_of row.new.items)
+/// Reads values of these kinds from their packing into `row`, where they take the place of what was there.
+fn unpack<'r>(
+    kinds: &[ValueKind],
+    packed: &'r [u8],
+    row: &mut Vec<Value<'r>>,
+) -> Result<(), SpillError>
+    ensures row { OnOk result (HasKinds (kinds_of kinds.now) (row_of row.new.items)
         × (packed.now ≡ packing (row_of row.new.items))) }
-    ensures undamaged { IfErr result (λ error. (list : Row) → HasKinds (meaning query.now).kinds list →
+    ensures undamaged { IfErr result (λ error. (list : Row) → HasKinds (kinds_of kinds.now) list →
         packed.now ≡ packing list → error ≢ TapeDamaged) }
     ensures faultless { IfErr result (λ error. error ≢ TapeFault) }
 {
-    match unpack_into(query.schema().kinds(), packed, row) {
+    match unpack_into(kinds, packed, row) {
         Ok(()) => Ok(()),
         Err(RowError::NoMemory) => Err(SpillError::NoMemory),
         Err(_) => Err(SpillError::TapeDamaged),
@@ -107,7 +111,7 @@ impl<'a> Plan<'a> {
             HasKinds (meaning self.now.query.now).kinds list → packed.now ≡ packing list → error ≢ TapeDamaged) }
         ensures faultless { IfErr result (λ error. error ≢ TapeFault) }
     {
-        unpack(self.query, packed, row)?;
+        unpack(self.query.schema().kinds(), packed, row)?;
         if !self.query.where_true(row) {
             return Ok(false);
         }
@@ -155,11 +159,7 @@ impl<'a> Plan<'a> {
     {
         // The values borrow from the key, whose bytes the next record takes the place of.
         let mut values = Vec::with_capacity(alloc, self.query.key_kinds().len())?;
-        match unpack_into(self.query.key_kinds(), key, &mut values) {
-            Ok(()) => {}
-            Err(RowError::NoMemory) => return Err(SpillError::NoMemory),
-            Err(_) => return Err(SpillError::TapeDamaged),
-        }
+        unpack(self.query.key_kinds(), key, &mut values)?;
         match StateRow::check(self.query.agg_kinds(), states, self.most) {
             Ok(()) => Ok(()),
             Err(BadState) => Err(SpillError::TapeDamaged),

@@ -41,20 +41,6 @@ pub(crate) fn led<'a>(key: &'a [u8], states: &'a [u8]) -> Led<'a>
     (first, (key, states))
 }
 
-/// Puts groups, no two of which have the same key, in the order of their keys.
-pub(crate) fn sorted(alloc: Global, entries: &mut [Led<'_>]) -> Result<Run, AllocError>
-    requires once { AreOnce (pairs entries.old) }
-    requires led { All IsLed entries.old }
-    ensures sorted { IfOk result (IsPermutation (pairs entries.old)) }
-    ensures rises { IfOk result Rises }
-{
-    match told_apart(alloc, entries) {
-        Ok(run) => Ok(run),
-        Err(SpillError::NoMemory) => Err(AllocError),
-        Err(_) => unreachable!(),
-    }
-}
-
 /// Adds references to the groups of a run behind others.
 fn push_all<'a>(entries: &mut Vec<Led<'a>>, run: &'a Run) -> Result<(), AllocError>
     ensures pushed { OnOk result (pairs entries.new.items ≡ pairs entries.old.items ++ run.now) }
@@ -96,7 +82,7 @@ fn room_for(entries: &[Led<'_>]) -> (usize, usize) {
 }
 
 /// Puts groups in the order of their keys. `TapeDamaged` if two of them have the same key.
-fn told_apart(alloc: Global, entries: &mut [Led<'_>]) -> Result<Run, SpillError>
+pub(crate) fn told_apart(alloc: Global, entries: &mut [Led<'_>]) -> Result<Run, SpillError>
     requires led { All IsLed entries.old }
     ensures sorted { IfOk result (IsPermutation (pairs entries.old)) }
     ensures rises { IfOk result Rises }

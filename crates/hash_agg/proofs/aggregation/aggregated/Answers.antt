@@ -19,7 +19,7 @@ use Rattle.hash_agg.specs.Passes.{AreSafe, CountUpTo, IsPlan, Stands, setting_fo
 use Rattle.hash_agg.specs.Waiting.{AddsUp}
 use Rattle.hash_agg.specs.declared.pass.Pass.{Pass}
 use Rattle.hash_agg.specs.declared.plan.Plan.{Plan}
-use Rattle.hash_agg.proofs.CountLaws.{all_made, made_rise, all_few, few_keys}
+use Rattle.hash_agg.proofs.CountLaws.{all_made, made_rise, all_few, keys_give, few_keys}
 use Rattle.hash_agg.proofs.DiskLaws.{left_out, still_out}
 use Rattle.hash_agg.proofs.FewLaws.{few_passes}
 use Rattle.hash_agg.proofs.FitLaws.{all_fit}
@@ -28,7 +28,7 @@ use Rattle.hash_agg.proofs.NeedLaws.{ok_from}
 use Rattle.hash_agg.proofs.ReturnLaws.{no_ok, no_if_ok}
 use Rattle.hash_agg.proofs.StepLaws.{err_out}
 use Rattle.hash_agg.proofs.UnionLaws.{all_stand, safe_run}
-use Rattle.hash_agg.proofs.WholeLaws.{all_added, all_given, lists_give, keys_give, keys_are, keys_few}
+use Rattle.hash_agg.proofs.WholeLaws.{all_added, all_given, lists_give, keys_are, keys_few}
 use Rattle.hash_agg.proofs.aggregation.aggregated.Goals as goal
 
 -- what all passes hold in the end is the aggregate
@@ -116,7 +116,7 @@ returns g c =
     let pass = c.in_ok-pass.pass in
     let q : Query = query_of pass in
     let set : Setting = setting_in g.H.KeyHash.hash_of pass in
-    let plan = c.in_ok-pass.ensures.first.ready.plan in
+    let plan = c.in_ok-pass.ensures.first.over.ready.plan in
     let by = c.in_ok-pass.ensures.by in
     let queried : pass.plan.query.now ≡ c.args.query.now = ap (λ (plan : Plan). plan.query.now) by.0 ∙ c.in_ok-plan.ensures.query in
     let most : pass.plan.most ≡ all_rows inputs = ap (λ (plan : Plan). plan.most) by.0 ∙ c.in_ok-plan.ensures.most ∙ c.rows_of_all.ensures in

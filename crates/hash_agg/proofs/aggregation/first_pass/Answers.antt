@@ -12,7 +12,7 @@ use Rattle.grouping_model.specs.Query.{Query}
 use Rattle.having_filter.specs.Meaning.{meaning}
 use Rattle.group_runs.specs.PlaceLaws.{all_at}
 use Rattle.hash_agg.specs.Added.{AreInputs, Finished, MadeFirst, query_of, setting_in, source_of}
-use Rattle.hash_agg.specs.Inputs.{Brought, brought, rows_in, IsInput}
+use Rattle.hash_agg.specs.Inputs.{Brought, brought, rows_in, IsInput, Gives}
 use Rattle.hash_agg.specs.Passes.{PassState, standing, entries_of, AreSafe, Holds, total, all_pieces, brought_by}
 use Rattle.hash_agg.specs.Waiting.{AddsUp, pass_cost}
 use Rattle.hash_agg.specs.declared.plan.Plan.{Plan}
@@ -23,9 +23,11 @@ use Rattle.hash_agg.proofs.FirstLaws.{input_few, first_holds, first_total, first
 use Rattle.hash_agg.proofs.FitLaws.{all_fit}
 use Rattle.hash_agg.proofs.NeedLaws.{held_by_both}
 use Rattle.hash_agg.proofs.ReturnLaws.{no_if_ok}
-use Rattle.hash_agg.proofs.StepLaws.{err_out, get_in}
+use Rattle.hash_agg.proofs.StepLaws.{err_out}
+use Rattle.std.proofs.lemmas.Option.{slice_get-get_or}
 use Rattle.hash_agg.proofs.UnionLaws.{none_safe, safe_moved}
-use Rattle.hash_agg.proofs.WholeLaws.{all_given, given_at, given_long, brought_at}
+use Rattle.hash_agg.proofs.WholeLaws.{all_given, given_at, brought_at}
+use Rattle.hash_agg.proofs.OneByOneLaws.{as_long}
 use Rattle.hash_agg.proofs.aggregation.first_pass.Goals as goal
 
 pub loop-input-init : goal.loop-input-init
@@ -33,11 +35,11 @@ loop-input-init g c =
     let q : Query = query_of c.args.pass.now in
     let first = c.requires.first in
     record {
-      reads = λ givens give. first_holds q (setting_in g.H.KeyHash.hash_of c.args.pass.now) (standing c.args.pass.now.groups c.args.pass.now.lists (g.D.TapeDisk.last c.args.disk.now)) first.fresh.empty first.fresh.parts first.none;
-      brings = λ givens give. first_total (entries_of c.args.pass.now.groups) c.args.pass.now.lists first.fresh.empty first.fresh.parts;
-      safe = subst (AreSafe q c.args.pass.now.plan.most) (sym first.fresh.empty) (none_safe q c.args.pass.now.plan.most);
+      reads = λ givens give. first_holds q (setting_in g.H.KeyHash.hash_of c.args.pass.now) (standing c.args.pass.now.groups c.args.pass.now.lists (g.D.TapeDisk.last c.args.disk.now)) first.over.fresh.empty first.over.fresh.parts first.none;
+      brings = λ givens give. first_total (entries_of c.args.pass.now.groups) c.args.pass.now.lists first.over.fresh.empty first.over.fresh.parts;
+      safe = subst (AreSafe q c.args.pass.now.plan.most) (sym first.over.fresh.empty) (none_safe q c.args.pass.now.plan.most);
       pages = refl;
-      ready = first.ready;
+      ready = first.over.ready;
       kept = same_pass c.args.pass.now;
       disk = leaves_none g.D.TapeDisk c.args.disk.now;
     }
@@ -48,7 +50,7 @@ add_input-requires-clause-input g c =
     let i : ℕ = c.loop-input.input-index in
     let input : Brought = brought c.input-item.result in
     let here = brought_at c.args.inputs.now i c.input-item.result c.loop-input-test.true c.input-item.is in
-    let at : slice_get inputs i ≡ Some input = get_in inputs i input here.1 ∙ ap Some (sym here.0) in
+    let at : slice_get inputs i ≡ Some input = slice_get-get_or inputs i input here.1 ∙ ap Some (sym here.0) in
     let few = input_few inputs i input at in
     let all = c.requires.inputs.few in
     let sum = sum_by-cons rows_in input [] in
@@ -71,7 +73,7 @@ returns-in_err-add_input g c =
     let i : ℕ = c.loop-input.input-index in
     let input : Brought = brought c.input-item.result in
     let here = brought_at c.args.inputs.now i c.input-item.result c.loop-input-test.true c.input-item.is in
-    let at : slice_get inputs i ≡ Some input = get_in inputs i input here.1 ∙ ap Some (sym here.0) in
+    let at : slice_get inputs i ≡ Some input = slice_get-get_or inputs i input here.1 ∙ ap Some (sym here.0) in
     let given = all_given q inputs c.requires.inputs.are in
     let found = given_at q inputs given.0 i input given.1 here.1 here.0 in
     let so_far = c.loop-input.invariant in
@@ -95,7 +97,7 @@ loop-input-preserved g c =
     let i : ℕ = c.loop-input.input-index in
     let input : Brought = brought c.input-item.result in
     let here = brought_at c.args.inputs.now i c.input-item.result c.loop-input-test.true c.input-item.is in
-    let at : slice_get inputs i ≡ Some input = get_in inputs i input here.1 ∙ ap Some (sym here.0) in
+    let at : slice_get inputs i ≡ Some input = slice_get-get_or inputs i input here.1 ∙ ap Some (sym here.0) in
     let now : PassState = standing c.loop-input.pass.groups c.loop-input.pass.lists (g.D.TapeDisk.last c.loop-input.disk) in
     let next : PassState = standing c.add_input.new.self.groups c.add_input.new.self.lists (g.D.TapeDisk.last c.add_input.new.disk) in
     let so_far = c.loop-input.invariant in
@@ -134,26 +136,26 @@ returns g c =
           record {
             underway =
                 λ givens give.
-                let many : length inputs ≡ length givens = given_long q inputs givens give in
+                let many : length inputs ≡ length givens = as_long (Gives q) inputs givens give in
                 let all_of : all_pieces (take i inputs) (take i givens) ≡ all_pieces inputs givens = λ j. all_pieces (take_all i inputs (omega (arith, past, long)) j) (take_all i givens (omega (arith, past, long, many)) j) in
                 let pages = so_far.pages in
-                let none : written_pages c.args.pass.now.lists ≡ 0 = ap (full_pages c.args.pass.now.lists.tapes) first.fresh.parts in
+                let none : written_pages c.args.pass.now.lists ≡ 0 = ap (full_pages c.args.pass.now.lists.tapes) first.over.fresh.parts in
                 first_waits q set (all_pieces inputs givens) now run c.finish.new.self.lists (g.D.TapeDisk.last c.finish.new.disk) c.args.work.now c.finish.new.work (g.D.TapeDisk.writes c.args.disk.now) (g.D.TapeDisk.writes c.loop-input.disk) (g.D.TapeDisk.writes c.finish.new.disk) end.moved end.rises (so_far.kept.lists.level ∙ first.level)
-                (all_fit q set inputs givens first.ready.plan.formed first.ready.plan.limit first.ready.plan.narrow give) (omega (arith, pages, none)) end.left end.paged
-                (λ spilled ahead todo pages has. subst (λ width. AddsUp c.args.work.now (pass_cost width now.entries (length spilled) pages) c.finish.new.work) (so_far.kept.table.width ∙ first.ready.width) (counts.adds spilled ahead todo pages has))
+                (all_fit q set inputs givens first.over.ready.plan.formed first.over.ready.plan.limit first.over.ready.plan.narrow give) (omega (arith, pages, none)) end.left end.paged
+                (λ spilled ahead todo pages has. subst (λ width. AddsUp c.args.work.now (pass_cost width now.entries (length spilled) pages) c.finish.new.work) (so_far.kept.table.width ∙ first.over.ready.width) (counts.adds spilled ahead todo pages has))
                 (subst (λ pieces. Holds q set now pieces [] []) all_of (so_far.reads givens give));
             few =
                 λ givens give.
-                let many : length inputs ≡ length givens = given_long q inputs givens give in
+                let many : length inputs ≡ length givens = as_long (Gives q) inputs givens give in
                 let all_of : all_pieces (take i inputs) (take i givens) ≡ all_pieces inputs givens = λ j. all_pieces (take_all i inputs (omega (arith, past, long)) j) (take_all i givens (omega (arith, past, long, many)) j) in
                 first_few (entries_of c.loop-input.pass.groups) run c.loop-input.pass.lists c.finish.new.self.lists (brought_by q (all_pieces inputs givens)) end.moved end.waiting (so_far.kept.lists.todo ∙ first.todo)
                 (subst (λ pieces. total (entries_of c.loop-input.pass.groups) c.loop-input.pass.lists ≤ brought_by q pieces) all_of (so_far.brings givens give));
             safe = record { safe = safe_moved q c.args.pass.now.plan.most (entries_of c.loop-input.pass.groups) run so_far.safe end.moved; rises = end.rises };
-            over = record { ready = end.ready; fresh = end.fresh; source = end.source ∙ so_far.kept.lists.source ∙ first.source };
+            over = record { ready = end.ready; fresh = end.fresh; source = end.source ∙ so_far.kept.lists.source ∙ first.over.source };
             within =
                 record {
                   counted = counts.counted;
-                  held = λ within. held_by_both c.args.pass.now.plan.limit _ _ _ counts.held within (so_far.kept.table.within first.ready.held);
+                  held = λ within. held_by_both c.args.pass.now.plan.limit _ _ _ counts.held within (so_far.kept.table.within first.over.ready.held);
                 };
             plan = end.plan ∙ so_far.kept.plan;
             hash = end.hash ∙ so_far.kept.table.hash;
