@@ -22,11 +22,6 @@ numbers {X} es = map (λ (e : ℕ × X). e.0) es
 pub some_is : {X : Type 0} (x y : X) → Some x ≡ Some y → x ≡ y
 some_is x y e = ap (λ o. unwrap_or o x) e
 
--- what isn't there
-pub none_there : {X : Type 0} (o : Option X) → is_some o ≡ false → o ≡ None
-none_there None e = refl
-none_there (Some x) e = absurd (true≢false e)
-
 module _ {X : Type 0} where
   -- a number in entries that begin with it, and with another one
   pub at_head : (n : ℕ) (x : X) (rest : List (ℕ × X)) → at ((n, x) ∷ rest) n ≡ Some x

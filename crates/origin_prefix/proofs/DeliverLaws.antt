@@ -1,7 +1,7 @@
 -- What becomes of a part to which a batch is delivered.
 use Rattle.std.specs.Prelude.{◌≡◌, ◌≢◌, refl, ℕ, ◌+◌, ◌-◌, ◌<◌, ◌≤◌, ◌||◌, ◌&&◌, nat_le, Bool, true, false, List, [], ◌∷◌, Some, None, Result, Ok, Err, IfOk, IfErr, OnOk, OnErr}
 use Rattle.std.proofs.Common.{◌∙◌, sym, ap, subst, inl, inr, arith}
-use Rattle.std.proofs.lemmas.Bool.{cases_lt}
+use Rattle.std.proofs.lemmas.Bool.{cases_lt, and_right, or_right}
 use Rattle.std.specs.Option.{is_some}
 use Rattle.std.specs.List.{AllByRecursion}
 use Rattle.std.specs.List.Sorted.{IsStrictlySortedBy}
@@ -35,10 +35,6 @@ within_prefix query part number rows kept is low there =
     let high : part.prefix + 1 < number = (found_holds (IsEarly (kinds query.columns) part.prefix) part.early number kept is.early there).behind in
     absurd (omega (arith, low, high))
 
-either_true : (a b : Bool) → b ≡ true → (a || b) ≡ true
-either_true true b e = refl
-either_true false b e = e
-
 pub known_within : (honest : Bool) (query : Checked) (q : Query) (part : Part) (number : ℕ) (rows : List (List ℕ)) → IsPartOf query part → 1 ≤ number → number ≤ part.prefix → Delivers honest q part number rows part Known
 known_within honest query q part number rows is some low = (
   (let one : nat_le 1 number ≡ true = grind arith in
@@ -50,7 +46,7 @@ known_within honest query q part number rows is some low = (
 
 pub known_early : (honest : Bool) (q : Query) (part : Part) (number : ℕ) (rows kept : List (List ℕ)) → rows_at part.early number ≡ Some kept → kept ≡ rows → Delivers honest q part number rows part Known
 known_early honest q part number rows kept there same = (
-  either_true (nat_le 1 number && nat_le number part.prefix) (is_some (rows_at part.early number)) (ap is_some there),
+  or_right (nat_le 1 number && nat_le number part.prefix) (is_some (rows_at part.early number)) (ap is_some there),
   λ other found. some_is other kept (sym found ∙ there) ∙ same,
   refl,
 )
@@ -118,11 +114,7 @@ refused_early part number batch kept r there other =
 -- a number behind the prefix that isn't early is not told
 pub unknown : (part : Part) (number : ℕ) → part.prefix < number → rows_at part.early number ≡ None → tells part number ≡ false
 unknown part number above none =
-    let out : nat_le number part.prefix ≡ false = grind arith in (λ i. (nat_le 1 number && out i) || is_some (none i)) ∙ neither (nat_le 1 number)
-  where
-    neither : (b : Bool) → ((b && false) || false) ≡ false
-    neither true = refl
-    neither false = refl
+    let out : nat_le number part.prefix ≡ false = grind arith in λ i. and_right (nat_le 1 number) (nat_le number part.prefix) out i || is_some (none i)
 
 -- and so whatever is refused for want of memory, or by a disk
 pub unknown_refused : {T : Type 0} (r : Result T RefusedBatch) (part : Part) (number : ℕ) (rows : List (List ℕ)) → part.prefix < number → rows_at part.early number ≡ None

@@ -8,7 +8,7 @@ use Rattle.std.proofs.lemmas.List.Kept.{IsStrictlySortedBy-filter}
 use Rattle.std.specs.List.Sorted.{IsStrictlySortedBy}
 use Rattle.std.specs.BTreeMap.Range.{entries_between, range_contains}
 use Rattle.std.specs.declared.ops.Bound.TheVariants.{Excluded, Unbounded}
-use Rattle.std.specs.Prelude.{◌≡◌, ◌≢◌, ◌↔◌, refl, ℕ, ◌<◌, ◌≤◌, ◌⊎◌, nat_lt, Bool, true, false, not, cond, IsTrue, if◌then◌else◌, List, [], ◌∷◌, Option, Some, None, unwrap_or}
+use Rattle.std.specs.Prelude.{◌≡◌, ◌≢◌, ◌↔◌, refl, ℕ, ◌<◌, ◌≤◌, ◌⊎◌, nat_lt, Bool, true, false, not, cond, IsTrue, if◌then◌else◌, List, [], ◌∷◌, Option, Some, None}
 use Rattle.std.proofs.Common.{◌∙◌, sym, ap, subst, inl, inr, arith}
 use Rattle.std.specs.Ordering.{eq_by_cmp, nat_cmp}
 use Rattle.origin_prefix.specs.Parts.{Batches, rows_at}
@@ -79,14 +79,11 @@ differ_from same rows those found is test = (to, back)
     to : IsTrue (not same) → (x : List (List ℕ)) × (found ≡ Some x) × (rows ≢ x)
     to e = (those, is, λ equal. true≢false (sym e ∙ ap not (test.1 equal)))
 
-    some_is : (x : List (List ℕ)) → found ≡ Some x → those ≡ x
-    some_is x there = ap (λ o. unwrap_or o those) (sym is ∙ there)
-
     back : ((x : List (List ℕ)) × (found ≡ Some x) × (rows ≢ x)) → IsTrue (not same)
     back w = go same refl
       where
         go : (b : Bool) → same ≡ b → IsTrue (not same)
-        go true e = absurd (w.2 (test.0 e ∙ some_is w.0 w.1))
+        go true e = absurd (w.2 (test.0 e ∙ some_is those w.0 (sym is ∙ w.1)))
         go false e = ap not e
 
 -- ---- copies

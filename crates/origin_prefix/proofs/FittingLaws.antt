@@ -32,8 +32,8 @@ use Rattle.origin_prefix.specs.Joins.{either, longer, shorter, PartsDisagree, Jo
 use Rattle.origin_prefix.specs.Fitting.{FitsOrigin}
 use Rattle.origin_prefix.specs.WorldRows.{batch_kinds, count_length}
 use Rattle.origin_prefix.proofs.Lists.{same_or_other}
-use Rattle.origin_prefix.proofs.ByNumber.{found_holds, all_found, put_same, put_else}
-use Rattle.origin_prefix.proofs.PartLaws.{all_drop}
+use Rattle.origin_prefix.proofs.ByNumber.{some_is, found_holds, all_found, put_same, put_else}
+use Rattle.list_laws.specs.Each.{each_dropped}
 
 -- ---- batches of a world
 
@@ -154,7 +154,7 @@ settled_fits honest so query world is origin p run batches new there are all set
       run = subst (λ n. AreGroups q (n * MOST_ROWS) new.run (part q (rows_upto world origin n))) (sym settles.upto)
           (folds_fit honest so query world is origin p k run new.run are (subst (λ rows. Folds honest q run (p * MOST_ROWS) rows new.run) (followed world origin p batches all) settles.folded));
       early = λ n rows found.
-          found_holds (IsOfWorld world origin) new.early n rows (subst (AllByRecursion (IsOfWorld world origin)) (sym settles.early) (all_drop (IsOfWorld world origin) k batches all)) found;
+          found_holds (IsOfWorld world origin) new.early n rows (subst (AllByRecursion (IsOfWorld world origin)) (sym settles.early) (each_dropped (IsOfWorld world origin) k batches all)) found;
     }
 
 -- ---- delivering
@@ -166,9 +166,6 @@ fits_delivered honest so query world is origin old new number those Early part f
     subst (FitsOrigin (meaning query) world origin) (sym d.2)
     (record { there = fits.there; run = fits.run; early = λ n rows found. go n rows found (same_or_other n number) })
   where
-    some_is : {X : Type 0} (x y : X) → Some x ≡ Some y → x ≡ y
-    some_is x y e = ap (λ o. unwrap_or o x) e
-
     go : (n : ℕ) (rows : List (List ℕ)) → rows_at (insert_entry nat_cmp old.early number (packings those)) n ≡ Some rows → (n ≡ number) ⊎ (n ≢ number)
         → (x : List Row) × (world origin n ≡ Some x) × (rows ≡ packings x)
     go n rows found (inl same) =

@@ -1,5 +1,5 @@
 -- The batches that follow a prefix: what they bring, and what becomes of a part that takes them.
-use Rattle.std.specs.Prelude.{◌≡◌, refl, ℕ, zero, suc, ◌+◌, ◌*◌, ◌<◌, ◌≤◌, ◌==◌, Bool, true, false, cond, List, [], ◌∷◌, map, filter, take, drop, length, if◌then◌else◌}
+use Rattle.std.specs.Prelude.{◌≡◌, refl, ℕ, zero, suc, ◌+◌, ◌*◌, ◌<◌, ◌≤◌, ◌==◌, Bool, true, false, cond, List, [], ◌∷◌, map, filter, take, drop, length, if◌then◌else◌, IsTrue}
 use Rattle.std.proofs.Common.{◌∙◌, sym, ap, subst, inl, inr, arith}
 use Rattle.std.proofs.lemmas.List.Elements.{recursion_from_All}
 use Rattle.std.proofs.lemmas.List.{length-map, length-append}
@@ -8,7 +8,7 @@ use Rattle.std.specs.List.{AllByRecursion}
 use Rattle.std.specs.List.Sorted.{IsStrictlySortedBy}
 use Rattle.std.specs.Ordering.{nat_cmp}
 use Rattle.std.proofs.lemmas.Bool.{cases_lt}
-use Rattle.list_laws.specs.Each.{each_weaker, each_both}
+use Rattle.list_laws.specs.Each.{each_weaker, each_both, each_dropped}
 use Rattle.grouping_model.specs.Condition.{is_met}
 use Rattle.grouping_model.specs.Datum.{Kind, Row, HasKinds}
 use Rattle.grouping_model.specs.Grouping.{key_of, selected, column_of}
@@ -21,7 +21,7 @@ use Rattle.batch_reader.specs.Rows.{ArePackedRows}
 use Rattle.query_checks.specs.Checks.{Checked}
 use Rattle.having_filter.specs.Meaning.{meaning}
 use Rattle.packed_rows.specs.RowsOnEnd.{on_end}
-use Rattle.hash_agg.specs.Inputs.{Packed, Counted, IsInput, AllBring, all_rows, rows_in}
+use Rattle.hash_agg.specs.Inputs.{Packed, Counted, IsAggregate, IsRunOver, IsInput, AllBring, all_rows, rows_in}
 use Rattle.group_runs.specs.Runs.{Entry, packed_keys}
 use Rattle.group_runs.specs.Standing.{IsRun}
 use Rattle.group_runs.specs.StandingLaws.{groups_raised, keys_packed, keys_of_kinds}
@@ -90,11 +90,6 @@ rising_drop zero batches rising = rising
 rising_drop (suc k) [] rising = rising
 rising_drop (suc k) (batch ∷ batches) rising = rising_drop k batches (rising_rest batch batches rising)
 
-pub all_drop : {X : Type 0} (P : X → Type 0) (k : ℕ) (xs : List X) → AllByRecursion P xs → AllByRecursion P (drop k xs)
-all_drop P zero xs all = all
-all_drop P (suc k) [] all = tt
-all_drop P (suc k) (x ∷ xs) all = all_drop P k xs all.1
-
 -- behind those that follow there is a gap
 pub gap_behind : (n : ℕ) (batches : Batches) → IsStrictlySortedBy nat_cmp (numbers batches) → AllByRecursion (λ (batch : ℕ × List (List ℕ)). n < batch.0) batches
     → AllByRecursion (λ (batch : ℕ × List (List ℕ)). n + following n batches + 1 < batch.0) (drop (following n batches) batches)
@@ -116,6 +111,17 @@ gap_behind n (batch ∷ batches) rising above =
     ] refl
 
 -- ---- a part that settled
+
+-- a run that took the batches that follow, where some do
+pub folds_some : (honest : Bool) (q : Query) (old new : List Entry) (rows prefix : ℕ) (batches : Batches) → prefix < prefix + following prefix batches → IsRunOver q (Counted old rows ∷ map Packed (rows_following prefix batches)) new
+    → (IsTrue honest → IsAggregate q (Counted old rows ∷ map Packed (rows_following prefix batches)) new) → Folds honest q old rows (rows_following prefix batches) new
+folds_some honest q old new rows prefix [] some run is = absurd (omega (arith, some))
+folds_some honest q old new rows prefix (b ∷ batches) some run is =
+    elim (b.0 == prefix + 1) as (λ t. let lists : List (List (List ℕ)) = map (λ (batch : ℕ × List (List ℕ)). batch.1) (take (if t then suc (following (prefix + 1) batches) else 0) (b ∷ batches)) in
+    prefix < prefix + (if t then suc (following (prefix + 1) batches) else 0) → IsRunOver q (Counted old rows ∷ map Packed lists) new → (IsTrue honest → IsAggregate q (Counted old rows ∷ map Packed lists) new) → Folds honest q old rows lists new) [
+      | true ↦ λ some run is. (run, is)
+      | false ↦ λ some. absurd (omega (arith, some))
+    ] some run is
 
 -- what packed rows bring: as many keys as rows at most
 brings_packed : (q : Query) (rows : List (List (List ℕ))) → AllByRecursion (IsInput q) (map Packed rows)
@@ -178,7 +184,7 @@ settled_part honest query prefix run batches new may settles =
     let groups : length new.run ≤ length run + all_rows (map Packed rows) = few_groups honest q (prefix * MOST_ROWS) run new.run rows may.is_run inputs settles.folded in
     let had : length run ≤ prefix * MOST_ROWS = may.few in
     let most : new.prefix * MOST_ROWS ≡ prefix * MOST_ROWS + k * MOST_ROWS = ap (λ n. n * MOST_ROWS) upto ∙ omega arith in
-    let limit : prefix + k ≤ LAST_NUMBER = reach_within prefix batches may.within (all_of batches may.above) in
+    let limit : prefix + k ≤ LAST_NUMBER = reach_within prefix batches may.within (each_weaker (IsBehind (kinds query.columns) prefix) (λ (batch : ℕ × List (List ℕ)). batch.0 ≤ LAST_NUMBER) (λ batch is. is.within) batches may.above) in
     record {
       within = omega (arith, upto, limit);
       run = run_raised q (prefix * MOST_ROWS + all_rows (map Packed rows)) (new.prefix * MOST_ROWS) new.run (omega (arith, few, most)) (still_run honest q (prefix * MOST_ROWS) run new.run rows may.is_run settles.folded);
@@ -187,13 +193,5 @@ settled_part honest query prefix run batches new may settles =
       early = subst (AllByRecursion (IsEarly (kinds query.columns) new.prefix)) (sym settles.early)
           (each_both (λ (b : ℕ × List (List ℕ)). prefix + k + 1 < b.0) (IsBehind (kinds query.columns) prefix) (IsEarly (kinds query.columns) new.prefix)
           (λ b low is. record { behind = subst (λ n. n + 1 < b.0) (sym upto) low; within = is.within; rows = is.rows })
-          (drop k batches) (gap_behind prefix batches may.rising (all_above batches may.above)) (all_drop (IsBehind (kinds query.columns) prefix) k batches may.above));
+          (drop k batches) (gap_behind prefix batches may.rising (each_weaker (IsBehind (kinds query.columns) prefix) (λ (batch : ℕ × List (List ℕ)). prefix < batch.0) (λ batch is. is.behind) batches may.above)) (each_dropped (IsBehind (kinds query.columns) prefix) k batches may.above));
     }
-  where
-    all_of : (bs : Batches) → AllByRecursion (IsBehind (kinds query.columns) prefix) bs → AllByRecursion (λ (batch : ℕ × List (List ℕ)). batch.0 ≤ LAST_NUMBER) bs
-    all_of [] all = tt
-    all_of (b ∷ bs) all = (all.0.within, all_of bs all.1)
-
-    all_above : (bs : Batches) → AllByRecursion (IsBehind (kinds query.columns) prefix) bs → AllByRecursion (λ (batch : ℕ × List (List ℕ)). prefix < batch.0) bs
-    all_above [] all = tt
-    all_above (b ∷ bs) all = (all.0.behind, all_above bs all.1)

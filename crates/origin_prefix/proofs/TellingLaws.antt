@@ -1,11 +1,12 @@
 -- What a part tells, before and after.
 use Rattle.std.specs.Prelude.{◌≡◌, ◌≢◌, refl, ℕ, suc, ◌+◌, ◌<◌, ◌≤◌, ◌⊎◌, ◌==◌, ◌||◌, ◌&&◌, nat_le, nat_lt, Bool, true, false, List, [], ◌∷◌, drop, Option, Some, None, if◌then◌else◌}
 use Rattle.std.proofs.Common.{◌∙◌, sym, ap, subst, inl, inr, arith}
-use Rattle.std.proofs.lemmas.Bool.{cases_lt}
+use Rattle.std.proofs.lemmas.Bool.{cases_lt, or_right}
 use Rattle.std.specs.Option.{is_some}
 use Rattle.std.specs.List.Sorted.{IsStrictlySortedBy}
 use Rattle.std.specs.Ordering.{eq_by_cmp, nat_cmp}
 use Rattle.grouping_model.specs.Query.{Query}
+use Rattle.grouping_model.specs.Rising.Facts.{or_comm}
 use Rattle.grouping_model.specs.declared.delivered.Delivered.{Delivered}
 use Rattle.grouping_model.specs.declared.delivered.Delivered.TheVariants.{Folded, Early, Known}
 use Rattle.packed_rows.specs.Columns.{kinds}
@@ -25,17 +26,13 @@ tells_of prefix batches m = (nat_le 1 m && nat_le m prefix) || is_some (rows_at 
 next_joins : (p : ℕ) (rows : List (List ℕ)) (rest : Batches) (m : ℕ) → tells_of (p + 1) rest m ≡ tells_of p ((p + 1, rows) ∷ rest) m
 next_joins p rows rest m = go (same_or_other m (p + 1))
   where
-    or_true : (a : Bool) → (a || true) ≡ true
-    or_true true = refl
-    or_true false = refl
-
     go : (m ≡ p + 1) ⊎ (m ≢ p + 1) → tells_of (p + 1) rest m ≡ tells_of p ((p + 1, rows) ∷ rest) m
     go (inl same) =
         subst (λ n. tells_of (p + 1) rest n ≡ tells_of p ((p + 1, rows) ∷ rest) n) (sym same)
         (let low : nat_le 1 (p + 1) ≡ true = grind arith in
         let high : nat_le (p + 1) (p + 1) ≡ true = grind arith in
         (λ i. (low i && high i) || is_some (rows_at rest (p + 1)))
-        ∙ sym (ap (λ o. (nat_le 1 (p + 1) && nat_le (p + 1) p) || is_some o) (at_head (p + 1) rows rest) ∙ or_true (nat_le 1 (p + 1) && nat_le (p + 1) p)))
+        ∙ sym (ap (λ o. (nat_le 1 (p + 1) && nat_le (p + 1) p) || is_some o) (at_head (p + 1) rows rest) ∙ or_right (nat_le 1 (p + 1) && nat_le (p + 1) p) true refl))
     go (inr other) =
         let within : nat_le m (p + 1) ≡ nat_le m p =
         elim (cases_lt p m) [
@@ -70,10 +67,6 @@ settles_tells honest q p run batches new rising settles m =
 
 -- ---- a batch that is delivered
 
-or_true : (a b : Bool) → b ≡ true → (a || b) ≡ true
-or_true true b e = refl
-or_true false b e = e
-
 told_more : (new old : ℕ → Bool) (number : ℕ) → new number ≡ true → ((m : ℕ) → m ≢ number → new m ≡ old m) → (m : ℕ) → new m ≡ (eq_by_cmp nat_cmp m number || old m)
 told_more new old number own others m = go (same_or_other m number)
   where
@@ -89,7 +82,7 @@ delivered_tells honest query q old new number rows Known is low d =
     (λ m other. ap (λ (p : Part). tells p m) d.2)
 delivered_tells honest query q old new number rows Early is low d =
     told_more (tells new) (tells old) number
-    (ap (λ (p : Part). tells p number) d.2 ∙ or_true (nat_le 1 number && nat_le number old.prefix) _ (ap is_some (put_same old.early number rows)))
+    (ap (λ (p : Part). tells p number) d.2 ∙ or_right (nat_le 1 number && nat_le number old.prefix) _ (ap is_some (put_same old.early number rows)))
     (λ m other. ap (λ (p : Part). tells p m) d.2 ∙ ap (λ o. (nat_le 1 m && nat_le m old.prefix) || is_some o) (put_else old.early number rows m other))
 delivered_tells honest query q old new number rows (Folded upto) is low d =
     let next : number ≡ old.prefix + 1 = d.0 in
@@ -97,7 +90,7 @@ delivered_tells honest query q old new number rows (Folded upto) is low d =
     settles_tells honest q old.prefix old.run ((old.prefix + 1, rows) ∷ old.early) new (next_rising query old rows is) d.2
     in
     told_more (tells new) (tells old) number
-    (ap (tells new) next ∙ after (old.prefix + 1) ∙ or_true (nat_le 1 (old.prefix + 1) && nat_le (old.prefix + 1) old.prefix) _ (ap is_some (at_head (old.prefix + 1) rows old.early)))
+    (ap (tells new) next ∙ after (old.prefix + 1) ∙ or_right (nat_le 1 (old.prefix + 1) && nat_le (old.prefix + 1) old.prefix) _ (ap is_some (at_head (old.prefix + 1) rows old.early)))
     (λ m other. after m ∙ ap (λ o. (nat_le 1 m && nat_le m old.prefix) || is_some o) (behind_head m (old.prefix + 1) rows old.early (λ same. other (same ∙ sym next))))
 
 -- ---- parts that are joined
@@ -105,12 +98,6 @@ delivered_tells honest query q old new number rows (Folded upto) is low d =
 either_some : {X : Type 0} (x y : Option X) → is_some (either x y) ≡ (is_some x || is_some y)
 either_some None y = refl
 either_some (Some x) y = refl
-
-or_swap : (a b : Bool) → (a || b) ≡ (b || a)
-or_swap true true = refl
-or_swap true false = refl
-or_swap false true = refl
-or_swap false false = refl
 
 united_tells : (query : Checked) (l s : Part) (batches : Batches) → IsPartOf query l → IsPartOf query s → s.prefix ≤ l.prefix → Unites l.prefix l s batches
     → (m : ℕ) → tells_of l.prefix batches m ≡ (tells l m || tells s m)
@@ -148,6 +135,6 @@ joined_tells honest query q a b new is_a is_b joins m =
     settles_tells honest q (longer a b).prefix (longer a b).run joins.behind new joins.united.rising joins.settled m
     ∙ elim (nat_lt a.prefix b.prefix) as (λ t. nat_lt a.prefix b.prefix ≡ t → Unites (if t then b else a).prefix (if t then b else a) (if t then a else b) joins.behind
     → tells_of (if t then b else a).prefix joins.behind m ≡ (tells a m || tells b m)) [
-      | true ↦ λ e united. let low : a.prefix ≤ b.prefix = grind arith in united_tells query b a joins.behind is_b is_a low united m ∙ or_swap (tells b m) (tells a m)
+      | true ↦ λ e united. let low : a.prefix ≤ b.prefix = grind arith in united_tells query b a joins.behind is_b is_a low united m ∙ or_comm (tells b m) (tells a m)
       | false ↦ λ e united. let low : b.prefix ≤ a.prefix = grind arith in united_tells query a b joins.behind is_a is_b low united m
     ] refl joins.united

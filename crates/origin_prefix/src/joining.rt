@@ -46,41 +46,10 @@ impl OriginPart {
         ensures disk { Leaves D.TapeDisk (failed join_faults result) disk.old disk.new }
     {
         self.agree(other)?;
-        Ok(self.joined(other, query, means, disk, work)?)
-    }
-
-    /// What two parts give that do not disagree.
-    fn joined<H: KeyHash + Copy, D: TapeDisk>(
-        &self,
-        other: &OriginPart,
-        query: &Query,
-        means: &Means<H>,
-        disk: &mut D,
-        work: &mut Work,
-    ) -> Result<OriginPart, SpillError>
-        requires part { IsPartOf query.now self.now }
-        requires other { IsPartOf query.now other.now }
-        ensures joins { IfOk result (Joins (D.honest disk.old) (meaning query.now) self.now other.now) }
-        ensures counted { OnOk result (IsTrue (D.honest disk.old) →
-            JoinIsCounted (meaning query.now) (setting_by H.hash_of (meaning query.now) means.now) self.now other.now
-            work.old (D.writes disk.old) work.new (D.writes disk.new)) }
-        ensures uncounted { OnErr result (work.new ≡ work.old) }
-        ensures part { IfOk result (IsPartOf query.now) }
-        ensures undamaged { IfErr result (λ error. IsTrue (D.honest disk.old) → error ≢ TapeDamaged) }
-        ensures disk { Leaves D.TapeDisk (failed spill_faults result) disk.old disk.new }
-    {
         if self.prefix < other.prefix {
-            return other.united(self, query, means, disk, work);
+            return Ok(other.united(self, query, means, disk, work)?);
         }
-        self.united(other, query, means, disk, work)
-    }
-
-    /// Whether the prefixes are equal, with other groups.
-    fn has_other_groups(&self, other: &OriginPart) -> bool
-        ensures other { IsTrue result → DisagreeAt None self.now other.now }
-        ensures same { result ≡ false → self.now.prefix ≡ other.now.prefix → self.now.run ≡ other.now.run }
-    {
-        self.prefix == other.prefix && !self.run.same_groups(&other.run)
+        Ok(self.united(other, query, means, disk, work)?)
     }
 
     /// Refuses parts that disagree, and tells where they do first.
@@ -89,7 +58,7 @@ impl OriginPart {
         ensures disagree { IfErr result (λ why. (number : Option ℕ) × (why ≡ OriginDisagrees number)
             × DisagreeAt number self.now other.now) }
     {
-        if self.has_other_groups(other) {
+        if self.prefix == other.prefix && !self.run.same_groups(&other.run) {
             return Err(JoinError::OriginDisagrees { number: None });
         }
         let above = self.prefix.max(other.prefix);

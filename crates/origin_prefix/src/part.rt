@@ -59,13 +59,6 @@ pub fn most_rows(number: u32) -> u64
     u64::from(number) * u64::from(MOST_ROWS)
 }
 
-/// A batch that is handed back, and why.
-fn refused(batch: Batch, why: JoinError) -> RefusedBatch
-    ensures { (result.batch ≡ batch) × (result.why ≡ why) }
-{
-    RefusedBatch { batch, why }
-}
-
 /// What is replied to a batch whose number is kept early, with these rows.
 fn known_again(kept: &PackedRows, batch: Batch) -> Result<Delivered, RefusedBatch>
     ensures known { IfOk result (λ reply. (reply ≡ Known) × (kept.now ≡ batch.rows)) }
@@ -76,7 +69,8 @@ fn known_again(kept: &PackedRows, batch: Batch) -> Result<Delivered, RefusedBatc
         return Ok(Delivered::Known);
     }
     let number = Some(batch.number);
-    Err(refused(batch, JoinError::OriginDisagrees { number }))
+    let why = JoinError::OriginDisagrees { number };
+    Err(RefusedBatch { batch, why })
 }
 
 /// The rows of the batch next to a prefix, where they are given, and of the early batches that follow without a gap, as inputs, and
@@ -104,51 +98,6 @@ fn following_inputs<'a>(
     }
     let upto = add_following(early, number, &mut inputs)?;
     Ok((inputs, upto))
-}
-
-/// Folds into the run of a prefix the rows of the batch next to it, where they are given, and of the early batches that follow
-/// without a gap, and adds to `work` what their aggregation took. Answers the last number that is folded. A refusal changes nothing.
-fn fold_following<H: KeyHash + Copy, D: TapeDisk>(
-    alloc: Global,
-    query: &Query,
-    prefix: u32,
-    run: &mut Run,
-    next: Option<&PackedRows>,
-    early: &BTreeMap<u32, PackedRows>,
-    means: &Means<H>,
-    disk: &mut D,
-    work: &mut Work,
-) -> Result<u32, SpillError>
-    requires may { IsOpen query.now prefix run.old
-        (behind prefix early.now.entries (option_copied next)) }
-    ensures upto { IfOk result (λ upto. upto ≡ prefix
-        + following prefix (behind prefix early.now.entries (option_copied next.entry))) }
-    ensures limit { IfOk result (λ upto. upto ≤ LAST_NUMBER) }
-    ensures folded { OnOk result (Folds (D.honest disk.old) (meaning query.now) run.old (prefix * MOST_ROWS)
-        (rows_following prefix (behind prefix early.now.entries (option_copied next.entry))) run.new) }
-    ensures counted { OnOk result (IsTrue (D.honest disk.old) →
-        AreCounted (meaning query.now) (setting_by H.hash_of (meaning query.now) means.now)
-        (aggregations_behind prefix (behind prefix early.now.entries (option_copied next.entry)))
-        work.old (D.writes disk.old) work.new (D.writes disk.new)) }
-    ensures same { OnErr result (run.new ≡ run.old) }
-    ensures uncounted { OnErr result (work.new ≡ work.old) }
-    ensures undamaged { IfErr result (λ error. IsTrue (D.honest disk.old) → error ≢ TapeDamaged) }
-    ensures disk { Leaves D.TapeDisk (failed spill_faults result) disk.old disk.new }
-{
-    let (inputs, upto) = following_inputs(alloc, prefix, next, early)?;
-    if upto > prefix {
-        fold(
-            alloc,
-            query,
-            run,
-            most_rows(prefix),
-            &inputs,
-            means,
-            disk,
-            work,
-        )?;
-    }
-    Ok(upto)
 }
 
 impl OriginPart {
@@ -241,17 +190,20 @@ impl OriginPart {
         ensures disk { Leaves D.TapeDisk (failed spill_faults result) disk.old disk.new }
     {
         let next_is_given = next.is_some();
-        let upto = fold_following(
-            self.alloc,
-            query,
-            self.prefix,
-            &mut self.run,
-            next,
-            &self.early,
-            means,
-            disk,
-            work,
-        )?;
+        let (inputs, upto) = following_inputs(self.alloc, self.prefix, next, &self.early)?;
+        if upto > self.prefix {
+            fold(
+                self.alloc,
+                query,
+                &mut self.run,
+                most_rows(self.prefix),
+                &inputs,
+                means,
+                disk,
+                work,
+            )?;
+        }
+        drop(inputs);
         let mut count = upto - self.prefix;
         if next_is_given {
             count -= 1;
@@ -286,7 +238,8 @@ impl OriginPart {
                     number,
                     rows,
                 };
-                Err(refused(batch, JoinError::from(AllocError)))
+                let why = JoinError::from(AllocError);
+                Err(RefusedBatch { batch, why })
             }
         }
     }
@@ -330,7 +283,10 @@ impl OriginPart {
         }
         match self.settle(query, Some(&batch.rows), means, disk, work) {
             Ok(()) => Ok(Delivered::Folded { upto: self.prefix }),
-            Err(error) => Err(refused(batch, JoinError::from(error))),
+            Err(error) => {
+                let why = JoinError::from(error);
+                Err(RefusedBatch { batch, why })
+            }
         }
     }
 }

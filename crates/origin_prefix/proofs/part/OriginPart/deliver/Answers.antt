@@ -93,5 +93,5 @@ returns-clause-tells g c =
     unknown_refused c.match-settle.result part c.args.batch.number c.args.batch.rows above none
     (elim c.match-settle.branch [
       | in-Ok w ↦ rw w.result-is tt
-      | in-Err w ↦ rw w.result-is (w.in-Err.error, w.refused.ensures.1 ∙ w.from.ensures)
+      | in-Err w ↦ rw w.result-is (w.in-Err.error, w.from-why.ensures)
     ])
