@@ -32,9 +32,8 @@ use Rattle.origin_prefix.proofs.Lists.{is_itself, is_other, same_or_other}
 use Rattle.origin_prefix.proofs.ByNumber.{at, found_holds, all_found, put_same, put_else}
 use Rattle.origin_prefix.proofs.TellingLaws.{delivered_tells}
 use Rattle.origin_prefix.proofs.FittingLaws.{fits_delivered, agrees_delivered}
-use Rattle.replica_merge.specs.Replicas.{Parts, part_at, part_of, told, Held, Fits, IsHeldPart, AreHeldParts, DeliversAt, RefusesAt, DeliveredTo}
-use Rattle.replica_merge.proofs.ToldLaws.{told_is, same_batch, HasGap, part_gap, prefix_told, part_here}
-use Rattle.replica_merge.proofs.HeldLaws.{held_part}
+use Rattle.replica_merge.specs.Replicas.{Parts, part_at, part_of, told, Held, Fits, IsHeldPart, AreHeldParts, DeliversAt, RefusesAt}
+use Rattle.replica_merge.proofs.ToldLaws.{held_part, told_is, same_batch, HasGap, part_gap, prefix_told, part_here}
 
 -- ---- maps
 
@@ -63,24 +62,28 @@ pub taken_at : (r : Result Delivered RefusedBatch) (honest : Bool) (query : Chec
     → part_at old.entries batch.origin ≡ Some before → WritesThrough nat_cmp (nat_cmp batch.origin) old after new → IsPartOf query after
     → IfOk r (Delivers honest (meaning query) before batch.number batch.rows after) → IfErr r (λ e. (e.batch ≡ batch) × (after ≡ before))
     → IfErr r (λ e. BatchTells e.why before batch.number batch.rows)
-    → DeliveredTo honest query old.entries batch new.entries r
+    → IfOk r (DeliversAt honest query old.entries batch.origin batch.number batch.rows new.entries) × IfErr r (RefusesAt old.entries batch new.entries)
 taken_at (Ok reply) honest query old new batch before after there written is d refused tells =
-    let updates = written.3 (ap is_some there) in
-    record {
-      part = after;
-      own = updates.1;
-      delivers = subst (λ (p : Part). Delivers honest (meaning query) p batch.number batch.rows after reply) (sym (part_here old.entries batch.origin before there)) d;
-      is_part = is;
-      others = λ other apart. updates.2 other (is_other batch.origin other (λ e. apart (sym e)));
-      rising = written.4;
-    }
+    let updates = written.3 (ap is_some there) in (
+      record {
+        part = after;
+        own = updates.1;
+        delivers = subst (λ (p : Part). Delivers honest (meaning query) p batch.number batch.rows after reply) (sym (part_here old.entries batch.origin before there)) d;
+        is_part = is;
+        others = λ other apart. updates.2 other (is_other batch.origin other (λ e. apart (sym e)));
+        rising = written.4;
+      },
+      tt,
+    )
 taken_at (Err e) honest query old new batch before after there written is d refused tells =
-    let here : before ≡ part_of old.entries batch.origin = sym (part_here old.entries batch.origin before there) in
-    record {
-      back = refused.0;
-      same = written.0 ∙ ap (set_value (is_at (nat_cmp batch.origin)) old.entries) refused.1 ∙ set_value_same (is_at (nat_cmp batch.origin)) old.entries before there;
-      tells = subst (λ (p : Part). BatchTells e.why p batch.number batch.rows) here tells;
-    }
+    let here : before ≡ part_of old.entries batch.origin = sym (part_here old.entries batch.origin before there) in (
+      tt,
+      record {
+        back = refused.0;
+        same = written.0 ∙ ap (set_value (is_at (nat_cmp batch.origin)) old.entries) refused.1 ∙ set_value_same (is_at (nat_cmp batch.origin)) old.entries before there;
+        tells = subst (λ (p : Part). BatchTells e.why p batch.number batch.rows) here tells;
+      },
+    )
 
 -- the part that was made for the first batch of an origin is nothing, as it was before
 pub made_part : (old between : Parts) (o : ℕ) → part_at old o ≡ None → between ≡ insert_entry nat_cmp old o empty → part_of between o ≡ part_of old o
@@ -101,18 +104,13 @@ first_delivers honest query old between new o n rows reply none put d =
       rising = d.rising;
     }
 
--- what is there once the place that was made is given up
-place_given_up : (old between failed new : Parts) (o : ℕ) → part_at old o ≡ None → between ≡ insert_entry nat_cmp old o empty → failed ≡ between
-    → new ≡ remove_entry (is_at (nat_cmp o)) failed → new ≡ old
-place_given_up old between failed new o none put same removed = removed ∙ ap (remove_entry (is_at (nat_cmp o))) (same ∙ put) ∙ taken_out old o empty none
-
 pub first_refused : (old between failed new : Parts) (batch : Batch) (e : RefusedBatch) → part_at old batch.origin ≡ None → between ≡ insert_entry nat_cmp old batch.origin empty
     → RefusesAt between batch failed e → new ≡ remove_entry (is_at (nat_cmp batch.origin)) failed → RefusesAt old batch new e
 first_refused old between failed new batch e none put r removed =
     let nothing : part_of between batch.origin ≡ part_of old batch.origin = made_part old between batch.origin none put in
     record {
       back = r.back;
-      same = place_given_up old between failed new batch.origin none put r.same removed;
+      same = removed ∙ ap (remove_entry (is_at (nat_cmp batch.origin))) (r.same ∙ put) ∙ taken_out old batch.origin empty none;
       tells = subst (λ (p : Part). BatchTells e.why p batch.number batch.rows) nothing r.tells;
     }
 
@@ -183,9 +181,6 @@ module _ (honest : Bool) (query : Checked) (old new : Parts) (o n : ℕ) (rows :
         each = all_found (IsHeldPart query) new d.rising (λ m p there. each m p there (same_or_other m o));
       }
     where
-      here : d.part ≡ d.part
-      here = refl
-
       each : (m : ℕ) (p : Part) → part_at new m ≡ Some p → (m ≡ o) ⊎ (m ≢ o) → IsHeldPart query (m, p)
       each m p there (inl same) =
           let is : d.part ≡ p = ap (λ found. unwrap_or found d.part) (sym d.own ∙ ap (part_at new) (sym same) ∙ there) in
@@ -270,27 +265,13 @@ never_disagrees query old o n rows d world those fits there same =
 -- ---- results
 
 module _ (r : Result Delivered RefusedBatch) (honest : Bool) (query : Checked) (old new : Parts) (batch : Batch) (held : AreHeldParts query old) (limits : InLimits (batch.origin, batch.number))
-    (done : DeliveredTo honest query old batch new r) where
-  pub takes : IfOk r (DeliversAt honest query old batch.origin batch.number batch.rows new)
-  takes = go r done
-    where
-      go : (s : Result Delivered RefusedBatch) → DeliveredTo honest query old batch new s → IfOk s (DeliversAt honest query old batch.origin batch.number batch.rows new)
-      go (Ok reply) d = d
-      go (Err e) d = tt
-
-  refuses : IfErr r (RefusesAt old batch new)
-  refuses = go r done
-    where
-      go : (s : Result Delivered RefusedBatch) → DeliveredTo honest query old batch new s → IfErr s (RefusesAt old batch new)
-      go (Ok reply) d = tt
-      go (Err e) d = d
-
+    (takes : IfOk r (DeliversAt honest query old batch.origin batch.number batch.rows new)) (refuses : IfErr r (RefusesAt old batch new)) where
   pub still_held : AreHeldParts query new
-  still_held = go r done
+  still_held = go r takes refuses
     where
-      go : (s : Result Delivered RefusedBatch) → DeliveredTo honest query old batch new s → AreHeldParts query new
-      go (Ok reply) d = delivered_held honest query old new batch.origin batch.number batch.rows reply held limits d
-      go (Err e) d = subst (AreHeldParts query) (sym d.same) held
+      go : (s : Result Delivered RefusedBatch) → IfOk s (DeliversAt honest query old batch.origin batch.number batch.rows new) → IfErr s (RefusesAt old batch new) → AreHeldParts query new
+      go (Ok reply) d e = delivered_held honest query old new batch.origin batch.number batch.rows reply held limits d
+      go (Err e) d same = subst (AreHeldParts query) (sym same.same) held
 
   pub reply_told : IfOk r (λ reply. reply ≡ reply_of (told old) (batch.origin, batch.number))
   reply_told = IfOk-weaker r (DeliversAt honest query old batch.origin batch.number batch.rows new) _ (λ reply d. delivered_reply honest query old new batch.origin batch.number batch.rows reply held limits d) takes

@@ -1,7 +1,6 @@
 pub mod ShownLaws
 pub mod ToldLaws
 pub mod AnswerLaws
-pub mod HeldLaws
 pub mod DeliveredLaws
 pub mod MergedLaws
 pub mod SavedLaws

@@ -1,18 +1,22 @@
 -- What a replica holds and tells after a merge.
-use Rattle.std.specs.Prelude.{◌≡◌, ◌≢◌, refl, ℕ, ◌<◌, ◌⊎◌, ◌||◌, ◌&&◌, nat_eq, Bool, true, false, cond, List, [], ◌∷◌, length, Option, Some, None, option_map, unwrap_or, if◌then◌else◌, IsTrue}
+use Rattle.std.specs.Prelude.{◌≡◌, ◌≢◌, refl, ℕ, ◌<◌, ◌⊎◌, ◌||◌, ◌&&◌, nat_eq, Bool, true, false, cond, List, [], ◌∷◌, ◌++◌, length, Option, Some, None, option_map, unwrap_or, if◌then◌else◌, IsTrue}
 use Rattle.std.proofs.Common.{◌∙◌, sym, ap, subst, inl, inr, arith}
-use Rattle.std.proofs.lemmas.Bool.{true≢false}
+use Rattle.std.proofs.lemmas.Bool.{true≢false, and_right, or_right}
+use Rattle.std.proofs.Math.Bool.{or-false}
 use Rattle.std.specs.Option.{is_some}
 use Rattle.std.specs.List.Sorted.{IsStrictlySortedBy}
 use Rattle.std.specs.BTreeMap.{BTreeMap, insert_entry, WritesThrough}
 use Rattle.std.specs.Ordering.{eq_by_cmp, nat_cmp}
 use Rattle.grouping_model.specs.World.{World, IsWorld, union}
 use Rattle.grouping_model.specs.KnowledgeLaws.{same_knowledge, knows_union}
+use Rattle.grouping_model.specs.Query.{Query}
 use Rattle.packed_rows.specs.Columns.{kinds}
 use Rattle.query_checks.specs.Checks.{Checked}
 use Rattle.having_filter.specs.Meaning.{meaning}
 use Rattle.origin_prefix.specs.Parts.{Part, empty, tells, is_nothing, IsPartOf}
-use Rattle.origin_prefix.specs.Joins.{either, Joins, PartsDisagree, DisagreeAt, JoinTells}
+use Rattle.aggregation_cost.specs.Space.{Setting}
+use Rattle.hash_agg.specs.declared.work.Work.{Work}
+use Rattle.origin_prefix.specs.Joins.{either, Joins, PartsDisagree, DisagreeAt, JoinTells, JoinIsCounted}
 use Rattle.origin_prefix.specs.declared.error.JoinError.{JoinError}
 use Rattle.origin_prefix.specs.declared.error.JoinError.TheVariants.{OriginDisagrees}
 use Rattle.origin_prefix.specs.Fitting.{FitsOrigin}
@@ -21,8 +25,8 @@ use Rattle.origin_prefix.proofs.ByNumber.{numbers, at, at_head, behind_head, non
 use Rattle.origin_prefix.proofs.TellingLaws.{joined_tells}
 use Rattle.origin_prefix.proofs.FittingLaws.{fits_joined, agrees_joined}
 use Rattle.replica_merge.specs.Replicas.{Parts, part_at, part_of, told, Fits, IsHeldPart, AreHeldParts, AsideAt, JoinedAside, JoinsAt, Merges, DisagreeSomewhere, IsFirstRefused, filled}
-use Rattle.replica_merge.proofs.ToldLaws.{told_is, some_told, empty_tells, part_here}
-use Rattle.replica_merge.proofs.HeldLaws.{held_part}
+use Rattle.replica_merge.specs.Counting.{MergeIsCounted}
+use Rattle.replica_merge.proofs.ToldLaws.{held_part, told_is, some_told, empty_tells, part_here}
 use Rattle.replica_merge.proofs.DeliveredLaws.{part_is, some_if_tells}
 
 -- what stands aside of an origin while some of the other's parts are left
@@ -134,35 +138,18 @@ written_at old new n before after p there written is o = go (same_or_other o n)
     go (inr other) =
         (written.3 (ap is_some there)).2 o (is_other n o (λ e. other (sym e))) ∙ sym (ap (λ b. cond b (filled (part_at old.entries o) (Some p)) (part_at old.entries o)) (is_other o n other))
 
-pub nothing_at : (old new : Parts) (n : ℕ) (p : Part) → part_at old n ≡ None → new ≡ old → (o : ℕ) → part_at new o ≡ cond (eq_by_cmp nat_cmp o n) (filled (part_at old o) (Some p)) (part_at old o)
-nothing_at old new n p none same o = ap (λ ps. part_at ps o) same ∙ go (same_or_other o n)
-  where
-    go : (o ≡ n) ⊎ (o ≢ n) → part_at old o ≡ cond (eq_by_cmp nat_cmp o n) (filled (part_at old o) (Some p)) (part_at old o)
-    go (inl same) =
-        subst (λ k. part_at old k ≡ cond (eq_by_cmp nat_cmp k n) (filled (part_at old k) (Some p)) (part_at old k)) (sym same)
-        (none ∙ sym (ap (λ b. cond b (filled (part_at old n) (Some p)) (part_at old n)) (is_itself n) ∙ ap (λ x. filled x (Some p)) none))
-    go (inr other) = sym (ap (λ b. cond b (filled (part_at old o) (Some p)) (part_at old o)) (is_other o n other))
-
 -- ---- the whole merge
 
 -- parts that are joined with one that tells something tell something
 some_joined : (honest : Bool) (query : Checked) (own theirs new : Part) (o : ℕ) → IsPartOf query own → IsHeldPart query (o, theirs) → Joins honest (meaning query) own theirs new → (0 < new.prefix) ⊎ (new.early ≢ [])
 some_joined honest query own theirs new o is held joins =
     let some = some_told query o theirs held in
-    some_if_tells new some.0 (joined_tells honest query (meaning query) own theirs new is held.part joins some.0 ∙ or_true (tells own some.0) (tells theirs some.0) some.2)
-  where
-    or_true : (a b : Bool) → b ≡ true → (a || b) ≡ true
-    or_true true b e = refl
-    or_true false b e = e
+    some_if_tells new some.0 (joined_tells honest query (meaning query) own theirs new is held.part joins some.0 ∙ or_right (tells own some.0) (tells theirs some.0) some.2)
 
 not_nothing : (p : Part) → (0 < p.prefix) ⊎ (p.early ≢ []) → is_nothing p ≡ false
 not_nothing p (inl some) = let e : nat_eq p.prefix 0 ≡ false = grind arith in ap (λ b. b && nat_eq (length p.early) 0) e
-not_nothing p (inr some) = both (nat_eq p.prefix 0) (nat_eq (length p.early) 0) (of_early p.early some)
+not_nothing p (inr some) = and_right (nat_eq p.prefix 0) (nat_eq (length p.early) 0) (of_early p.early some)
   where
-    both : (a b : Bool) → b ≡ false → (a && b) ≡ false
-    both true b e = e
-    both false b e = refl
-
     of_early : (es : List (ℕ × List (List ℕ))) → es ≢ [] → nat_eq (length es) 0 ≡ false
     of_early [] some = absurd (some refl)
     of_early (e ∷ es) some = grind arith
@@ -172,13 +159,9 @@ merges_tells : (honest : Bool) (query : Checked) (old other new : Parts) → Are
     → (o n : ℕ) → tells (part_of new o) n ≡ (tells (part_of old o) n || tells (part_of other o) n)
 merges_tells honest query old other new held theirs merges o n = go (part_at other o) refl (merges o)
   where
-    or_false : (b : Bool) → b ≡ (b || false)
-    or_false true = refl
-    or_false false = refl
-
     go : (found : Option Part) → part_at other o ≡ found → JoinsAt honest query (part_of old o) (part_at old o) found (part_at new o) → tells (part_of new o) n ≡ (tells (part_of old o) n || tells (unwrap_or (part_at other o) empty) n)
     go None e at =
-        ap (λ x. tells (unwrap_or x empty) n) at ∙ or_false (tells (part_of old o) n)
+        ap (λ x. tells (unwrap_or x empty) n) at ∙ sym (or-false (tells (part_of old o) n))
         ∙ sym (ap (λ b. tells (part_of old o) n || b) (ap (λ x. tells (unwrap_or x empty) n) e ∙ empty_tells n))
     go (Some t) e at =
         ap (λ x. tells (unwrap_or x empty) n) at.1
@@ -204,17 +187,17 @@ merges_fit honest so query old other new merges world is fits fits_other o = go 
 
 module _ (honest : Bool) (query : Checked) (old other joined new : Parts) (held : AreHeldParts query old) (theirs : AreHeldParts query other) (aside : JoinedAside honest query old other joined)
     (back : (o : ℕ) → part_at new o ≡ filled (part_at joined o) (part_at old o)) where
+  own_back : (mine : Option Part) → filled (option_map (λ (_ : Part). empty) mine) mine ≡ mine
+  own_back None = refl
+  own_back (Some p) = refl
+
+  kept : (p : Part) (mine : Option Part) → is_nothing p ≡ false → filled (Some p) mine ≡ Some p
+  kept p None e = refl
+  kept p (Some q) e = ap (λ b. if b then Some q else Some p) e
+
   merges_at : (o : ℕ) → JoinsAt honest query (part_of old o) (part_at old o) (part_at other o) (part_at new o)
   merges_at o = go (part_at other o) refl (aside.at o)
     where
-      own_back : (mine : Option Part) → filled (option_map (λ (_ : Part). empty) mine) mine ≡ mine
-      own_back None = refl
-      own_back (Some p) = refl
-
-      kept : (p : Part) (mine : Option Part) → is_nothing p ≡ false → filled (Some p) mine ≡ Some p
-      kept p None e = refl
-      kept p (Some q) e = ap (λ b. if b then Some q else Some p) e
-
       go : (found : Option Part) → part_at other o ≡ found → AsideAt honest query (part_of old o) (part_at old o) found (part_at joined o) → JoinsAt honest query (part_of old o) (part_at old o) found (part_at new o)
       go None e at = back o ∙ ap (λ x. filled x (part_at old o)) at ∙ own_back (part_at old o)
       go (Some t) e at = (
@@ -233,19 +216,11 @@ module _ (honest : Bool) (query : Checked) (old other joined new : Parts) (held 
     where
       go : (o : ℕ) (p : Part) → part_at new o ≡ Some p → (found : Option Part) → part_at other o ≡ found → AsideAt honest query (part_of old o) (part_at old o) found (part_at joined o) → IsHeldPart query (o, p)
       go o p there None e at = held_part query old held o p (sym (back o ∙ ap (λ x. filled x (part_at old o)) at ∙ own_back (part_at old o)) ∙ there)
-        where
-          own_back : (mine : Option Part) → filled (option_map (λ (_ : Part). empty) mine) mine ≡ mine
-          own_back None = refl
-          own_back (Some q) = refl
       go o p there (Some t) e at =
           let h : IsHeldPart query (o, t) = held_part query other theirs o t e in
           let some = some_joined honest query (part_of old o) t at.0 o (part_is query old held o) h at.2 in
-          let is : at.0 ≡ p = some_is at.0 p (sym (back o ∙ ap (λ x. filled x (part_at old o)) at.1 ∙ kept (part_at old o) (not_nothing at.0 some)) ∙ there) in
+          let is : at.0 ≡ p = some_is at.0 p (sym (back o ∙ ap (λ x. filled x (part_at old o)) at.1 ∙ kept at.0 (part_at old o) (not_nothing at.0 some)) ∙ there) in
           subst (λ q. IsHeldPart query (o, q)) is (record { within = h.within; part = at.3; some = some })
-        where
-          kept : (mine : Option Part) → is_nothing at.0 ≡ false → filled (Some at.0) mine ≡ Some at.0
-          kept None e = refl
-          kept (Some q) e = ap (λ b. if b then Some q else Some at.0) e
 
   pub merged_told : IsStrictlySortedBy nat_cmp (numbers new) → told new ≡ union (told old) (told other)
   merged_told rising = merges_told honest query old other new held theirs rising merges_at
@@ -268,3 +243,12 @@ never_refused query own theirs origin number d world fits fits_other =
     go : (told : Option ℕ) → DisagreeAt told (part_of own origin) d.part → PartsDisagree (part_of own origin) d.part
     go None groups = inl groups
     go (Some n) first = inr (n, first.1.0)
+
+-- one part more is joined and counted
+pub counted_more : (query : Query) (setting : Setting) (own front : Parts) (held : ℕ × Part) (old : Work) (writes : ℕ) (work : Work) (pages : ℕ) (new : Work) (written : ℕ)
+    → MergeIsCounted query setting own front old writes work pages → JoinIsCounted query setting (part_of own held.0) held.1 work pages new written
+    → MergeIsCounted query setting own (front ++ (held ∷ [])) old writes new written
+counted_more query setting own [] held old writes work pages new written (same, none) joined =
+    (new, written, subst (λ (w : Work). JoinIsCounted query setting (part_of own held.0) held.1 w writes new written) same (subst (λ (n : ℕ). JoinIsCounted query setting (part_of own held.0) held.1 work n new written) none joined), (refl, refl))
+counted_more query setting own (first ∷ front) held old writes work pages new written (one, mid, counted, rest) joined =
+    (one, mid, counted, counted_more query setting own front held one mid work pages new written rest joined)

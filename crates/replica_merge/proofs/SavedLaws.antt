@@ -1,5 +1,6 @@
 -- What a replica saves.
-use Rattle.std.specs.Prelude.{◌≡◌, refl, ℕ, List, [], ◌∷◌, ◌*◌, map, Some, unwrap_or, Result, Ok, Err, IfOk}
+use Rattle.std.specs.Prelude.{◌≡◌, ℕ, List, [], ◌*◌, map, Some, unwrap_or}
+use Rattle.std.proofs.lemmas.List.{map-id}
 use Rattle.std.proofs.Common.{◌∙◌, sym, ap, subst}
 use Rattle.list_laws.specs.Each.{each_both}
 use Rattle.grouping_model.specs.World.{World, origins, prefix, early, batch_rows, origin_rows, rows_upto}
@@ -23,10 +24,6 @@ use Rattle.replica_merge.specs.Replicas.{Held, part_at, part_of, told, Fits, IsH
 use Rattle.replica_merge.proofs.AnswerLaws.{fit_each}
 use Rattle.replica_merge.proofs.ToldLaws.{origins_told, early_told, prefix_told, map_same, each_at, part_here, HasGap, part_gap}
 
-map_itself : {X : Type 0} (xs : List X) → map (λ (x : X). x) xs ≡ xs
-map_itself [] = refl
-map_itself (x ∷ xs) = λ i. x ∷ map_itself xs i
-
 -- the early batches of a part that fits are the world's
 early_are : (query : Checked) (world : World) (o : ℕ) (p : Part) → IsHeldPart query (o, p) → FitsOrigin (meaning query) world o p → map (λ n. (n, packings (batch_rows world o n))) (numbers p.early) ≡ p.early
 early_are query world o p held fits =
@@ -35,7 +32,7 @@ early_are query world o p held fits =
     let those = fits.early b.0 b.1 there in
     (λ i. (b.0, (ap (λ found. packings (unwrap_or found [])) those.1 ∙ sym those.2) i)))
     p.early (each_at p.early held.part.rising) (each_at p.early held.part.rising))
-    ∙ map_itself p.early
+    ∙ map-id p.early
 
 -- what is held of an origin is what the world has of it
 part_is : (held : Held) (world : World) → AreHeldParts held.query held.parts → (e : ℕ × Part) → IsHeldPart held.query e → FitsOrigin (meaning held.query) world e.0 e.1 → part_at held.parts e.0 ≡ Some e.1
@@ -59,7 +56,7 @@ world_parts held world are fits =
     (λ e is there. part_is held world are e is.0 is.1 there) held.parts
     (each_both (IsHeldPart held.query) (λ (e : ℕ × Part). FitsOrigin (meaning held.query) world e.0 e.1) (λ (e : ℕ × Part). IsHeldPart held.query e × FitsOrigin (meaning held.query) world e.0 e.1) (λ e is fit. (is, fit)) held.parts are.each (fit_each world held fits are.rising))
     (each_at held.parts are.rising))
-    ∙ map_itself held.parts
+    ∙ map-id held.parts
 
 pub saved_in : (version : Version) (held : Held) (world : World) (bytes : List ℕ) → AreHeldParts held.query held.parts → Fits world held → bytes ≡ file_in version held.query held.parts
     → bytes ≡ world_file_in version held.query world (told held.parts)
@@ -73,8 +70,3 @@ pub one_held : (bytes : List ℕ) (held those : Held) → IsSummary bytes held.q
 one_held bytes held those left right =
     let same = one_reading bytes held.query those.query held.parts those.parts left right in
     (λ i. record { query = same.0 i; parts = same.1 i })
-
--- what is said of a value says something else
-pub says : {T E : Type 0} (result : Result T E) (P Q : T → Type 0) → IfOk result P → ((x : T) → P x → Q x) → IfOk result Q
-says (Ok x) P Q one gives = gives x one
-says (Err e) P Q one gives = tt

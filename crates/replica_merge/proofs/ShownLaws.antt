@@ -1,5 +1,6 @@
 -- The row of an answer that a group gives.
-use Rattle.std.specs.Prelude.{◌≡◌, ◌≢◌, refl, ℕ, zero, suc, ◌+◌, ◌<◌, Bool, true, false, cond, List, [], ◌∷◌, ◌++◌, map, filter, length, take, drop, slice_get, slice_index_or, Some}
+use Rattle.std.specs.Prelude.{◌≡◌, ◌≢◌, refl, ℕ, ◌+◌, ◌<◌, Bool, true, false, cond, List, [], ◌∷◌, ◌++◌, map, filter, length, take, drop, slice_get, slice_index_or, Some}
+use Rattle.std.proofs.lemmas.List.{drop_more}
 use Rattle.std.proofs.Common.{sym, ◌∙◌, ap, subst, arith, append-nil, append_assoc}
 use Rattle.grouping_model.specs.Datum.{Bigint_kind, HasKinds}
 use Rattle.grouping_model.specs.Aggregates.{Partial, Outcome, Plain, outcome}
@@ -37,16 +38,10 @@ pub record NextState (m : ℕ) (kinds : List AggKind) (i : ℕ) (kind : AggKind)
   pub denotes : states.Denotes m (kind_shape kind) (take (kind_width kind) rest) partial
   pub others : DenotesAll m (drop (i + 1) kinds) (drop (kind_width kind) rest) (drop (i + 1) ps)
 
-from_place : (kinds : List AggKind) (i : ℕ) (default : AggKind) → i < length kinds → drop i kinds ≡ slice_index_or kinds i default ∷ drop (i + 1) kinds
-from_place [] i default low = absurd (omega arith)
-from_place (k ∷ kinds) zero default low = refl
-from_place (k ∷ kinds) (suc i) default low =
-    from_place kinds i default (omega arith) ∙ ap (λ ks. slice_index_or kinds i default ∷ ks) (let one : i + 1 ≡ suc i = omega arith in let two : suc i + 1 ≡ suc (suc i) = omega arith in ap (λ n. drop n kinds) one ∙ sym (ap (λ n. drop n (k ∷ kinds)) two))
-
 pub next_state : (m : ℕ) (kinds : List AggKind) (i : ℕ) (default : AggKind) (rest : List ℕ) (ps : List Partial) → i < length kinds → DenotesAll m (drop i kinds) rest (drop i ps) → NextState m kinds i (slice_index_or kinds i default) rest ps
 next_state m kinds i default rest ps low d =
     let kind : AggKind = slice_index_or kinds i default in
-    let parts = first_and_rest m kind (drop (i + 1) kinds) rest (drop i ps) (subst (λ ks. DenotesAll m ks rest (drop i ps)) (from_place kinds i default low) d) in
+    let parts = first_and_rest m kind (drop (i + 1) kinds) rest (drop i ps) (subst (λ ks. DenotesAll m ks rest (drop i ps)) (drop_more kinds i default low) d) in
     let at = dropped ps i parts.0 parts.1 parts.2 in
     record {
       partial = parts.0;

@@ -1,7 +1,8 @@
 -- What parts tell: which batches are known, the prefixes, the early numbers, the origins.
 use Rattle.std.specs.Prelude.{◌≡◌, ◌≢◌, refl, ℕ, zero, suc, ◌+◌, ◌<◌, ◌≤◌, ◌⊎◌, ◌↔◌, ◌||◌, ◌&&◌, nat_le, nat_lt, Bool, true, false, List, [], ◌∷◌, ◌++◌, map, flat_map, Option, Some, None, unwrap_or, IsTrue}
 use Rattle.std.proofs.Common.{◌∙◌, sym, ap, subst, inl, inr, arith}
-use Rattle.std.proofs.lemmas.Bool.{true≢false, cases_lt}
+use Rattle.std.proofs.lemmas.Bool.{true≢false, cases_lt, and_right, or_right}
+use Rattle.std.proofs.Math.Bool.{and-false, or-false, and-or_distrib_left}
 use Rattle.std.proofs.lemmas.Map.Made.{is_some-lookup}
 use Rattle.std.specs.Option.{is_some}
 use Rattle.std.specs.List.{AllByRecursion}
@@ -30,10 +31,6 @@ use Rattle.replica_merge.specs.Replicas.{Parts, part_at, part_of, batches_of, to
 
 -- ---- membership
 
-or_false : (b : Bool) → (b || false) ≡ b
-or_false true = refl
-or_false false = refl
-
 both_equal : (a b : Ordering) → is_eq (ordering_then a b) ≡ (is_eq a && is_eq b)
 both_equal Less b = refl
 both_equal Equal b = refl
@@ -42,20 +39,12 @@ both_equal Greater b = refl
 pub same_batch : (o n k m : ℕ) → eq_by_cmp batch_cmp (o, n) (k, m) ≡ (eq_by_cmp nat_cmp o k && eq_by_cmp nat_cmp n m)
 same_batch o n k m = both_equal (nat_cmp o k) (nat_cmp n m)
 
-and_or : (a b c : Bool) → ((a && b) || (a && c)) ≡ (a && (b || c))
-and_or true b c = refl
-and_or false b c = refl
-
 -- among the numbered batches of an origin
 among_numbered : (o n k : ℕ) (ns : List ℕ) → is_among batch_cmp (o, n) (map (λ (m : ℕ). (k, m)) ns) ≡ (eq_by_cmp nat_cmp o k && is_among nat_cmp n ns)
-among_numbered o n k [] = none (eq_by_cmp nat_cmp o k)
-  where
-    none : (a : Bool) → false ≡ (a && false)
-    none true = refl
-    none false = refl
+among_numbered o n k [] = sym (and-false (eq_by_cmp nat_cmp o k))
 among_numbered o n k (m ∷ ns) =
     (λ i. same_batch o n k m i || among_numbered o n k ns i)
-    ∙ and_or (eq_by_cmp nat_cmp o k) (eq_by_cmp nat_cmp n m) (is_among nat_cmp n ns)
+    ∙ sym (and-or_distrib_left (eq_by_cmp nat_cmp o k) (eq_by_cmp nat_cmp n m) (is_among nat_cmp n ns))
 
 -- among the numbers that are counted
 among_counted : (n first k : ℕ) → is_among nat_cmp n (count_up first k) ≡ (nat_le first n && nat_lt n (first + k))
@@ -104,13 +93,9 @@ among_part o n held =
 pub empty_tells : (n : ℕ) → tells empty n ≡ false
 empty_tells n =
     elim (cases_lt 0 n) [
-      | inl some ↦ let one : nat_le n 0 ≡ false = grind arith in ap (λ b. (nat_le 1 n && b) || false) one ∙ none (nat_le 1 n)
+      | inl some ↦ let one : nat_le n 0 ≡ false = grind arith in ap (λ b. b || false) (and_right (nat_le 1 n) (nat_le n 0) one)
       | inr none_is ↦ let one : nat_le 1 n ≡ false = grind arith in ap (λ b. (b && nat_le n 0) || false) one
     ]
-  where
-    none : (b : Bool) → ((b && false) || false) ≡ false
-    none true = refl
-    none false = refl
 
 -- a batch is told exactly where the part of its origin tells its number
 pub told_is : (parts : Parts) → IsStrictlySortedBy nat_cmp (numbers parts) → (o n : ℕ) → knows (told parts) (o, n) ≡ tells (part_of parts o) n
@@ -129,7 +114,7 @@ told_is parts rising o n = knows_knowing (flat_map batches_of parts) (o, n) ∙ 
             let here : part_at (held ∷ ps) o ≡ Some held.1 = ap (part_at (held ∷ ps)) same ∙ at_head held.0 held.1 ps in
             (λ i. (eq_by_cmp nat_cmp o (sym same i) && tells held.1 n) || tells (unwrap_or (alone i) empty) n)
             ∙ (λ i. (is_itself o i && tells held.1 n) || empty_tells n i)
-            ∙ or_false (tells held.1 n)
+            ∙ or-false (tells held.1 n)
             ∙ sym (ap (λ found. tells (unwrap_or found empty) n) here)
         go (inr other) =
             ap (λ b. (b && tells held.1 n) || tells (part_of ps o) n) (is_other o held.0 other)
@@ -145,14 +130,7 @@ pub part_gap : (query : Checked) (p : Part) → IsPartOf query p → HasGap p
 part_gap query p is =
     let none = none_found (IsEarly (kinds query.columns) p.prefix) p.early (p.prefix + 1) is.early (λ rows e. let low = e.behind in omega (arith, low)) in
     let over : nat_le (p.prefix + 1) p.prefix ≡ false = grind arith in
-    (λ i. (nat_le 1 (p.prefix + 1) && over i) || is_some (none i)) ∙ nothing (nat_le 1 (p.prefix + 1))
-  where
-    nothing : (b : Bool) → ((b && false) || false) ≡ false
-    nothing true = refl
-    nothing false = refl
-
-pub empty_gap : HasGap empty
-empty_gap = empty_tells 1
+    (λ i. and_right (nat_le 1 (p.prefix + 1)) (nat_le (p.prefix + 1) p.prefix) over i || is_some (none i))
 
 pub prefix_told : (parts : Parts) → IsStrictlySortedBy nat_cmp (numbers parts) → (o : ℕ) → HasGap (part_of parts o) → prefix (told parts) o ≡ (part_of parts o).prefix
 prefix_told parts rising o gap =
@@ -167,7 +145,7 @@ prefix_told parts rising o gap =
     lookup_early n = rows_at (part_of parts o).early n
 
 -- two truth values that follow from each other are the same
-alike : (a b : Bool) → (a ≡ true → b ≡ true) → (b ≡ true → a ≡ true) → a ≡ b
+pub alike : (a b : Bool) → (a ≡ true → b ≡ true) → (b ≡ true → a ≡ true) → a ≡ b
 alike true b to back = sym (to refl)
 alike false true to back = back refl
 alike false false to back = refl
@@ -189,11 +167,7 @@ early_told query parts rising o p here is =
     behind : (n : ℕ) → p.prefix < n → tells p n ≡ is_some (rows_at p.early n)
     behind n low =
         let over : nat_le n p.prefix ≡ false = grind arith in
-        ap (λ b. (nat_le 1 n && b) || is_some (rows_at p.early n)) over ∙ nothing (nat_le 1 n) (is_some (rows_at p.early n))
-      where
-        nothing : (b c : Bool) → ((b && false) || c) ≡ c
-        nothing true c = refl
-        nothing false c = refl
+        ap (λ b. b || is_some (rows_at p.early n)) (and_right (nat_le 1 n) (nat_le n p.prefix) over)
 
     to : (n : ℕ) → is_among nat_cmp n (early (told parts) o) ≡ true → is_among nat_cmp n (numbers p.early) ≡ true
     to n e =
@@ -216,10 +190,6 @@ early_told query parts rising o p here is =
 pub some_told : (query : Checked) (o : ℕ) (p : Part) → IsHeldPart query (o, p) → (n : ℕ) × (1 ≤ n) × (tells p n ≡ true)
 some_told query o p held = go held.some
   where
-    or_true : (a b : Bool) → b ≡ true → (a || b) ≡ true
-    or_true true b e = refl
-    or_true false b e = e
-
     of_early : (es : List (ℕ × List (List ℕ))) → AllByRecursion (IsEarly (kinds query.columns) p.prefix) es → es ≢ [] → (e : ℕ × List (List ℕ)) × (1 ≤ e.0) × ((rest : List (ℕ × List (List ℕ))) × (es ≡ e ∷ rest))
     of_early [] all some = absurd (some refl)
     of_early (e ∷ es) all some = let low = all.0.behind in (e, omega (arith, low), (es, refl))
@@ -229,7 +199,7 @@ some_told query o p held = go held.some
     go (inr some) =
         let first = of_early p.early held.part.early some in
         let there : rows_at p.early first.0.0 ≡ Some first.0.1 = ap (λ es. rows_at es first.0.0) first.2.1 ∙ at_head first.0.0 first.0.1 first.2.0 in
-        (first.0.0, first.1, or_true (nat_le 1 first.0.0 && nat_le first.0.0 p.prefix) (is_some (rows_at p.early first.0.0)) (ap is_some there))
+        (first.0.0, first.1, or_right (nat_le 1 first.0.0 && nat_le first.0.0 p.prefix) (is_some (rows_at p.early first.0.0)) (ap is_some there))
 
 pub origins_told : (query : Checked) (parts : Parts) → AreHeldParts query parts → origins (told parts) ≡ numbers parts
 origins_told query parts held =
@@ -264,6 +234,9 @@ each_at {X} es rising = all_found (λ (e : ℕ × X). lookup (eq_by_cmp nat_cmp 
 pub map_same : {X Y : Type 0} (f : ℕ → Y) (g : ℕ × X → Y) (es : List (ℕ × X)) → AllByRecursion (λ (e : ℕ × X). f e.0 ≡ g e) es → map f (numbers es) ≡ map g es
 map_same f g [] all = refl
 map_same f g (e ∷ es) all = (λ i. all.0 i ∷ map_same f g es all.1 i)
+
+pub held_part : (query : Checked) (parts : Parts) → AreHeldParts query parts → (o : ℕ) (p : Part) → part_at parts o ≡ Some p → IsHeldPart query (o, p)
+held_part query parts held o p there = found_holds (IsHeldPart query) parts o p held.each there
 
 -- what holds of the part that is there
 pub part_here : (parts : Parts) (o : ℕ) (p : Part) → part_at parts o ≡ Some p → part_of parts o ≡ p

@@ -1,5 +1,5 @@
 -- Runs of several origins that are united, the one with the other.
-use Rattle.std.specs.Prelude.{◌≡◌, ◌≢◌, refl, ℕ, ◌+◌, ◌*◌, ◌≤◌, List, [], ◌∷◌, ◌++◌}
+use Rattle.std.specs.Prelude.{◌≡◌, refl, ℕ, ◌+◌, ◌*◌, ◌≤◌, List, [], ◌∷◌, ◌++◌}
 use Rattle.std.specs.Borrow.{Bor}
 use Rattle.std.specs.List.{AllByRecursion}
 use Rattle.std.specs.List.Sorted.{IsStrictlySortedBy}
@@ -7,6 +7,7 @@ use Rattle.std.proofs.Common.{sym, ◌∙◌, ap, subst, arith, append-nil}
 use Rattle.std.proofs.lemmas.List.{map-append}
 use Rattle.std.proofs.lemmas.List.Sums.{sum_by-cons, sum_by-append}
 use Rattle.std.proofs.lemmas.Grind.{flat_map-append}
+use Rattle.list_laws.specs.Each.{each_front, each_behind}
 use Rattle.grouping_model.specs.declared.limits.TheConstants.{MOST_ROWS}
 use Rattle.grouping_model.specs.Datum.{Row, row_cmp}
 use Rattle.grouping_model.specs.Query.{Query}
@@ -66,22 +67,6 @@ one_union q run rows is =
         (subst (λ all. AreGroups q rows run (part q all)) (sym (append-nil these)) are.0)
     one (these ∷ more ∷ lists) are = absurd are.1
 
-no_run_rises : Rises []
-unfolding IsStrictlySortedBy
-no_run_rises = tt
-
--- nothing is the union of nothing
-pub no_union : (q : Query) → IsUnion q [] []
-no_union q =
-    record {
-      part = none;
-      is_run = record { groups = []; are = tt; rises = no_run_rises };
-    }
-  where
-    none : (lists : List (List Row)) → AreInputsOf q [] lists → AreGroups q 0 [] (part q (on_end lists))
-    none [] are = tt
-    none (rows ∷ lists) are = absurd are
-
 -- the union of some inputs, to which that of others is added
 module _ (q : Query) (xs ys : List Brought) (a b c : List Entry) (few : all_rows (xs ++ ys) ≤ most_rows) (left : IsUnion q xs a) (right : IsUnion q ys b) where
   total : all_rows (xs ++ ys) ≡ all_rows xs + all_rows ys
@@ -129,19 +114,11 @@ module _ (q : Query) (xs ys : List Brought) (a b c : List Entry) (few : all_rows
 pub halves_bring : (parts front back : List (Bor Part)) → parts ≡ front ++ back → brought_by parts ≡ brought_by front ++ brought_by back
 halves_bring parts front back both = ap brought_by both ∙ map-append (λ (p : Bor Part). counted p.now) front back
 
-all_front : (P : Brought → Type 0) (xs ys : List Brought) → AllByRecursion P (xs ++ ys) → AllByRecursion P xs
-all_front P [] ys all = tt
-all_front P (x ∷ xs) ys all = (all.0, all_front P xs ys all.1)
-
-all_back : (P : Brought → Type 0) (xs ys : List Brought) → AllByRecursion P (xs ++ ys) → AllByRecursion P ys
-all_back P [] ys all = all
-all_back P (x ∷ xs) ys all = all_back P xs ys all.1
-
 pub front_inputs : (q : Query) (parts front back : List (Bor Part)) → parts ≡ front ++ back → AllByRecursion (IsInput q) (brought_by parts) → AllByRecursion (IsInput q) (brought_by front)
-front_inputs q parts front back both all = all_front (IsInput q) (brought_by front) (brought_by back) (subst (AllByRecursion (IsInput q)) (halves_bring parts front back both) all)
+front_inputs q parts front back both all = each_front (IsInput q) (brought_by front) (brought_by back) (subst (AllByRecursion (IsInput q)) (halves_bring parts front back both) all)
 
 pub back_inputs : (q : Query) (parts front back : List (Bor Part)) → parts ≡ front ++ back → AllByRecursion (IsInput q) (brought_by parts) → AllByRecursion (IsInput q) (brought_by back)
-back_inputs q parts front back both all = all_back (IsInput q) (brought_by front) (brought_by back) (subst (AllByRecursion (IsInput q)) (halves_bring parts front back both) all)
+back_inputs q parts front back both all = each_behind (IsInput q) (brought_by front) (brought_by back) (subst (AllByRecursion (IsInput q)) (halves_bring parts front back both) all)
 
 rows_of_halves : (parts front back : List (Bor Part)) → parts ≡ front ++ back → all_rows (brought_by parts) ≡ all_rows (brought_by front) + all_rows (brought_by back)
 rows_of_halves parts front back both = ap all_rows (halves_bring parts front back both) ∙ sum_by-append rows_in (brought_by front) (brought_by back)
@@ -170,8 +147,3 @@ one_part q parts run inputs is =
     subst (λ those. IsUnion q (brought_by those) run) (sym is.alone)
     (subst (IsUnion q (brought_by (is.only ∷ []))) (sym is.run_is)
     (one_union q is.only.now.run (is.only.now.prefix * MOST_ROWS) (subst (λ those. AllByRecursion (IsInput q) (brought_by those)) is.alone inputs).0))
-
-pub few_united : (q : Query) (parts : List (Bor Part)) (run : List Entry) → AllByRecursion (IsInput q) (brought_by parts)
-    → (parts ≡ [] → run ≡ []) × (parts ≢ [] → IsRunAlone parts run) → IsUnion q (brought_by parts) run
-few_united q [] run inputs is = subst (IsUnion q []) (sym (is.0 refl)) (no_union q)
-few_united q (part ∷ parts) run inputs is = one_part q (part ∷ parts) run inputs (is.1 (λ e. cc e))

@@ -1,7 +1,7 @@
 -- What the file of a world is loaded as, and when a replica's file is that of a world.
 use Rattle.std.specs.Prelude.{◌≡◌, refl, ℕ, ◌<◌, ◌≤◌, ◌++◌, ◌||◌, ◌&&◌, ◌↔◌, nat_le, Bool, true, false, List, Option, Some, None, IsSome, IsTrue, IsUtf8, unwrap_or}
 use Rattle.std.proofs.Common.{◌∙◌, sym, ap, subst, inl, inr, arith}
-use Rattle.std.proofs.lemmas.Bool.{true≢false, cases_lt}
+use Rattle.std.proofs.lemmas.Bool.{true≢false, cases_lt, or_left, or_right}
 use Rattle.std.proofs.lemmas.Map.Made.{is_some-lookup}
 use Rattle.std.specs.List.{AllByRecursion}
 use Rattle.std.specs.Option.{is_some}
@@ -38,22 +38,9 @@ use Rattle.summary_codec.proofs.VersionLaws.{one_body}
 use Rattle.summary_codec.proofs.WorldLaws.{are_held, known_from_one, numbers_back, part_fits, second_keeps, world_read}
 use Rattle.replica_merge.specs.Replicas.{Parts, part_at, part_of, Held, told, Fits, AreHeldParts}
 use Rattle.replica_merge.proofs.SavedLaws.{one_held, saved_in}
-use Rattle.replica_merge.proofs.ToldLaws.{empty_tells, told_is}
+use Rattle.replica_merge.proofs.ToldLaws.{alike, empty_tells, told_is}
 
 -- ---- truth values
-
-alike : (a b : Bool) → (a ≡ true → b ≡ true) → (b ≡ true → a ≡ true) → a ≡ b
-alike true b to back = sym (to refl)
-alike false true to back = back refl
-alike false false to back = refl
-
-or_left : (a b : Bool) → a ≡ true → (a || b) ≡ true
-or_left true b e = refl
-or_left false b e = absurd (true≢false (sym e))
-
-or_right : (a b : Bool) → b ≡ true → (a || b) ≡ true
-or_right true b e = refl
-or_right false b e = e
 
 or_cases : {G : Type 0} (a b : Bool) → (a || b) ≡ true → (a ≡ true → G) → (b ≡ true → G) → G
 or_cases true b e left right = left refl

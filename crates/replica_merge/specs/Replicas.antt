@@ -1,5 +1,5 @@
 -- What a replica holds and tells, and when it fits a world. All of this is our own.
-use Rattle.std.specs.Prelude.{◌≡◌, ◌≢◌, ℕ, ◌*◌, ◌<◌, List, ◌++◌, map, flat_map, Option, Some, None, option_map, unwrap_or, Bool, if◌then◌else◌, Result, Ok, Err, true, IsTrue, OnOk, OnErr, IfErr}
+use Rattle.std.specs.Prelude.{◌≡◌, ◌≢◌, ℕ, ◌*◌, ◌<◌, List, ◌++◌, map, flat_map, Option, Some, None, option_map, unwrap_or, Bool, if◌then◌else◌, Result, true, IsTrue, OnOk, OnErr, IfOk, IfErr}
 use Rattle.std.specs.List.Sorted.{IsStrictlySortedBy}
 use Rattle.std.specs.Map.{lookup}
 use Rattle.std.specs.Ordering.{eq_by_cmp, nat_cmp}
@@ -137,15 +137,12 @@ pub record RefusesAt (old : Parts) (batch : packed.Batch) (new : Parts) (refused
   pub same : new ≡ old
   pub tells : BatchTells refused.why (part_of old batch.origin) batch.number batch.rows
 
--- what becomes of parts to which a batch is delivered: that of its origin takes it, or it is refused
-abbrev pub DeliveredTo : (honest : Bool) → Checked → Parts → packed.Batch → Parts → Result Delivered RefusedBatch → Type 0
-DeliveredTo honest query old batch new (Ok reply) = DeliversAt honest query old batch.origin batch.number batch.rows new reply
-DeliveredTo honest query old batch new (Err refused) = RefusesAt old batch new refused
-
--- a batch is delivered to the parts of a query, over a disk of tapes, by a limit and a hash function: what becomes of the parts; what the
--- aggregation of the batches that are folded takes is counted, and nothing where it is refused; and what that leaves of the disk
+-- a batch is delivered to the parts of a query, over a disk of tapes, by a limit and a hash function: the part of its origin takes it, or it is
+-- refused; what the aggregation of the batches that are folded takes is counted, and nothing where it is refused; and what that leaves of
+-- the disk
 pub record IsDelivery {D : Type 0} (g : Ghosts D) (query : Checked) (setting : Setting) (batch : packed.Batch) (old : Parts) (before : D) (begun : Work) (new : Parts) (after : D) (done : Work) (result : Result Delivered RefusedBatch) : Type 0 where
-  pub delivered : DeliveredTo (g.honest before) query old batch new result
+  pub taken : IfOk result (DeliversAt (g.honest before) query old batch.origin batch.number batch.rows new)
+  pub refused : IfErr result (RefusesAt old batch new)
   pub counted : OnOk result (IsTrue (g.honest before) → AreCounted (meaning query) setting (aggregations_on (part_of old batch.origin) batch.number batch.rows) begun (g.writes before) done (g.writes after))
   pub uncounted : OnErr result (done ≡ begun)
   pub undamaged : IfErr result (λ refused. IsTrue (g.honest before) → refused.why ≢ Spill TapeDamaged)

@@ -2,7 +2,6 @@
 
 ghost use Rattle.std.specs.Prelude.{◌≡◌, ◌≢◌, ℕ, Bool, Option, IsTrue, map, cond, option_map, unwrap_or, Some, IfOk, IfErr, OnOk, OnErr};
 ghost use Rattle.std.specs.List.Sorted.{IsStrictlySortedBy};
-ghost use Rattle.std.specs.BTreeMap.{insert_entry};
 ghost use Rattle.std.specs.Option.{option_copied};
 ghost use Rattle.std.specs.Ordering.{eq_by_cmp, nat_cmp};
 ghost use Rattle.grouping_model.specs.World.{World, IsWorld, union};
@@ -13,7 +12,7 @@ ghost use Rattle.origin_prefix.specs.Parts.{Part, empty, IsPartOf};
 ghost use Rattle.origin_prefix.specs.Joins.{Joins, PartsDisagree, JoinTells, JoinIsCounted};
 ghost use Rattle.origin_prefix.specs.declared.error.JoinError.{JoinError};
 ghost use Rattle.origin_prefix.specs.declared.error.JoinError.TheVariants.{OriginDisagrees, Spill};
-ghost use Rattle.replica_merge.specs.Counting.{MergeIsCounted};
+ghost use Rattle.replica_merge.specs.Counting.{MergeIsCounted, JoinsInOrder};
 ghost use Rattle.replica_merge.specs.Replicas.{Parts, part_at, part_of, told, Fits, AreHeldParts, JoinedAside, Merges, DisagreeSomewhere, MergeTells, filled};
 ghost use Rattle.spill_lists.specs.declared.error.SpillError.TheVariants.{TapeDamaged};
 ghost use Rattle.tape_disks.specs.Calls.{failed};
@@ -49,23 +48,6 @@ impl Model for Joined {
     ghost view = { λ j. j.parts.entries };
 }
 
-/// Puts a part under its origin. The only error is a failed allocation.
-fn put(
-    parts: &mut BTreeMap<u16, OriginPart>,
-    origin: u16,
-    part: OriginPart,
-) -> Result<(), AllocError>
-    ensures entries { OnOk result
-        (parts.new.entries ≡ insert_entry nat_cmp parts.old.entries origin part) }
-    ensures rising { IsStrictlySortedBy nat_cmp
-        (map (λ (held : ℕ × Part). held.0) parts.new.entries) }
-{
-    match parts.insert(origin, part) {
-        Ok(_) => Ok(()),
-        Err(_) => Err(AllocError),
-    }
-}
-
 /// A place for each part.
 fn places(
     alloc: Global,
@@ -78,7 +60,9 @@ fn places(
 {
     let mut places = BTreeMap::new(alloc);
     for (origin, _) in parts {
-        put(&mut places, *origin, OriginPart::empty(alloc))?;
+        if places.insert(*origin, OriginPart::empty(alloc)).is_err() {
+            return Err(AllocError);
+        }
     }
     Ok(places)
 }
@@ -142,6 +126,10 @@ fn join_all<H: KeyHash + Copy, D: TapeDisk>(
     ensures tells { IfErr result (λ e. MergeTells e
         (record { query = query.now; parts = own.now.entries })
         (record { query = query.now; parts = theirs.now.entries })) }
+    ensures order { IfErr result (λ e. IsTrue (D.honest disk.old) →
+        JoinsInOrder (meaning query.now) (setting_by H.hash_of (meaning query.now) means.now)
+        own.now.entries theirs.now.entries
+        work.old (D.writes disk.old) e (D.writes disk.new)) }
     ensures undamaged { IfErr result (λ e. IsTrue (D.honest disk.old) → (at : ℕ) → e ≢ Join at (Spill TapeDamaged)) }
     ensures disk { Leaves D.TapeDisk (failed merge_faults result) disk.old disk.new }
 {
@@ -157,7 +145,9 @@ fn join_all<H: KeyHash + Copy, D: TapeDisk>(
             disk,
             work,
         )?;
-        put(&mut joined, *origin, part)?;
+        if joined.insert(*origin, part).is_err() {
+            return Err(MergeError::NoMemory);
+        }
     }
     Ok(joined)
 }
@@ -197,7 +187,8 @@ impl Replica {
     /// # Errors
     ///
     /// `DifferentQuery`, and then by rising origin `OriginDisagrees` where its parts disagree, with the first number where they do, and
-    /// want of memory or the error of the disk of tapes over which its batches are aggregated.
+    /// want of memory or the error of the disk of tapes over which its batches are aggregated. The parts of all lower origins were joined
+    /// before.
     pub fn join<H: KeyHash + Copy, D: TapeDisk>(
         &self,
         other: &Replica,
@@ -220,6 +211,10 @@ impl Replica {
         ensures agree { IfErr result (λ e. (origin : ℕ) (number : Option ℕ) →
             e ≡ Join origin (OriginDisagrees number) → (world : World) →
             Fits world self.now → Fits world other.now → ⊥) }
+        ensures order { IfErr result (λ e. IsTrue (D.honest disk.old) →
+            JoinsInOrder (meaning self.now.query) (setting_by H.hash_of (meaning self.now.query) means.now)
+            self.now.parts other.now.parts
+            work.old (D.writes disk.old) e (D.writes disk.new)) }
         ensures undamaged { IfErr result (λ e. IsTrue (D.honest disk.old) → (at : ℕ) → e ≢ Join at (Spill TapeDamaged)) }
         ensures disk { Leaves D.TapeDisk (failed merge_faults result) disk.old disk.new }
     {
@@ -297,6 +292,10 @@ impl Replica {
         ensures agree { IfErr result (λ e. (origin : ℕ) (number : Option ℕ) →
             e ≡ Join origin (OriginDisagrees number) → (world : World) →
             Fits world self.old → Fits world other.now → ⊥) }
+        ensures order { IfErr result (λ e. IsTrue (D.honest disk.old) →
+            JoinsInOrder (meaning self.old.query) (setting_by H.hash_of (meaning self.old.query) means.now)
+            self.old.parts other.now.parts
+            work.old (D.writes disk.old) e (D.writes disk.new)) }
         ensures undamaged { IfErr result (λ e. IsTrue (D.honest disk.old) → (at : ℕ) → e ≢ Join at (Spill TapeDamaged)) }
         ensures disk { Leaves D.TapeDisk (failed merge_faults result) disk.old disk.new }
     {

@@ -104,37 +104,6 @@ fn deliver_to<H: KeyHash + Copy, D: TapeDisk>(
     }
 }
 
-/// Takes a batch of an origin of which there is no part yet.
-fn deliver_first<H: KeyHash + Copy, D: TapeDisk>(
-    alloc: Global,
-    query: &Query,
-    parts: &mut BTreeMap<u16, OriginPart>,
-    batch: Batch,
-    means: &Means<H>,
-    disk: &mut D,
-    work: &mut Work,
-) -> Result<Delivered, RefusedBatch>
-    requires none { part_at parts.old.entries batch.origin ≡ None }
-    requires number { (1 ≤ batch.number) × (batch.number ≤ LAST_NUMBER) }
-    requires rows { ArePackedRows (kinds query.now.columns) batch.rows }
-    ensures { IsDelivery D.TapeDisk query.now (setting_by H.hash_of (meaning query.now) means.now) batch
-        parts.old.entries disk.old work.old parts.new.entries disk.new work.new result }
-{
-    let origin = batch.origin;
-    // The part has its place before the batch is taken, so that a batch is never lost.
-    if parts.insert(origin, OriginPart::empty(alloc)).is_err() {
-        let why = JoinError::from(AllocError);
-        return Err(RefusedBatch { batch, why });
-    }
-    match deliver_to(query, parts, batch, means, disk, work) {
-        Ok(delivered) => Ok(delivered),
-        Err(refused) => {
-            parts.remove(&origin);
-            Err(refused)
-        }
-    }
-}
-
 /// Takes a batch to the part of its origin, which is made where there is none yet.
 fn deliver_in<H: KeyHash + Copy, D: TapeDisk>(
     alloc: Global,
@@ -151,10 +120,22 @@ fn deliver_in<H: KeyHash + Copy, D: TapeDisk>(
     ensures { IsDelivery D.TapeDisk query.now (setting_by H.hash_of (meaning query.now) means.now) batch
         parts.old.entries disk.old work.old parts.new.entries disk.new work.new result }
 {
-    if parts.contains_key(&batch.origin) {
+    let origin = batch.origin;
+    if parts.contains_key(&origin) {
         return deliver_to(query, parts, batch, means, disk, work);
     }
-    deliver_first(alloc, query, parts, batch, means, disk, work)
+    // The part has its place before the batch is taken, so that a batch is never lost.
+    if parts.insert(origin, OriginPart::empty(alloc)).is_err() {
+        let why = JoinError::from(AllocError);
+        return Err(RefusedBatch { batch, why });
+    }
+    match deliver_to(query, parts, batch, means, disk, work) {
+        Ok(delivered) => Ok(delivered),
+        Err(refused) => {
+            parts.remove(&origin);
+            Err(refused)
+        }
+    }
 }
 
 impl Replica {

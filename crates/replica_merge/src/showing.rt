@@ -165,14 +165,6 @@ fn rows_of_run(alloc: Global, query: &Query, run: &Run) -> Result<AnswerRows, Al
     Ok(rows)
 }
 
-/// The answer that no groups give.
-fn show_none(alloc: Global, query: &Query) -> Result<Answer, AllocError>
-    ensures { IfOk result (λ answer. answer ≡ answer_of (meaning query.now) []) }
-{
-    let rows = rows_of_none(alloc, query)?;
-    Answer::in_order(alloc, rows, query.order())
-}
-
 /// The answer that the groups of a run give, in the order of the query. Without GROUP BY there is one group, over no rows too.
 pub(crate) fn show(alloc: Global, query: &Query, run: &Run) -> Result<Answer, AllocError>
     requires { (most : ℕ) × (groups : List Group)
@@ -182,7 +174,8 @@ pub(crate) fn show(alloc: Global, query: &Query, run: &Run) -> Result<Answer, Al
         answer ≡ answer_of (meaning query.now) groups) }
 {
     if run.is_empty() {
-        return show_none(alloc, query);
+        let rows = rows_of_none(alloc, query)?;
+        return Answer::in_order(alloc, rows, query.order());
     }
     let rows = rows_of_run(alloc, query, run)?;
     Answer::in_order(alloc, rows, query.order())

@@ -1,14 +1,13 @@
-use Rattle.std.specs.Prelude.{ℕ, map, IsTrue}
+use Rattle.std.specs.Prelude.{◌≡◌, ℕ, ◌++◌, map, IsTrue}
 use Rattle.std.specs.List.{AllByRecursion}
 use Rattle.std.specs.List.Sorted.{IsStrictlySortedBy}
 use Rattle.std.specs.Ordering.{nat_cmp}
 use Rattle.having_filter.specs.Meaning.{meaning}
 use Rattle.hash_agg.specs.Counting.{setting_by}
-use Rattle.hash_agg.specs.declared.work.Work.{Work}
 use Rattle.origin_prefix.specs.Parts.{Part}
 use Rattle.tape_disks.specs.Disk.{Leaves}
 use Rattle.replica_merge.specs.Counting.{MergeIsCounted}
-use Rattle.replica_merge.specs.Replicas.{part_at, part_of, IsHeldPart}
+use Rattle.replica_merge.specs.Replicas.{Parts, part_at, part_of, IsHeldPart}
 use Rattle.replica_merge.proofs.MergedLaws.{JoinedSoFar}
 use Rattle.replica_merge.proofs.merging.join_all.Given as goal
 
@@ -20,9 +19,10 @@ invariant-loop-origin g l =
       held : AllByRecursion (IsHeldPart l.query) l.origin-iterator;
       rising : IsStrictlySortedBy nat_cmp (map (λ (held : ℕ × Part). held.0) l.joined.entries);
       disk : Leaves g.D.TapeDisk 0 l.fn.disk l.disk;
-      counted : IsTrue (g.D.TapeDisk.honest l.fn.disk) → (new : Work) (written : ℕ)
-          → MergeIsCounted (meaning l.query) (setting_by g.H.KeyHash.hash_of (meaning l.query) l.means) l.own.entries l.origin-iterator l.work (g.D.TapeDisk.writes l.disk) new written
-          → MergeIsCounted (meaning l.query) (setting_by g.H.KeyHash.hash_of (meaning l.query) l.means) l.own.entries l.initial.origin-iterator l.fn.work (g.D.TapeDisk.writes l.fn.disk) new written;
+      front : Parts;
+      parts : l.initial.origin-iterator ≡ front ++ l.origin-iterator;
+      counted : IsTrue (g.D.TapeDisk.honest l.fn.disk)
+          → MergeIsCounted (meaning l.query) (setting_by g.H.KeyHash.hash_of (meaning l.query) l.means) l.own.entries front l.fn.work (g.D.TapeDisk.writes l.fn.disk) l.work (g.D.TapeDisk.writes l.disk);
       can : (goal.iterator-loop-origin g).can_next l.origin-iterator;
       finite : (goal.iterator-loop-origin g).is_finite l.origin-iterator;
     }

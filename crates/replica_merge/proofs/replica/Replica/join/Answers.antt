@@ -1,9 +1,12 @@
-use Rattle.std.specs.Prelude.{◌≡◌, ℕ, Option, IfErr}
+use Rattle.std.specs.Prelude.{◌≡◌, ℕ, Option, IfErr, IsTrue}
 use Rattle.std.proofs.Common.{◌∙◌, sym, ap, subst}
 use Rattle.std.proofs.lemmas.Result.{err_from_is_err_and}
 use Rattle.grouping_model.specs.World.{World}
 use Rattle.query_checks.specs.Checks.{Checked}
+use Rattle.having_filter.specs.Meaning.{meaning}
+use Rattle.hash_agg.specs.Counting.{setting_by}
 use Rattle.query_grammar.proofs.OneText.{one_text}
+use Rattle.replica_merge.specs.Counting.{JoinsInOrder}
 use Rattle.replica_merge.specs.Replicas.{Held, Fits, AreHeldParts, DisagreeSomewhere, MergeTells}
 use Rattle.origin_prefix.specs.declared.error.JoinError.TheVariants.{OriginDisagrees}
 use Rattle.replica_merge.specs.declared.error.MergeError.TheVariants.{Join}
@@ -41,6 +44,15 @@ returns-in_err-parts-clause-agree g c =
     (subst (λ e. MergeTells e own theirs) (sym p.2 ∙ is) c.in_err-parts.ensures.tells).1 world
     (subst (Fits world) (sym c.self.view_is) fits)
     (subst (λ (q : Checked). Fits world (record { query = q; parts = c.other.inside.parts.entries })) (sym same) (subst (Fits world) (sym c.other.view_is) fits_other)))
+
+pub returns-in_err-parts-clause-order : goal.returns-in_err-parts-clause-order
+returns-in_err-parts-clause-order g c =
+    let p = err_from_is_err_and c.from_residual.result c.from_residual.ensures.1 in
+    subst (λ r. IfErr r (λ e. IsTrue (g.D.TapeDisk.honest c.args.disk.now) → JoinsInOrder (meaning c.args.self.now.query) (setting_by g.H.KeyHash.hash_of (meaning c.args.self.now.query) c.args.means.now) c.args.self.now.parts c.args.other.now.parts c.args.work.now (g.D.TapeDisk.writes c.args.disk.now) e (g.D.TapeDisk.writes c.join_all.new.disk))) (sym p.1)
+    (subst (λ e. IsTrue (g.D.TapeDisk.honest c.args.disk.now) → JoinsInOrder (meaning c.args.self.now.query) (setting_by g.H.KeyHash.hash_of (meaning c.args.self.now.query) c.args.means.now) c.args.self.now.parts c.args.other.now.parts c.args.work.now (g.D.TapeDisk.writes c.args.disk.now) e (g.D.TapeDisk.writes c.join_all.new.disk)) (sym p.2)
+    (subst (λ (h : Held). IsTrue (g.D.TapeDisk.honest c.args.disk.now) → JoinsInOrder (meaning h.query) (setting_by g.H.KeyHash.hash_of (meaning h.query) c.args.means.now) h.parts c.args.other.now.parts c.args.work.now (g.D.TapeDisk.writes c.args.disk.now) c.in_err-parts.field-0.0 (g.D.TapeDisk.writes c.join_all.new.disk)) c.self.view_is
+    (subst (λ (h : Held). IsTrue (g.D.TapeDisk.honest c.args.disk.now) → JoinsInOrder (meaning c.self.inside.query) (setting_by g.H.KeyHash.hash_of (meaning c.self.inside.query) c.args.means.now) c.self.inside.parts.entries h.parts c.args.work.now (g.D.TapeDisk.writes c.args.disk.now) c.in_err-parts.field-0.0 (g.D.TapeDisk.writes c.join_all.new.disk)) c.other.view_is
+    c.in_err-parts.ensures.order)))
 
 pub returns-clause-agreed : goal.returns-clause-agreed
 returns-clause-agreed g c =
