@@ -1,5 +1,5 @@
 -- The text of the machine's replies: one line each, of an answer the table too. All of this is our own.
-use Rattle.std.specs.Prelude.{ℕ, ◌≡◌, List, [], ◌∷◌, flat_map, length, codes, decimal}
+use Rattle.std.specs.Prelude.{ℕ, ◌≡◌, List, [], ◌∷◌, flat_map, length, Option, Some, None, codes, decimal}
 use Rattle.grouping_model.specs.Answer.{answer}
 use Rattle.grouping_model.specs.Aggregates.{Outcome}
 use Rattle.grouping_model.specs.World.{World}
@@ -26,6 +26,11 @@ reply_text world (Answered query known) =
     let rows = answer (meaning query) world known in
     answer_text (length rows) (table_text (headers query) rows)
 reply_text world (Refused why) = line (codes "refused ") (refusal_name why)
+
+-- the bytes of the file that a reply saves, where the batches are a world's
+abbrev pub file_saved : World → Reply → Option (List ℕ)
+file_saved world (Saved saved query known) = Some (world_file query world known)
+file_saved world reply = None
 
 -- the text of replies, one after the other
 abbrev pub replies_text : World → List Reply → List ℕ

@@ -5,11 +5,11 @@ ghost use Rattle.grouping_model.specs.declared.limits.TheConstants.{LAST_ORIGIN,
 ghost use Rattle.hash_agg.specs.declared.means.TheConstants.{LEAST_LIMIT, GREATEST_LIMIT, USUAL_LIMIT};
 ghost use Rattle.grouping_model.specs.World.{World};
 ghost use Rattle.script_io.specs.Records.{Record};
-ghost use Rattle.script_commands.specs.Commands.{Command, Request, Answer, Known};
+ghost use Rattle.script_commands.specs.Commands.{Command, Request, Answer, Known, Save};
 ghost use Rattle.replies.specs.Batches.{Fed};
 ghost use Rattle.script_machine.specs.Agreement.{after_all, KnowTheSame, OneBatchEach, AreAmong, world_of};
 ghost use Rattle.script_machine.specs.Machine.{State, Reply, Replies, Agrees, start};
-ghost use Rattle.script_machine.specs.Text.{reply_text};
+ghost use Rattle.script_machine.specs.Text.{reply_text, file_saved};
 
 /// A command has one reply, memory being there: the machine's step is a function of what is there and the command. There are never
 /// two, nor is there ever none.
@@ -20,8 +20,9 @@ pub fn one_reply()
         ((reply : Reply) → ¬ (Replies old request owned reply)) → ⊥ }
 {}
 
-/// Two replicas that know the same batches print the same bytes, be they of one script or of two: whatever the order in
-/// which these came, and however often, an answer is the same text, and so is the list of what is known.
+/// Two replicas that know the same batches print and save the same bytes, be they of one script or of two: whatever the order in
+/// which these came, and however often, an answer is the same text, so is the list of what is known, and a file that is saved has the
+/// same bytes, under whichever name.
 pub fn same_batches_same_bytes()
     ensures answers { (here there : List Reply) (a b : List ℕ) (world other : World)
         (owned : List Record) (r s : Reply) →
@@ -35,6 +36,12 @@ pub fn same_batches_same_bytes()
         Replies (after_all start here) (Known a) owned r →
         Replies (after_all start there) (Known b) owned s →
         reply_text world r ≡ reply_text other s }
+    ensures files { (here there : List Reply) (a b saved other_saved : List ℕ) (world other : World)
+        (owned : List Record) (r s : Reply) →
+        KnowTheSame (after_all start here) (after_all start there) a b world other →
+        Replies (after_all start here) (Save a saved) owned r →
+        Replies (after_all start there) (Save b other_saved) owned s →
+        (file_saved world r ≡ file_saved other s) × (reply_text world r ≡ reply_text other s) }
 {}
 
 /// A script agrees with a world if its origins give each number to one batch: the world of the batches that are fed.

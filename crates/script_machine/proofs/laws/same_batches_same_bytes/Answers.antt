@@ -10,3 +10,7 @@ returns-clause-answers c = λ here there a b world other owned r s.
 pub returns-clause-lists : goal.returns-clause-lists
 returns-clause-lists c = λ here there a b world other owned r s.
     laws.same_lists (after_all start here) (after_all start there) a b world other r s
+
+pub returns-clause-files : goal.returns-clause-files
+returns-clause-files c = λ here there a b saved other_saved world other owned r s.
+    laws.same_files (after_all start here) (after_all start there) a b saved other_saved world other r s
