@@ -6,10 +6,7 @@
 //! files of a case, and is gone behind it.
 #![tactic(auto)]
 
-mod input;
-mod lines;
 mod steps;
-mod streams;
 
 use crate::steps::{run_script, run_step};
 use std::io::{Read, Write};

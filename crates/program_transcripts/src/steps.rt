@@ -1,13 +1,11 @@
 //! The steps of a case.
 
-use crate::input::{lines_meant, meant, words_meant};
-use crate::lines::write_lines;
-use crate::streams::{Input, Kind, Output};
-use command_line::command;
+use command_line::{Terminals, command};
 use std::alloc::AllocError;
 use std::io::Write;
 use std::{fs, io};
 use test_folders::aside;
+use test_steps::{Input, Kind, Output, lines_meant, meant, words_meant, write_lines};
 use test_tables::cut;
 
 /// What a command left: what it printed and said, and its status.
@@ -25,7 +23,11 @@ fn run(rt: &HostRuntime, kind: Kind, told: &str, input: &[u8]) -> Result<Ended, 
     let mut reader = Input::new(kind, input);
     let mut output = Output::new(alloc, kind);
     let mut errors = Output::errors(alloc, kind);
-    let terminals = kind.terminals();
+    let is_terminal = kind.are_terminals();
+    let terminals = Terminals {
+        output: is_terminal,
+        errors: is_terminal,
+    };
     let status = command(rt, &words, &mut reader, &mut output, &mut errors, terminals);
     Ok(Ended {
         output,

@@ -1,12 +1,13 @@
 //! Trials of what replicas do. Each makes a call in a room, and makes it again where it is refused.
 
-use crate::room::{Met, Room, met_if, twice};
+use crate::met::{Met, met_if, twice};
 use crate::sites::Site;
 use file_commands::load;
 use hash_agg::{Fnv1a, Means, MemDisk, Work};
 use replica_merge::{RefusedBatch, Replica};
 use replies::{Format, Refusal, table};
 use std::test::*;
+use test_rooms::Room;
 
 /// Delivers the batch of a site to its replica.
 fn delivered(

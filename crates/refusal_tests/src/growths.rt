@@ -1,11 +1,11 @@
 //! The same calls with all memory, for `bin/refuse_growths`, which refuses the growths of each one by one: whichever these are, the test passes.
 
-use crate::room::Room;
 use crate::sites::Site;
 use crate::trials::Trial;
 use hash_agg::{LEAST_LIMIT, USUAL_LIMIT};
 use replies::Refusal;
 use std::test::*;
+use test_rooms::Room;
 
 /// Whether a trial of which growths may be refused is right, with the least limit and with the usual one.
 fn is_right_on(rt: HostRuntime, site: &Site, trial: Trial) -> Result<bool, Refusal> {

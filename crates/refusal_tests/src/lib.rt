@@ -7,17 +7,13 @@ mod calls;
 #[cfg(test)]
 mod growths;
 #[cfg(test)]
-mod hoard;
+mod met;
 #[cfg(test)]
 mod nothing;
 #[cfg(test)]
 mod parts;
 #[cfg(test)]
-mod room;
-#[cfg(test)]
 mod rooms;
-#[cfg(test)]
-mod scripts;
 #[cfg(test)]
 mod sites;
 #[cfg(test)]

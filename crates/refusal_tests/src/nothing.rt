@@ -1,6 +1,5 @@
 //! Calls that take no memory, where there is none: each answers.
 
-use crate::hoard::Hoard;
 use crate::sites::Site;
 use chunk_contexts::{AllocSet, Bump, ChunkContext, ContextError, Generation, Slab};
 use context_tree::{Kind, Tree, TreeError};
@@ -13,6 +12,7 @@ use script_io::FusedWriter;
 use spill_tapes::{TapeError, TapeId, Tapes};
 use std::alloc::{AllocError, Global};
 use std::test::*;
+use test_rooms::Hoard;
 
 /// The bytes of a chunk.
 const CHUNK: &[u8] = b"8 bytes.";

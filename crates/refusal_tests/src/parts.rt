@@ -6,7 +6,7 @@ ghost use Rattle.origin_prefix.specs.Held.{AreHeldParts};
 ghost use Rattle.origin_prefix.specs.Parts.{IsPartOf};
 ghost use Rattle.packed_rows.specs.Columns.{kinds};
 
-use crate::room::{Met, Room, met_if, twice};
+use crate::met::{Met, met_if, twice};
 use crate::sites::Site;
 use batch_reader::PackedRows;
 use hash_agg::{Fnv1a, Input, Means, MemDisk, Run, SpillError, Work, aggregate};
@@ -18,6 +18,7 @@ use std::alloc::AllocError;
 use std::collections::BTreeMap;
 use std::test::*;
 use summary_codec::{decode, encode};
+use test_rooms::Room;
 
 /// The file of what is read of a file in a room.
 fn read_in(rt: HostRuntime, file: &[u8], room: &mut Room<'_>) -> Result<Vec<u8>, Refusal> {

@@ -1,12 +1,12 @@
 //! Calls in rooms of more and more bytes, until none is refused.
 
-use crate::hoard::Hoard;
-use crate::room::{Met, Room, met_if};
+use crate::met::{Met, met_if};
 use crate::sites::Site;
 use crate::trials::Trial;
 use hash_agg::{LEAST_LIMIT, USUAL_LIMIT};
 use replies::Refusal;
 use std::test::*;
+use test_rooms::{Hoard, Room};
 use test_tables::expect;
 
 /// How many rooms are tried at most.

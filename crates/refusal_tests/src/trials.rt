@@ -1,10 +1,11 @@
 //! Trials by name.
 
 use crate::calls::{answer, deliver, keep, merge, read};
+use crate::met::Met;
 use crate::parts::{aggregate_rows, decode_file, encode_file, join_parts};
-use crate::room::{Met, Room};
 use crate::sites::Site;
 use replies::Refusal;
+use test_rooms::Room;
 
 /// A call that is made in a room, and again where it is refused.
 #[derive(Clone, Copy)]

@@ -1,8 +1,6 @@
 //! Scripts in rooms of more and more bytes, until no command is refused. A room is entered before a script is read, or when one of its
 //! replies goes out, and left where a command is refused: of one that wants memory a run is told by what it writes.
 
-use crate::hoard::Hoard;
-use crate::room::Room;
 use replies::{Outcome, RunError};
 use script_io::{FusedReader, FusedWriter};
 use script_machine::run;
@@ -11,6 +9,7 @@ use std::alloc::{AllocError, Global};
 use std::io;
 use std::io::Write;
 use std::test::*;
+use test_rooms::{Hoard, Room};
 use test_tables::expect;
 
 /// Commands, each behind a `;` with the records that belong to it. `/` stands for the end of a line.

@@ -25,7 +25,7 @@ const MOST_BLOCKS: usize = 1 << 17;
 
 /// All memory that can be had but for a room, in blocks: those that are held all the while, and those that make a room as small as it is.
 #[derive(Drop)]
-pub(crate) struct Hoard {
+pub struct Hoard {
     alloc: Global,
     kept: Vec<Vec<u8>>,
     around: Vec<Vec<u8>>,
@@ -73,7 +73,7 @@ fn gives_addresses(rt: &HostRuntime) -> Result<bool, AllocError> {
 
 impl Hoard {
     /// Takes all memory but what rooms are made of.
-    pub(crate) fn new(rt: &HostRuntime) -> Result<Hoard, Fail> {
+    pub fn new(rt: &HostRuntime) -> Result<Hoard, Fail> {
         if !gives_addresses(rt)? {
             return Err(Fail::from(
                 "no test can take all memory here: vm.overcommit_memory is 2, or transparent huge pages are always given",
@@ -101,7 +101,7 @@ impl Hoard {
     }
 
     /// Holds all that there is but so many bytes on end.
-    pub(crate) fn leave(&mut self, room: usize) -> Result<(), AllocError> {
+    pub fn leave(&mut self, room: usize) -> Result<(), AllocError> {
         let free = Vec::<u8>::with_capacity(self.alloc, room)?;
         take_halves(self.alloc, &mut self.around, LARGE, SMALL);
         for grains in (1..=GRAINS).rev() {
@@ -112,7 +112,7 @@ impl Hoard {
     }
 
     /// Gives back what rooms are made of.
-    pub(crate) fn give_back(&mut self) {
+    pub fn give_back(&mut self) {
         self.around.clear();
     }
 }

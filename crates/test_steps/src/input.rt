@@ -43,7 +43,7 @@ fn push_meant(alloc: Global, meant: &mut Vec<u8>, told: &str) -> Result<(), Allo
 }
 
 /// The bytes that a text stands for.
-pub(crate) fn meant(alloc: Global, text: &str) -> Result<Vec<u8>, AllocError> {
+pub fn meant(alloc: Global, text: &str) -> Result<Vec<u8>, AllocError> {
     let mut pieces = text.split('{');
     let mut meant = Vec::new(alloc);
     meant.extend_from_slice(pieces.next().unwrap_or("").as_bytes())?;
@@ -56,7 +56,7 @@ pub(crate) fn meant(alloc: Global, text: &str) -> Result<Vec<u8>, AllocError> {
 }
 
 /// The bytes that lines stand for, the last of which ends too. Of no lines there are none.
-pub(crate) fn lines_meant(alloc: Global, lines: &str) -> Result<Vec<u8>, AllocError> {
+pub fn lines_meant(alloc: Global, lines: &str) -> Result<Vec<u8>, AllocError> {
     let mut bytes = meant(alloc, lines)?;
     if !lines.is_empty() {
         bytes.push(b'\n')?;
@@ -65,7 +65,7 @@ pub(crate) fn lines_meant(alloc: Global, lines: &str) -> Result<Vec<u8>, AllocEr
 }
 
 /// The words of a command, which `|` parts, behind the program's name.
-pub(crate) fn words_meant(alloc: Global, told: &str) -> Result<Vec<String>, AllocError> {
+pub fn words_meant(alloc: Global, told: &str) -> Result<Vec<String>, AllocError> {
     let mut words = Vec::new(alloc);
     words.push(String::from_str(alloc, "agg_tool")?)?;
     for word in told.split('|') {

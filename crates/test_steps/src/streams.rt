@@ -1,13 +1,12 @@
 //! The streams of a command: sound ones, and ones that fail.
 
-use command_line::Terminals;
 use std::alloc::Global;
 use std::io;
 use std::io::{Error, ErrorKind, Read, Write};
 
 /// What the streams of a command are.
 #[derive(Clone, Copy)]
-pub(crate) enum Kind {
+pub enum Kind {
     /// All are sound.
     Sound,
     /// Standard input fails at once.
@@ -24,7 +23,7 @@ pub(crate) enum Kind {
 
 impl Kind {
     /// A kind by its name.
-    pub(crate) fn named(name: &str) -> Option<Kind> {
+    pub fn named(name: &str) -> Option<Kind> {
         match name {
             "" => Some(Kind::Sound),
             "unread" => Some(Kind::Unread),
@@ -36,13 +35,9 @@ impl Kind {
         }
     }
 
-    /// Which streams are terminals.
-    pub(crate) fn terminals(self) -> Terminals {
-        let is_terminal = matches!(self, Kind::Terminal);
-        Terminals {
-            output: is_terminal,
-            errors: is_terminal,
-        }
+    /// Whether standard output and standard error are terminals.
+    pub fn are_terminals(self) -> bool {
+        matches!(self, Kind::Terminal)
     }
 
     /// Whether a bar stands before each write.
@@ -53,14 +48,14 @@ impl Kind {
 
 /// Bytes that are read, or a reader that fails.
 #[derive(Drop)]
-pub(crate) struct Input<'i> {
+pub struct Input<'i> {
     left: &'i [u8],
     fails: bool,
 }
 
 impl<'i> Input<'i> {
     /// Standard input of these bytes.
-    pub(crate) fn new(kind: Kind, bytes: &'i [u8]) -> Input<'i> {
+    pub fn new(kind: Kind, bytes: &'i [u8]) -> Input<'i> {
         Input {
             left: bytes,
             fails: matches!(kind, Kind::Unread),
@@ -79,8 +74,8 @@ impl Read for Input<'_> {
 
 /// A writer that takes so many bytes, and then fails by an error of this kind.
 #[derive(Drop)]
-pub(crate) struct Output {
-    pub(crate) taken: Vec<u8>,
+pub struct Output {
+    pub taken: Vec<u8>,
     room: usize,
     failure: ErrorKind,
     has_bars: bool,
@@ -88,7 +83,7 @@ pub(crate) struct Output {
 
 impl Output {
     /// Standard output.
-    pub(crate) fn new(alloc: Global, kind: Kind) -> Output {
+    pub fn new(alloc: Global, kind: Kind) -> Output {
         let (room, failure) = match kind {
             Kind::Short => (3, ErrorKind::Other),
             Kind::Closed => (0, ErrorKind::BrokenPipe),
@@ -103,7 +98,7 @@ impl Output {
     }
 
     /// Standard error, which takes all.
-    pub(crate) fn errors(alloc: Global, kind: Kind) -> Output {
+    pub fn errors(alloc: Global, kind: Kind) -> Output {
         Output {
             taken: Vec::new(alloc),
             room: usize::MAX,

@@ -20,7 +20,7 @@ fn write_line<W: Write>(writer: &mut W, mark: &str, line: &str) -> io::Result<()
 }
 
 /// Writes what was told, each line behind a mark, and says where the last one has no end.
-pub(crate) fn write_lines<W: Write>(writer: &mut W, mark: &str, told: &[u8]) -> io::Result<()> {
+pub fn write_lines<W: Write>(writer: &mut W, mark: &str, told: &[u8]) -> io::Result<()> {
     let text = str::from_utf8(told).unwrap_or("not UTF-8\n");
     for line in text.split_terminator('\n') {
         write_line(writer, mark, line)?;

@@ -1,0 +1,10 @@
+//! What the steps of a transcript are made of: what its texts stand for, the streams of a command, and the lines in which what these took is told.
+#![tactic(auto)]
+
+mod input;
+mod lines;
+mod streams;
+
+pub use input::{lines_meant, meant, words_meant};
+pub use lines::write_lines;
+pub use streams::{Input, Kind, Output};
