@@ -1,5 +1,5 @@
 -- Replicas that know the same are answered by the same text, and saved as the same file.
-use Rattle.std.specs.Prelude.{◌≡◌, ◌+◌, ◌≤◌, List, [], ◌∷◌, ℕ, refl, map, IsTrue, unwrap_or, Some}
+use Rattle.std.specs.Prelude.{◌≡◌, ◌+◌, ◌≤◌, List, [], ◌∷◌, ℕ, refl, map, length, IsTrue, unwrap_or, Some, codes, decimal}
 use Rattle.std.proofs.Common.{sym, ap, inl, inr, arith}
 use Rattle.grouping_model.specs.Grouping.{part}
 use Rattle.grouping_model.specs.World.{World, Knowledge, knows, prefix, early, count_up, origins, origin_rows, batch_rows}
@@ -15,6 +15,7 @@ use Rattle.group_runs.specs.Standing.{run_bytes}
 use Rattle.summary_codec.specs.File.{file_in}
 use Rattle.summary_codec.specs.WorldFile.{world_part, world_file}
 use Rattle.summary_codec.specs.declared.version.Version.TheVariants.{Second}
+use Rattle.replies.specs.Text.{line}
 use Rattle.script_machine.specs.Agreement.{KnowTheSame}
 use Rattle.script_machine.specs.Machine.{State, Reply, answer_reply, known_reply, save_reply}
 use Rattle.script_machine.specs.Text.{reply_text, file_saved}
@@ -47,11 +48,13 @@ same_rows known world other same origin =
     let within = counted_within 1 (prefix known origin) number counted in
     ap (λ rows. unwrap_or rows []) (same origin number (prefix_unbroken known origin number within.0 (omega arith))))
 
-same_early : (known : Knowledge) (world other : World) → SameKnown known world other → (origin : ℕ)
-    → map (λ (number : ℕ). (number, packings (batch_rows world origin number))) (early known origin) ≡ map (λ (number : ℕ). (number, packings (batch_rows other origin number))) (early known origin)
+abbrev packed_batch : World → ℕ → ℕ → ℕ × List (List ℕ)
+packed_batch world origin number = (number, packings (batch_rows world origin number))
+
+same_early : (known : Knowledge) (world other : World) → SameKnown known world other → (origin : ℕ) → map (packed_batch world origin) (early known origin) ≡ map (packed_batch other origin) (early known origin)
 same_early known world other same origin =
-    map_members (λ (number : ℕ). (number, packings (batch_rows world origin number))) (λ (number : ℕ). (number, packings (batch_rows other origin number))) (early known origin) (λ number listed.
-    ap (λ rows. (number, packings (unwrap_or rows []))) (same origin number ((early_are known origin number).0 (to_contains (early known origin) number listed)).0))
+    map_members (packed_batch world origin) (packed_batch other origin) (early known origin) (λ number listed.
+    λ i. (number, packings (unwrap_or (same origin number ((early_are known origin number).0 (to_contains (early known origin) number listed)).0 i) [])))
 
 same_part : (query : Checked) (known : Knowledge) (world other : World) → SameKnown known world other → (origin : ℕ) → world_part query world known origin ≡ world_part query other known origin
 same_part query known world other same origin =
@@ -72,4 +75,8 @@ pub same_files : (here there : State) (a b saved other_saved : List ℕ) (world 
     → r ≡ save_reply here.query (here.replicas a) saved → s ≡ save_reply there.query (there.replicas b) other_saved
     → (file_saved world r ≡ file_saved other s) × (reply_text world r ≡ reply_text other s)
 same_files here there a b saved other_saved world other r s k one two =
-    rw (one, two, k.asked, k.asked_there, k.knows_here, k.knows_there, sym (same_set k), same_file k.query k.known world other k.rows) (refl, refl)
+    let files = same_file k.query k.known world other k.rows in
+    rw (one, two, k.asked, k.asked_there, k.knows_here, k.knows_there, sym (same_set k)) (
+      ap (λ (bytes : List ℕ). Some bytes) files,
+      ap (λ (bytes : List ℕ). line (codes "saved ") (decimal (length bytes))) files,
+    )
