@@ -71,7 +71,7 @@ pub record IsOver {H : Type 0} (pass : Pass H) : Type 0 where
   pub fresh : IsFresh pass
   pub source : pass.lists.source ≡ []
 
--- it is the first, before which there is nothing
+-- it is the first: it stands as one that is over, and no list is left to read
 pub record IsFirst {H D : Type 0} (g : Ghosts D) (pass : Pass H) (disk : D) : Type 0 where
   pub over : IsOver pass
   pub none : HasLists (g.last disk) pass.lists [] [] []

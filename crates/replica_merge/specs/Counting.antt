@@ -15,8 +15,8 @@ MergeIsCounted query setting own [] old writes new written = (new ≡ old) × (w
 MergeIsCounted query setting own (held ∷ theirs) old writes new written =
     (work : Work) × (pages : ℕ) × JoinIsCounted query setting (part_of own held.0) held.1 old writes work pages × MergeIsCounted query setting own theirs work pages new written
 
--- the parts of all origins below one were joined before a merge came to this one: what that takes was counted, and at least so many
--- pages are written
+-- what joining the parts of all origins below one takes, one after the other: from this work and so many pages it leads to a work, which
+-- nobody is handed, and to pages, and at least so many are written
 pub record JoinedBelow (query : Query) (setting : Setting) (own theirs : Parts) (origin : ℕ) (old : Work) (writes written : ℕ) : Type 0 where
   pub lower : Parts
   pub part : Part
@@ -27,7 +27,7 @@ pub record JoinedBelow (query : Query) (setting : Setting) (own theirs : Parts) 
   pub counted : MergeIsCounted query setting own lower old writes work pages
   pub reached : pages ≤ written
 
--- a merge that is refused for the parts of an origin had joined those of all lower ones
+-- where a merge is refused for the parts of an origin, at least the pages are written that joining those of all lower ones takes
 abbrev pub JoinsInOrder : Query → Setting → (own theirs : Parts) → Work → ℕ → MergeError → ℕ → Type 0
 JoinsInOrder query setting own theirs old writes (Join origin why) written = JoinedBelow query setting own theirs origin old writes written
 JoinsInOrder query setting own theirs old writes error written = Unit {0}

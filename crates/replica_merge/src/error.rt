@@ -16,7 +16,7 @@ pub enum MergeError {
     /// Memory was wanting beside the parts of an origin.
     #[error("out of memory")]
     NoMemory,
-    /// The parts of an origin are not joined. It is the first one of these: those of all lower origins were joined before.
+    /// The parts of an origin are not joined. It is the first one of these, by rising origin: the parts of no lower one disagree.
     #[error("the parts of an origin are not joined")]
     Join {
         /// The origin.

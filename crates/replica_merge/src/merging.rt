@@ -188,7 +188,7 @@ impl Replica {
     ///
     /// `DifferentQuery`, and then by rising origin `OriginDisagrees` where its parts disagree, with the first number where they do, and
     /// want of memory or the error of the disk of tapes over which its batches are aggregated. The parts of all lower origins were joined
-    /// before.
+    /// before, by construction; `order` has what a clause can say of it.
     pub fn join<H: KeyHash + Copy, D: TapeDisk>(
         &self,
         other: &Replica,
@@ -211,6 +211,7 @@ impl Replica {
         ensures agree { IfErr result (λ e. (origin : ℕ) (number : Option ℕ) →
             e ≡ Join origin (OriginDisagrees number) → (world : World) →
             Fits world self.now → Fits world other.now → ⊥) }
+        // Over an honest disk, at least the pages are written that joining the parts of all lower origins takes.
         ensures order { IfErr result (λ e. IsTrue (D.honest disk.old) →
             JoinsInOrder (meaning self.now.query) (setting_by H.hash_of (meaning self.now.query) means.now)
             self.now.parts other.now.parts
@@ -292,6 +293,7 @@ impl Replica {
         ensures agree { IfErr result (λ e. (origin : ℕ) (number : Option ℕ) →
             e ≡ Join origin (OriginDisagrees number) → (world : World) →
             Fits world self.old → Fits world other.now → ⊥) }
+        // Over an honest disk, at least the pages are written that joining the parts of all lower origins takes.
         ensures order { IfErr result (λ e. IsTrue (D.honest disk.old) →
             JoinsInOrder (meaning self.old.query) (setting_by H.hash_of (meaning self.old.query) means.now)
             self.old.parts other.now.parts

@@ -20,7 +20,7 @@ pub fn one_reply()
         ((reply : Reply) → ¬ (Replies old request owned reply)) → ⊥ }
 {}
 
-/// Two replicas that know the same batches print and save the same bytes, be they of one script or of two: whatever the order in
+/// Two replicas of one query that know the same batches print and save the same bytes, be they of one script or of two: whatever the order in
 /// which these came, and however often, an answer is the same text, so is the list of what is known, and a file that is saved has the
 /// same bytes, under whichever name.
 pub fn same_batches_same_bytes()
@@ -41,7 +41,13 @@ pub fn same_batches_same_bytes()
         KnowTheSame (after_all start here) (after_all start there) a b world other →
         Replies (after_all start here) (Save a saved) owned r →
         Replies (after_all start there) (Save b other_saved) owned s →
-        (file_saved world r ≡ file_saved other s) × (reply_text world r ≡ reply_text other s) }
+        file_saved world r ≡ file_saved other s }
+    ensures lengths { (here there : List Reply) (a b saved other_saved : List ℕ) (world other : World)
+        (owned : List Record) (r s : Reply) →
+        KnowTheSame (after_all start here) (after_all start there) a b world other →
+        Replies (after_all start here) (Save a saved) owned r →
+        Replies (after_all start there) (Save b other_saved) owned s →
+        reply_text world r ≡ reply_text other s }
 {}
 
 /// A script agrees with a world if its origins give each number to one batch: the world of the batches that are fed.

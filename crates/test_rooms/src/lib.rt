@@ -1,4 +1,4 @@
-//! Rooms of so many bytes, for tests in which memory is refused.
+//! Rooms, for tests in which memory is refused: so many bytes, which are all the memory that a call finds.
 #![tactic(auto)]
 
 mod hoard;

@@ -12,5 +12,9 @@ returns-clause-lists c = λ here there a b world other owned r s.
     laws.same_lists (after_all start here) (after_all start there) a b world other r s
 
 pub returns-clause-files : goal.returns-clause-files
-returns-clause-files c = λ here there a b saved other_saved world other owned r s.
-    laws.same_files (after_all start here) (after_all start there) a b saved other_saved world other r s
+returns-clause-files c = λ here there a b saved other_saved world other owned r s k one two.
+    (laws.same_files (after_all start here) (after_all start there) a b saved other_saved world other r s k one two).0
+
+pub returns-clause-lengths : goal.returns-clause-lengths
+returns-clause-lengths c = λ here there a b saved other_saved world other owned r s k one two.
+    (laws.same_files (after_all start here) (after_all start there) a b saved other_saved world other r s k one two).1
