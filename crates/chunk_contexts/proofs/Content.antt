@@ -31,10 +31,6 @@ lives-first p ps name here long = grind (arith, nat_tests, common_steps)
 pub apart-places : (before : List Piece) (a b : Place) → has before a ≡ true → has before b ≡ false → same_place a b ≡ false
 apart-places before a b yes' no' = false_from_ne_true (same_place a b) (λ e. true≢false (sym yes' ∙ ap (has before) (same-place a b e) ∙ no'))
 
--- the place of a live chunk is none that is free
-apart-free : (before : List Piece) (free : Place) (other : ChunkName) → has before free ≡ false → IsTrue (is_live before other) → same_place free (place_of other) ≡ false
-apart-free before free other none lives = grind (arith, nat_tests, common_steps)
-
 -- a chunk that is the same has the same name and the same bytes
 kept : (before after : List Piece) (new other : ChunkName) → same_place (place_of new) (place_of other) ≡ false → has after (place_of other) ≡ has before (place_of other) → piece_at after (place_of other) ≡ piece_at before (place_of other)
     → IsTrue (is_live before other) → (same_place (place_of new) (place_of other) ≡ false) × (IsTrue (is_live after other)) × (bytes_of after other ≡ bytes_of before other)

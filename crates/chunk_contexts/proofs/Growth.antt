@@ -8,7 +8,6 @@ use Rattle.chunk_contexts.specs.Rooms.{over_most, room_of, class_of, rounded}
 use Rattle.chunk_contexts.specs.Free.{is_in}
 use Rattle.chunk_contexts.specs.Chunks.{IsRefused, IsResizeRefused}
 use Rattle.chunk_contexts.specs.declared.error.ContextError.{ContextError}
-use Rattle.chunk_contexts.specs.declared.error.ContextError.TheVariants.{NoMemory}
 use Rattle.chunk_contexts.specs.Run.{RunState, run_growth, run_growth_by}
 use Rattle.chunk_contexts.specs.Set.{SetState, set_growth, set_room, block_size}
 use Rattle.chunk_contexts.specs.declared.rooms.TheConstants.{BLOCK, LARGEST, MOST}
@@ -19,10 +18,6 @@ use Rattle.std.proofs.lemmas.Grind.{common_steps}
 pub refused-some : {X : Type 0} (result : Result X ContextError) (o : Option ContextError) (growth : ℕ) (f : ContextError) → IsErrAnd result (λ e. e ≡ f) → o ≡ Some f → IfErr result (IsRefused o growth)
 refused-some (Ok x) o growth f is over = tt
 refused-some (Err e) o growth f is over = subst (λ (o : Option ContextError). IsRefused o growth e) (sym over) is
-
-pub refused-none : {X : Type 0} (result : Result X ContextError) (o : Option ContextError) (growth : ℕ) → IsErrAnd result (λ e. e ≡ NoMemory) → o ≡ None → 0 < growth → IfErr result (IsRefused o growth)
-refused-none (Ok x) o growth is none grows = tt
-refused-none (Err e) o growth is none grows = subst (λ (o : Option ContextError). IsRefused o growth e) (sym none) (is, grows)
 
 pub resize-some : (o : Option ContextError) (growth room n : ℕ) (e f : ContextError) → o ≡ Some f → e ≡ f → IsResizeRefused true o growth room n e
 resize-some o growth room n e f over is = subst (λ (o : Option ContextError). IsResizeRefused true o growth room n e) (sym over) is

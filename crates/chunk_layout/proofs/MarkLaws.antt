@@ -1,5 +1,5 @@
 -- Marks after a number is added, and after two numbers are exchanged.
-use Rattle.std.proofs.Common.{◌≡◌, ◌≢◌, refl, ℕ, zero, suc, ◌+◌, ◌-◌, ◌^◌, ◌<◌, ◌≤◌, inl, inr, Bool, true, false, List, [], ◌∷◌, ◌++◌, map, length, get_or, set, cond, sym, ap, ◌∙◌, arith}
+use Rattle.std.proofs.Common.{◌≡◌, ◌≢◌, refl, ℕ, ◌+◌, ◌-◌, ◌^◌, ◌<◌, ◌≤◌, inl, inr, Bool, true, false, List, [], ◌∷◌, ◌++◌, map, length, get_or, set, cond, sym, ap, ◌∙◌, arith}
 use Rattle.std.specs.Prelude.{◌==◌, nat_lt}
 use Rattle.std.proofs.lemmas.Bool.{cases_eq, cases_lt, cond-true, cond-false, eq-eqb, ne_eqb, le-ltb}
 use Rattle.std.proofs.lemmas.List.{get_or-map, get_or_past, get_or-set_same, get_or-set_other, length-map, length-set}
@@ -24,18 +24,6 @@ marked-none places k = elim (cases_lt k (length places)) [
 
 other : (q d : ℕ) → q ≢ d → nat_lt q d ≡ nat_lt q (d + 1)
 other q d ne = grind (arith, nat_tests, common_steps)
-
--- what is added at the end is what was read past it
-push_default : {X : Type 0} → (xs : List X) (d : X) (k : ℕ) → get_or (xs ++ d ∷ []) k d ≡ get_or xs k d
-push_default [] d zero = refl
-push_default [] d (suc k) = refl
-push_default (x ∷ xs) d zero = refl
-push_default (x ∷ xs) d (suc k) = push_default xs d k
-
--- a number is added to two lists, each of which tells where a number stands in the other
-each-more : (a b : List ℕ) (n : ℕ) → length a ≡ n → length b ≡ n → ((i : ℕ) → i < n → (get_or a i 0 < n) × (get_or b (get_or a i 0) 0 ≡ i))
-    → (i : ℕ) → i < n + 1 → (get_or (a ++ n ∷ []) i 0 < n + 1) × (get_or (b ++ n ∷ []) (get_or (a ++ n ∷ []) i 0) 0 ≡ i)
-each-more a b n a-long b-long each i low = grind (arith, nat_tests, common_steps)
 
 -- the numbers are added to those that are arranged, without a mark
 module _ (order places : List ℕ) (is : IsArranged order places) (n : ℕ) (next : n ≡ length order) where

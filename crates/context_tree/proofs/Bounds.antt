@@ -1,5 +1,5 @@
 -- What all contexts hold together.
-use Rattle.std.proofs.Common.{◌≡◌, ℕ, zero, suc, ◌+◌, ◌<◌, ◌≤◌, Bool, true, false, List, [], ◌∷◌, Option, Some, None, length, get_or, cond, set, drop, refl, ap, ◌∙◌, arith}
+use Rattle.std.proofs.Common.{◌≡◌, ℕ, zero, suc, ◌+◌, ◌<◌, ◌≤◌, Bool, true, false, List, [], ◌∷◌, Option, Some, None, length, get_or, cond, set, refl, ap, arith}
 use Rattle.std.specs.Prelude.{is_some, nat_le}
 use Rattle.chunk_contexts.specs.Rooms.{rounded, over_most}
 use Rattle.chunk_contexts.specs.Free.{is_in}
@@ -61,14 +61,6 @@ growth-admitted (AllocSet s) n grows = set-refused s n (over_most n) refl grows
 growth-admitted (Slab s) n grows = slab-refused s n (slab_refusal s n) refl grows
 growth-admitted (Generation s) n grows = run-refused 8 s n (over_most n) refl grows
 growth-admitted (Bump s) n grows = run-refused 0 s n (over_most n) refl grows
-
--- ---- the sum
-pub all-step : (cs : List Context) (slot : ℕ) → slot < length cs → held_by_all (drop slot cs) ≡ held_by (get_or cs slot no_context) + held_by_all (drop (slot + 1) cs)
-all-step [] slot low = absurd (omega (arith, low))
-all-step (c ∷ cs) zero low = refl
-all-step (c ∷ cs) (suc slot) low =
-    let next : suc (slot + 1) ≡ suc slot + 1 = omega arith in
-    all-step cs slot (omega (arith, low)) ∙ ap (λ (n : ℕ). held_by (get_or cs slot no_context) + held_by_all (drop n (c ∷ cs))) next
 
 pub all-set : (cs : List Context) (slot : ℕ) (c : Context) → slot < length cs → held_by_all (set cs slot c) + held_by (get_or cs slot no_context) ≡ held_by_all cs + held_by c
 all-set [] slot c low = absurd (omega (arith, low))

@@ -2,10 +2,8 @@
 use Rattle.std.proofs.Common.{◌≡◌, ℕ, zero, suc, ◌+◌, ◌<◌, ◌≤◌, inl, inr, Bool, true, false, List, [], ◌∷◌, Option, Some, None, length, get_or, cond, set, drop, refl, sym, ap, ◌∙◌, subst, arith}
 use Rattle.std.specs.Prelude.{is_some, unwrap_or, Result, Ok, Err, IsErrAnd, IfErr}
 use Rattle.std.proofs.lemmas.Bool.{cases_Bool, cases_eq, cond-true, cond-false, false≢true}
-use Rattle.chunk_contexts.specs.Chunks.{IsRefused}
 use Rattle.chunk_contexts.specs.declared.error.ContextError.{ContextError}
-use Rattle.chunk_contexts.specs.declared.error.ContextError.TheVariants.{NoMemory}
-use Rattle.context_tree.specs.Contexts.{no_context, new_context, refusal_of, growth_of, held_by}
+use Rattle.context_tree.specs.Contexts.{no_context, new_context, held_by}
 use Rattle.context_tree.specs.Links.{stamp_of, is_below, cleared, placed}
 use Rattle.std.specs.List.{refill}
 use Rattle.std.proofs.lemmas.List.{get_or-set_same, get_or-set_other, get_or_default, get_or_read, length-set, set-get_or}
@@ -18,7 +16,7 @@ use Rattle.context_tree.specs.declared.error.TreeError.TheVariants.{NoSuchContex
 use Rattle.context_tree.specs.declared.kind.Kind.{Kind}
 use Rattle.context_tree.specs.declared.links.ContextId.{ContextId}
 use Rattle.context_tree.specs.declared.tree.Tree.TheInside.{Inside}
-use Rattle.context_tree.proofs.Bounds.{growth-admitted, all-set, all-placed, all-cleared, nothing-held}
+use Rattle.context_tree.proofs.Bounds.{all-set, all-placed, all-cleared, nothing-held}
 use Rattle.context_tree.proofs.Clearing.{length-cleared, get_or-cleared, is-cleared, low-there}
 use Rattle.context_tree.specs.declared.context.Context.{Context}
 use Rattle.context_tree.specs.declared.links.Link.{Link}
@@ -188,10 +186,6 @@ module _ {X : Type 0} (P : ContextError → Type 0) (there : Bool) where
   pub refused-own : (result : Result X TreeError) (own : ContextError) → IsErrAnd result (λ f. f ≡ error.Context own) → there ≡ true → P own → IfErr result (IsRefusedBy there P)
   refused-own (Ok x) own is here so = tt
   refused-own (Err f) own is here so = subst (λ (b : Bool). IsRefusedBy b P f) (sym here) (own, is, so)
-
--- no growth is refused for what is asked
-pub refused-growth : (c : Context) (n : ℕ) → 0 < growth_of c n → IsRefused (refusal_of c n) (growth_of c n) NoMemory
-refused-growth c n grows = subst (λ (o : Option ContextError). IsRefused o (growth_of c n) NoMemory) (sym (growth-admitted c n grows)) (refl, grows)
 
 -- why no context is made
 pub not-made : {there spent here none : Bool} {refusal why : Option ContextError} (e : TreeError) → there ≡ here → spent ≡ none → refusal ≡ why → IsNotMade here none why e → IsNotMade there spent refusal e

@@ -27,10 +27,6 @@ use Rattle.grouping_model.proofs.GroupLaws.{put-map, part_one_more}
 use Rattle.group_runs.specs.Adding.{row_added, rows_added, merged, group_added, groups_added}
 use Rattle.group_runs.specs.MergeLaws.{AreApart, apart_from, nothing_rises, puts, puts_rise, rising_apart}
 
-pub rows_added_more : (q : Query) (gs : List Group) (rows : List Row) (row : Row) → rows_added q gs (rows ++ row ∷ []) ≡ row_added q (rows_added q gs rows) row
-rows_added_more q gs [] row = refl
-rows_added_more q gs (r ∷ rows) row = rows_added_more q (row_added q gs r) rows row
-
 -- the part of rows and one more
 pub row_added_part : (q : Query) (kinds : List Kind) (rows : List Row) (row : Row) → HasKinds kinds row → row_added q (part q rows) row ≡ part q (rows ++ row ∷ [])
 row_added_part q kinds rows row has =

@@ -1,20 +1,14 @@
 -- Laws: the union of what is known, and the unbroken prefix; nothing here is a definition.
-use Rattle.std.specs.Prelude.{◌≡◌, refl, T, ◌||◌, List, ◌∷◌, ◌++◌}
+use Rattle.std.specs.Prelude.{◌≡◌, ◌||◌, List, ◌∷◌, ◌++◌}
 use Rattle.std.proofs.Common.{sym, ◌∙◌, ap, subst, arith}
-use Rattle.std.specs.declared.cmp.Ordering.{Ordering}
-use Rattle.std.specs.declared.cmp.Ordering.TheVariants.{Less, Equal, Greater}
-use Rattle.std.specs.Ordering.{ordering_then, eq_by_cmp, is_eq}
+use Rattle.std.specs.declared.cmp.Ordering.TheVariants.{Equal}
+use Rattle.std.specs.Ordering.{eq_by_cmp}
 use Rattle.std.specs.List.Sorted.{IsStrictlySortedBy, IsStrictlySortedBy-prop}
 use Rattle.grouping_model.specs.Rising.{is_among}
 use Rattle.grouping_model.specs.Rising.Facts.{among-append, among-distinct, same_members, or_comm, or_assoc, or_itself}
 use Rattle.grouping_model.specs.World.{Batch, batch_cmp, batch_cmp_total, Knowledge, knowing, nothing, knows, learn, union}
 use Rattle.std.proofs.lemmas.Bool.Decides.{nat_tests}
 use Rattle.std.proofs.lemmas.Grind.{common_steps}
-
-then_ties : (r s : Ordering) → ordering_then r s ≡ Equal → (r ≡ Equal) × (s ≡ Equal)
-then_ties Less s e = absurd (subst (λ r. T (is_eq r)) (sym e) tt)
-then_ties Equal s e = (refl, e)
-then_ties Greater s e = absurd (subst (λ r. T (is_eq r)) (sym e) tt)
 
 pub batch_cmp_ties : (x y : Batch) → batch_cmp x y ≡ Equal → x ≡ y
 batch_cmp_ties (o, n) (p, m) e = grind (arith, nat_tests, common_steps)

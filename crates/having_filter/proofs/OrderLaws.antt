@@ -1,11 +1,10 @@
 -- The order of a query is that of its canonical text.
 use Rattle.std.proofs.Common.{◌≡◌, ◌<◌, ◌≤◌, ◌+◌, ◌-◌, ◌&&◌, ℕ, pos, ℤ, Bool, true, false, cond, List, [], ◌∷◌, map, length, position, Option, Some, None, option_map, refl, ap, sym, ◌∙◌, subst, arith}
-use Rattle.std.specs.Prelude.{nat_le, unwrap_or, is_some, Ok, FitsSigned}
+use Rattle.std.specs.Prelude.{nat_le, is_some, Ok, FitsSigned}
 use Rattle.std.specs.Int.{w64}
 use Rattle.std.proofs.lemmas.Int.{ints}
 use Rattle.grouping_model.specs.declared.limits.TheConstants.{MOST_ITEMS}
 use Rattle.query_checks.specs.Writable.{IsTerm}
-use Rattle.std.proofs.Math.Dec.{leb}
 use Rattle.std.specs.List.{AllByRecursion, list_any, list_all, filter_map, cons_option}
 use Rattle.std.proofs.lemmas.List.{length-map}
 use Rattle.std.proofs.lemmas.List.Quantifiers.{position-Some}
@@ -13,7 +12,7 @@ use Rattle.query_checks.specs.declared.order.OrderTerm.{OrderTerm}
 use Rattle.query_checks.specs.Forms.{Form, Column}
 use Rattle.query_checks.specs.Order.{Target, By_name, By_place, Term, Asked, has_name, item_at, item_meant, is_ambiguous, ordered_by, term_meant, same_item, order_of, names_items}
 use Rattle.query_checks.specs.Sameness.{first_of_each}
-use Rattle.query_checks.specs.Spelling.{nulls_said, canonical_item, canonical_term, canonical}
+use Rattle.query_checks.specs.Spelling.{canonical_item, canonical_term, canonical}
 use Rattle.query_checks.specs.Checks.{checked_order}
 use Rattle.query_checks.specs.DistinctLaws.{all_distinct, distinct_again}
 use Rattle.having_filter.specs.Kept.{IsTermOf}
@@ -85,12 +84,6 @@ terms_fit items few [] all = tt
 terms_fit items few (term ∷ terms) all = (record { target = place_fits (length items) term.item few all.0.within }, terms_fit items few terms all.1)
 
 -- ---- a term by the place of its item means this item again
-
-nulls_back : (descending nulls_first : Bool) → unwrap_or (nulls_said descending nulls_first) descending ≡ nulls_first
-nulls_back false false = refl
-nulls_back false true = refl
-nulls_back true true = refl
-nulls_back true false = refl
 
 place_back : (many item : ℕ) → item < many → item_at many (pos (item + 1)) ≡ Some item
 place_back many item h = grind (arith, nat_tests, common_steps)

@@ -1,10 +1,9 @@
 -- How rows compare by the terms of ORDER BY, and their places in that order.
-use Rattle.std.specs.Prelude.{◌≡◌, ◌≢◌, refl, ℕ, ◌+◌, ◌<◌, ◌≤◌, List, [], map, drop, length, slice_index_or}
+use Rattle.std.specs.Prelude.{◌≡◌, ◌≢◌, ℕ, ◌+◌, ◌<◌, ◌≤◌, List, [], map, drop, length, slice_index_or}
 use Rattle.std.proofs.Common.{sym, ◌∙◌, ap, get_or, arith}
 use Rattle.std.proofs.lemmas.List.{drop_all}
 use Rattle.std.specs.declared.cmp.Ordering.{Ordering}
-use Rattle.std.specs.declared.cmp.Ordering.TheVariants.{Less, Equal, Greater}
-use Rattle.std.specs.Ordering.{ordering_then}
+use Rattle.std.specs.declared.cmp.Ordering.TheVariants.{Equal}
 use Rattle.grouping_model.specs.Aggregates.{Outcome, Plain}
 use Rattle.grouping_model.specs.Datum.{Null}
 use Rattle.grouping_model.specs.Order.{by_term, terms_cmp, ordered}
@@ -13,18 +12,6 @@ use Rattle.having_filter.specs.Meaning.{order_term}
 use Rattle.query_checks.specs.declared.order.OrderTerm.{OrderTerm}
 use Rattle.std.proofs.lemmas.Bool.Decides.{nat_tests}
 use Rattle.std.proofs.lemmas.Grind.{common_steps}
-
--- the terms from one on
-pub terms_from : (terms : List OrderTerm) (i : ℕ) (term : OrderTerm) (a b : List Outcome) (x y : Outcome) → i < length terms
-    → x ≡ slice_index_or a (get_or terms i term).item (Plain Null) → y ≡ slice_index_or b (get_or terms i term).item (Plain Null)
-    → terms_cmp (map order_term (drop i terms)) a b ≡ ordering_then (by_term (order_term (get_or terms i term)) x y) (terms_cmp (map order_term (drop (i + 1) terms)) a b)
-terms_from terms i term a b x y low first second = grind (arith, nat_tests, common_steps)
-
--- a term that tells two apart
-told_apart : (order rest : Ordering) → order ≢ Equal → order ≡ ordering_then order rest
-told_apart Less rest apart = refl
-told_apart Equal rest apart = absurd (apart refl)
-told_apart Greater rest apart = refl
 
 pub apart_at : (terms : List OrderTerm) (i : ℕ) (term : OrderTerm) (a b : List Outcome) (x y : Outcome) (order : Ordering) → terms_cmp (map order_term terms) a b ≡ terms_cmp (map order_term (drop i terms)) a b
     → i < length terms → x ≡ slice_index_or a (get_or terms i term).item (Plain Null) → y ≡ slice_index_or b (get_or terms i term).item (Plain Null)

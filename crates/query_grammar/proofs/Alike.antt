@@ -119,11 +119,6 @@ binds d one two most f g h k a next = record {
   stays_too = record { within = λ ts. within_bind (length ts) (g ts) k (a.stays_too.within ts) (λ x. (next x).stays_too) };
 }
 
-within_choose : {A : Type 0} (b : Bool) (t : Lexeme) (us : List Lexeme) (there : List Lexeme → Read A) (otherwise : Read A) → Stays there → Within (length (t ∷ us)) otherwise
-    → Within (length (t ∷ us)) (choose (cond b (Some us) None) there otherwise)
-within_choose true t us there otherwise s h = within_more (length us) (length (t ∷ us)) (there us) (omega arith) (s.within us)
-within_choose false t us there otherwise s h = h
-
 pub within_chosen : {A : Type 0} (test : Lexeme → Bool) (there otherwise : List Lexeme → Read A) → Stays there → Stays otherwise → Stays (λ ts. choose (after test ts) there (otherwise ts))
 within_chosen test there otherwise s h = grind (arith, nat_tests, common_steps)
 

@@ -85,9 +85,6 @@ unfolding list_at
 one_fault one zero ts f e = rw e refl
 one_fault one (suc turns) ts f e = rw e refl
 
-other_turn : {A : Type 0} (one : List Lexeme → Read A) (n : ℕ) (ts behind : List Lexeme) → after (is_sign symbols.Comma) ts ≡ Some behind → others_at one (suc n) ts ≡ list_at one n behind
-other_turn one n ts behind e = rw e refl
-
 shorter : {A : Type 0} (r : Read A) (y : A) (next behind : List Lexeme) → r ≡ Ok (y, next) → Within (length behind) r → length next ≤ length behind
 shorter (Ok z) y next behind e h = let same : z.1 ≡ next = cc in rw (sym same) h
 shorter (Err f) y next behind e h = absurd cc

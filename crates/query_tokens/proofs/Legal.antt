@@ -1,10 +1,9 @@
 -- Each lexeme that is read is one that a text can have.
-use Rattle.std.proofs.Common.{◌≡◌, ℕ, zero, suc, ◌+◌, ◌-◌, ◌<◌, ◌≤◌, ◌^◌, Bool, true, false, cond, ltb, leb, List, [], ◌∷◌, length, get_or, take, drop, map, Option, Some, None, Result, Ok, Err, refl, subst, arith}
-use Rattle.std.specs.Prelude.{Contains, ℤ, pos, neg_ℤ, FitsSigned, ◌==◌, ◌&&◌}
-use Rattle.std.specs.Int.{w64}
+use Rattle.std.proofs.Common.{◌≡◌, ℕ, zero, suc, ◌+◌, ◌-◌, ◌<◌, Bool, true, false, cond, ltb, List, [], ◌∷◌, length, get_or, take, drop, map, Option, Some, None, Result, Ok, Err, refl, subst, arith}
+use Rattle.std.specs.Prelude.{Contains, ◌==◌, ◌&&◌}
 use Rattle.std.specs.Char.{is_ascii_digit, to_ascii_lowercase}
 use Rattle.std.specs.List.{prefix_len, list_any, list_all, All}
-use Rattle.std.proofs.lemmas.Bool.{leb-true, ltb-true, ltb-false}
+use Rattle.std.proofs.lemmas.Bool.{ltb-false}
 use Rattle.std.proofs.lemmas.List.{length-map}
 use Rattle.std.proofs.lemmas.List.Elements.{All-cons}
 use Rattle.std.proofs.lemmas.List.Folds.{length-prefix_len}
@@ -14,9 +13,9 @@ use Rattle.query_tokens.specs.declared.fault.Fault.{Fault}
 use Rattle.query_tokens.specs.declared.fault.Fault.TheVariants.{Syntax}
 use Rattle.query_tokens.specs.declared.word.Symbol.{Symbol}
 use Rattle.query_tokens.specs.declared.word.Token.{Token}
-use Rattle.query_tokens.specs.Words.{Lexeme, Name, Integer, Text, Sign, Placed, lexeme_of, all_placed}
+use Rattle.query_tokens.specs.Words.{Lexeme, Name, Text, Sign, Placed, lexeme_of, all_placed}
 use Rattle.query_tokens.specs.Bytes.{is_space, begins_name, is_in_name, first_is, symbol_of_one, symbol_of_two}
-use Rattle.query_tokens.specs.Tokens.{◌>>=◌, integer_of, integer_or_fault, name_at, integer_at, string_content, text_or_fault, text_at, symbol_or_fault, longest_symbol, symbol_at, word_at, tokens_at, tokens_in}
+use Rattle.query_tokens.specs.Tokens.{◌>>=◌, name_at, integer_at, string_content, text_or_fault, text_at, symbol_or_fault, longest_symbol, symbol_at, word_at, tokens_at, tokens_in}
 use Rattle.query_tokens.specs.Spelling.{IsName, IsLexeme, lexemes_of, lexemes_read, text_of, with_spaces}
 use Rattle.query_tokens.proofs.Pieces.{spaced_again}
 use Rattle.std.proofs.lemmas.Bool.Decides.{nat_tests}
@@ -85,25 +84,6 @@ name_legal at b bs h =
     let len = prefix_len is_in_name (b ∷ bs) in
     either (ltb LONGEST_NAME len) (Err (Syntax at)) (Ok (Name (map to_ascii_lowercase (take len (b ∷ bs))), drop len (b ∷ bs))) (λ _. fails (Syntax at))
     (λ short. reads (Name (map to_ascii_lowercase (take len (b ∷ bs)))) (drop len (b ∷ bs)) (legal_name b bs h short))
-
-record IntegerFits (o : Option ℤ) : Type 0 where
-  fits : (z : ℤ) → o ≡ Some z → FitsSigned w64 z
-
-fits_if : (t : Bool) (z : ℤ) → (t ≡ true → FitsSigned w64 z) → IntegerFits (cond t (Some z) None)
-fits_if true z h = record { fits = λ y e. let same : z ≡ y = cc in subst (λ (x : ℤ). FitsSigned w64 x) same (h refl) }
-fits_if false z h = record { fits = λ y e. absurd cc }
-
-negated_fits : (n : ℕ) → n ≤ 2 ^ 63 → FitsSigned w64 (neg_ℤ (pos n))
-negated_fits zero h = record { sfits = omega arith }
-negated_fits (suc n) h = record { sfits = omega (arith, h) }
-
-integer_fits : (negative : Bool) (n : ℕ) → IntegerFits (integer_of negative n)
-integer_fits true n = fits_if (leb n (2 ^ 63)) (neg_ℤ (pos n)) (λ h. negated_fits n (leb-true n (2 ^ 63) h))
-integer_fits false n = fits_if (ltb n (2 ^ 63)) (pos n) (λ h. record { sfits = ltb-true n (2 ^ 63) h })
-
-integer_or_legal : (o : Option ℤ) (rest : List ℕ) → IntegerFits o → ReadsLegal (integer_or_fault o rest)
-integer_or_legal None rest h = fails _
-integer_or_legal (Some z) rest h = reads (Integer z) rest (h.fits z refl)
 
 integer_legal : (at : ℕ) (negative : Bool) (bytes : List ℕ) → ReadsLegal (integer_at at negative bytes)
 unfolding integer_at

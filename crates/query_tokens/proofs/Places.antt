@@ -1,6 +1,6 @@
 -- Where tokens and faults stand.
 use Rattle.std.proofs.Common.{◌≡◌, ℕ, zero, suc, ◌+◌, ◌-◌, ◌<◌, ◌≤◌, Bool, true, false, cond, List, [], ◌∷◌, length, Option, Some, None, Result, Ok, Err, refl, arith}
-use Rattle.std.specs.Prelude.{ℤ, ◌==◌, ◌&&◌}
+use Rattle.std.specs.Prelude.{◌==◌, ◌&&◌}
 use Rattle.std.specs.Char.{is_ascii_digit}
 use Rattle.std.specs.List.{list_any}
 use Rattle.query_tokens.specs.declared.fault.Fault.{Fault}
@@ -8,7 +8,7 @@ use Rattle.query_tokens.specs.declared.fault.Fault.TheVariants.{Syntax, NumberTo
 use Rattle.query_tokens.specs.declared.word.Symbol.{Symbol}
 use Rattle.query_tokens.specs.Words.{Lexeme, Text, Placed, RiseWithin}
 use Rattle.query_tokens.specs.Bytes.{is_space, begins_name, first_is, symbol_of_one, symbol_of_two}
-use Rattle.query_tokens.specs.Tokens.{◌>>=◌, integer_or_fault, name_at, integer_at, string_content, text_or_fault, text_at, symbol_or_fault, longest_symbol, symbol_at, word_at, tokens_at, tokens_in}
+use Rattle.query_tokens.specs.Tokens.{◌>>=◌, name_at, integer_at, string_content, text_or_fault, text_at, symbol_or_fault, longest_symbol, symbol_at, word_at, tokens_at, tokens_in}
 use Rattle.std.proofs.lemmas.Bool.Decides.{nat_tests}
 use Rattle.std.proofs.lemmas.Grind.{common_steps}
 
@@ -40,10 +40,6 @@ either false at x y h k = k
 name_faults : (at : ℕ) (bytes : List ℕ) → FaultsAt at (name_at at bytes)
 unfolding name_at
 name_faults at bytes = grind (arith, nat_tests, common_steps)
-
-integer_or_faults : (at : ℕ) (o : Option ℤ) (rest : List ℕ) → FaultsAt at (integer_or_fault o rest)
-integer_or_faults at None rest = too_large at
-integer_or_faults at (Some z) rest = reads at _
 
 integer_faults : (at : ℕ) (negative : Bool) (bytes : List ℕ) → FaultsAt at (integer_at at negative bytes)
 unfolding integer_at

@@ -22,10 +22,6 @@ one_before : (b : ℕ) (read : Option (List ℕ × List ℕ)) → and_before b r
 one_before b None = refl
 one_before b (Some x) = refl
 
-cons_before : (b : ℕ) (piece : List ℕ) (read : Option (List ℕ × List ℕ)) → and_before b (with_front piece read) ≡ with_front (b ∷ piece) read
-cons_before b piece None = refl
-cons_before b piece (Some x) = refl
-
 -- with no quote left, the string is open
 open_at : (t : Bool) (b : ℕ) (bs : List ℕ) → is_quote b ≡ t → (position_or_len is_quote bs ≡ length bs → string_content false bs ≡ None) → position_or_len is_quote (b ∷ bs) ≡ length (b ∷ bs) → string_content false (b ∷ bs) ≡ None
 unfolding string_content

@@ -1,6 +1,6 @@
 -- Reading tokens one after the other, as a loop does.
 use Rattle.std.proofs.Common.{◌≡◌, ℕ, zero, suc, ◌+◌, ◌-◌, ◌≤◌, ◌<◌, Bool, true, false, cond, ltb, List, [], ◌∷◌, ◌++◌, length, get_or, drop, take, map, Option, Some, None, Result, Ok, Err, refl, sym, ap, ◌∙◌, append_assoc, arith}
-use Rattle.std.proofs.lemmas.List.{length-append, length-drop}
+use Rattle.std.proofs.lemmas.List.{length-drop}
 use Rattle.query_tokens.specs.declared.fault.Fault.{Fault}
 use Rattle.query_tokens.specs.declared.fault.TokenError.{TokenError}
 use Rattle.query_tokens.specs.declared.fault.TokenError.TheVariants as errors
@@ -199,22 +199,6 @@ pub is_done : (size : ℕ) (front : List Placed) (rest : List ℕ) (total : Resu
 unfolding tokens_at
 is_done size front (b ∷ bs) total none so_far = absurd (omega (arith, none))
 is_done size front [] total none so_far = grind (arith, nat_tests, common_steps)
-
-abbrev IsLonger : ℕ → Result (List Placed) Fault → Type 0
-IsLonger n (Ok ts) = n < length ts
-IsLonger n (Err f) = Unit {0}
-
--- what is read is more than so many tokens, or has a fault
-record Grows (n : ℕ) (read : Result (List Placed) Fault) : Type 0 where
-  grows : IsLonger n read
-
-behind_grows : (front : List Placed) (t : Placed) (read : Result (List Placed) Fault) → Grows (length front) (with_front front (read >>= λ ts. Ok (t ∷ ts)))
-behind_grows front t (Ok ts) = record { grows = (let long = length-append front (t ∷ ts) in omega (arith, long)) }
-behind_grows front t (Err f) = record { grows = tt {0} }
-
-word_grows : (front : List Placed) (at : ℕ) (word : Result (Lexeme × List ℕ) Fault) (more : Lexeme × List ℕ → Result (List Placed) Fault) → Grows (length front) (with_front front (word >>= λ w. more w >>= λ ts. Ok (record { at = at; lexeme = w.0 } ∷ ts)))
-word_grows front at (Ok w) more = behind_grows front (record { at = at; lexeme = w.0 }) (more w)
-word_grows front at (Err f) more = record { grows = tt {0} }
 
 -- where a byte is left that is no white space, a text that has tokens has more than were read
 pub more_left : (size : ℕ) (front : List Placed) (rest : List ℕ) (total : Result (List Placed) Fault) (ts : List Placed) → 0 < length rest → is_space (get_or rest 0 0) ≡ false → Told size front rest total → total ≡ Ok ts → length front < length ts

@@ -117,12 +117,6 @@ text_own at b bs is = subst (λ (n : ℕ). ReadsOwn (n ∷ bs) (text_at at bs)) 
 record OwnByte (a : ℕ) (o : Option Symbol) : Type 0 where
   says : (s : Symbol) → o ≡ Some s → a ∷ [] ≡ spell_symbol s
 
-no_byte : (a : ℕ) → OwnByte a None
-no_byte a = record { says = λ s e. absurd cc }
-
-byte_if : (a n : ℕ) (symbol : Symbol) (o : Option Symbol) → spell_symbol symbol ≡ n ∷ [] → OwnByte a o → OwnByte a (cond (a == n) (Some symbol) o)
-byte_if a n symbol o spelled more = grind (arith, nat_tests, common_steps)
-
 byte_own : (a : ℕ) → OwnByte a (symbol_of_one a)
 unfolding symbol_of_one
 byte_own a = grind (arith, nat_tests, common_steps)
@@ -131,16 +125,10 @@ byte_own a = grind (arith, nat_tests, common_steps)
 record OwnBytes (a b : ℕ) (o : Option Symbol) : Type 0 where
   says : (s : Symbol) → o ≡ Some s → IsTextOf (Sign s) (a ∷ b ∷ [])
 
-no_bytes : (a b : ℕ) → OwnBytes a b None
-no_bytes a b = record { says = λ s e. absurd cc }
-
 both : (t u : Bool) → (t && u) ≡ true → (t ≡ true) × (u ≡ true)
 both true true h = (refl, refl)
 both true false h = absurd cc
 both false u h = absurd cc
-
-bytes_if : (a b m n : ℕ) (symbol : Symbol) (o : Option Symbol) → IsTextOf (Sign symbol) (m ∷ n ∷ []) → OwnBytes a b o → OwnBytes a b (cond (a == m && b == n) (Some symbol) o)
-bytes_if a b m n symbol o spelled more = grind (arith, nat_tests, common_steps)
 
 bytes_own : (a b : ℕ) → OwnBytes a b (symbol_of_two a b)
 unfolding symbol_of_two

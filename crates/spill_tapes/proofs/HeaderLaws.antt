@@ -55,11 +55,6 @@ after_header before after t t' h bytes hash tag len fill left records some (r �
       bytes = told.1;
     }
 
--- and then the record can stand there
-ends : (records len left : ℕ) (others : List Record) → records ≡ length others + 1 → left ≡ len + length (tape_bytes others) → (nat_lt 1 records || len == left) ≡ true
-ends records len left [] number is = let same : len ≡ left = omega (arith, is) in grind (arith, nat_tests)
-ends records len left (r ∷ rs) number is = let more : 1 < records = omega (arith, number) in grind (arith, nat_tests)
-
 pub can_stand : (last : ℕ → ℕ → Type 0) (t : TapeState) (h : Header) (rs : List Record) → IsAfterHeader last t h rs → (nat_lt h.tag 2 && nat_le h.len 65535 && nat_le h.len t.left && (nat_lt 1 t.records || h.len == t.left)) ≡ true
 can_stand last t h rs had = grind (arith, nat_tests, common_steps)
 
@@ -94,10 +89,6 @@ gives_with P Q rs bytes (Some x) f told = (told.0, told.1, f told.0 told.2)
 
 pub ended_gives : (last : ℕ → ℕ → Type 0) (t t' : TapeState) (rs : List Record) (bytes : List ℕ) (found : Option (ℕ × ℕ)) → t' ≡ ended t → Gives (AreAhead last t) rs bytes found → Gives (AreAhead last t') rs bytes found
 ended_gives last t t' rs bytes found is told = gives_with (AreAhead last t) (AreAhead last t') rs bytes found (λ xs had. subst (λ (y : TapeState). AreAhead last y xs) (sym is) (ended_ahead last t xs had)) told
-
--- what a record that can stand there has
-is_last : (records len left : ℕ) → (nat_lt 1 records || len == left) ≡ true → records ≡ 1 → len ≡ left
-is_last records len left is one = grind (arith, nat_tests)
 
 pub stands : (tag len left records : ℕ) → (nat_lt tag 2 && nat_le len 65535 && nat_le len left && (nat_lt 1 records || len == left)) ≡ true → (tag < 2) × (len ≤ 65535) × (len ≤ left) × (records ≡ 1 → len ≡ left)
 stands tag len left records is = grind (arith, nat_tests, common_steps)

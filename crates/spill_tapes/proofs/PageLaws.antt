@@ -1,5 +1,5 @@
 -- The bytes of the pages of a tape.
-use Rattle.std.specs.Prelude.{◌≡◌, ◌≢◌, ℕ, ◌+◌, ◌-◌, ◌*◌, ◌<◌, ◌≤◌, ◌⊎◌, List, [], ◌∷◌, ◌++◌, length, get_or, take, drop}
+use Rattle.std.specs.Prelude.{◌≡◌, ℕ, ◌+◌, ◌-◌, ◌*◌, ◌<◌, ◌≤◌, List, [], ◌∷◌, ◌++◌, length, get_or, take, drop}
 use Rattle.std.proofs.Common.{refl, sym, ◌∙◌, ap, subst, arith, length-append}
 use Rattle.std.proofs.lemmas.List.{append-nil, append_assoc, flat_map_more, ext_get_or, take-append-drop, length-take-le, length-drop, take_at, drop_at, take-append-le, drop-append-le, drop-drop, drop_all}
 use Rattle.tape_disks.specs.Calls.{AreLast, AreReadAt, Keeps, KeepsBeside}
@@ -8,10 +8,6 @@ use Rattle.spill_tapes.specs.Tape.{TapeState, join, spent, HasWritten, HasAhead}
 use Rattle.spill_tapes.proofs.PoolLaws.{same_one, apart_page}
 use Rattle.std.proofs.lemmas.Bool.Decides.{nat_tests}
 use Rattle.std.proofs.lemmas.Grind.{common_steps}
-
--- a write to one page leaves the others
-beside : (page other k : ℕ) → k < 8192 → other ≢ page → (other * 8192 + k < page * 8192) ⊎ (page * 8192 + 8192 ≤ other * 8192 + k)
-beside page other k small differ = grind arith
 
 pub keeps_pages : (before after : ℕ → ℕ → Type 0) (pool : PoolState) (page n : ℕ) → IsFresh pool page → n ≡ 8192 → KeepsBeside before after (page * 8192) n → KeepsPages pool before after
 keeps_pages before after pool page n fresh is keeps other given out k byte small here = grind (arith, nat_tests, common_steps)

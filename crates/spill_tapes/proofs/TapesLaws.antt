@@ -61,31 +61,6 @@ closed_past t id past = ap (λ (x : TapeState). x.phase) (get_or_past t.tapes id
 pub none_past : (t : TapesState) (tape : TapeId) → tape.index ≡ length t.tapes → tape_at t tape ≡ no_tape
 none_past t tape end = get_or_past t.tapes tape.index no_tape (omega (arith, end))
 
--- a tape that is read
-pub read_has : (last : ℕ → ℕ → Type 0) (t : TapeState) (rs : List Record) → t.phase ≡ Read → Has last t rs → AreAhead last t rs
-read_has last t rs phase had = subst (λ (ph : Phase). HasIn ph last t rs) phase had
-
-pub is_reading : (phase : Phase) → is_in Read phase ≡ true → phase ≡ Read
-is_reading Read h = refl
-is_reading _ h = cc
-
-pub has_read : (last : ℕ → ℕ → Type 0) (t : TapeState) (rs : List Record) → t.phase ≡ Read → AreAhead last t rs → Has last t rs
-has_read last t rs phase had = subst (λ (ph : Phase). HasIn ph last t rs) (sym phase) had
-
-open_index : (ts : List TapeState) (i : ℕ) → (get_or ts i no_tape).phase ≢ Closed → i < length ts
-open_index [] i h = absurd (h refl)
-open_index (t ∷ ts) zero h = omega arith
-open_index (t ∷ ts) (suc i) h = omega (arith, open_index ts i h)
-
-pub open_within : (t s : TapesState) (tape : TapeId) → t ≡ s → phase_of s tape ≢ Closed → tape.index < length t.tapes
-open_within t s tape same is = open_index t.tapes tape.index (subst (λ (y : TapesState). phase_of y tape ≢ Closed) (sym same) is)
-
-pub read_open : (phase : Phase) → phase ≡ Read → phase ≢ Closed
-read_open phase is e = cc (is, e)
-
-within : (t s : TapesState) (tape : TapeId) → t ≡ s → is_read s tape ≡ true → tape.index < length t.tapes
-within t s tape same read = open_within t s tape same (read_open (phase_of s tape) (is_reading (phase_of s tape) read))
-
 -- the tape that is read, and what is told of it
 pub read_ahead : (last : ℕ → ℕ → Type 0) (t s : TapesState) (tape : TapeId) (y : TapeState) (rs : List Record) → t ≡ s → is_read s tape ≡ true → y ≡ get_or t.tapes tape.index y → IsTape last s tape rs → AreAhead last y rs
 read_ahead last t s tape y rs same read at had = grind (arith, nat_tests, common_steps)

@@ -1,8 +1,13 @@
 -- One tape. All of this is our own.
-use Rattle.std.specs.Prelude.{Bool, true, false, ◌≡◌, IsTrue, IfSome, IfNone, ℕ, ◌+◌, ◌-◌, ◌*◌, ◌<◌, ◌≤◌, ◌==◌, List, [], ◌∷◌, ◌++◌, length, drop, Option, Some, None}
+use Rattle.std.specs.Prelude.{Bool, true, false, ◌≡◌, IsTrue, IfSome, IfNone, ℕ, ◌+◌, ◌-◌, ◌*◌, ◌<◌, ◌≤◌, ◌==◌, List, [], ◌∷◌, ◌++◌, length, drop, Option, Some, None, Result, OnOk}
 use Rattle.std.specs.List.{flat_map}
 use Rattle.spill_tapes.specs.Records.{Record, IsRecord, AreRecords, tape_bytes}
-use Rattle.spill_tapes.specs.Pages.{AreOn}
+use Rattle.tape_disks.specs.Calls.{failed}
+use Rattle.tape_disks.specs.Disk.{OnlyReads}
+use Rattle.tape_disks.specs.Errors.{disk_faults}
+use Rattle.tape_disks.specs.declared.disk.DiskError.{DiskError}
+use Rattle.tape_disks.specs.declared.disk.TapeDisk.{Ghosts}
+use Rattle.spill_tapes.specs.Pages.{AreOn, PoolState, GivesBack}
 use Rattle.spill_tapes.specs.declared.header.Header.{Header}
 use Rattle.spill_tapes.specs.declared.tape.Phase.{Phase}
 use Rattle.spill_tapes.specs.declared.tape.Phase.TheVariants.{Closed, Written, Read}
@@ -78,6 +83,13 @@ pub record IsGoodRead (t : TapeState) : Type 0 where
   pub left : t.left ≤ ahead t
   pub pages : ahead t < t.left + PAGE
   pub end : t.records ≡ 0 → t.left ≡ 0
+
+-- how a part of a record is read: pages that were read are given back, the tape is read on, and the disk is only read
+pub record ReadsPart {D X : Type 0} (g : Ghosts D) (given : PoolState) (old : TapeState) (before : D) (result : Result X DiskError) (taken : PoolState) (new : TapeState) (after : D) : Type 0 where
+  pub pages : GivesBack given old.pages taken new.pages
+  pub phase : new.phase ≡ old.phase
+  pub good : OnOk result (IsGoodRead new)
+  pub disk : OnlyReads g (failed disk_faults result) before after
 
 -- what is true of a tape by its phase
 abbrev pub IsGoodIn : Phase → TapeState → Type 0

@@ -6,7 +6,7 @@ ghost use Rattle.tape_disks.specs.Errors.{disk_faults};
 ghost use Rattle.spill_tapes.specs.Errors.{tape_faults};
 ghost use Rattle.spill_tapes.specs.Records.{Record, IsRecord};
 ghost use Rattle.spill_tapes.specs.Pages.{pages_for, HavePages, TakesPages, GivesBack, KeepsPages};
-ghost use Rattle.spill_tapes.specs.Tape.{TapeState, new_tape, no_tape, tape_len, ahead, HasWritten, HasAhead, IsSameTape, IsGood, IsGoodRead, IsAfterHeader, Gives, IsGiven, spent, ended, AreWritten, AreAhead};
+ghost use Rattle.spill_tapes.specs.Tape.{TapeState, new_tape, no_tape, tape_len, ahead, HasWritten, HasAhead, IsSameTape, IsGood, IsGoodRead, ReadsPart, IsAfterHeader, Gives, IsGiven, spent, ended, AreWritten, AreAhead};
 ghost use Rattle.spill_tapes.specs.declared.error.TapeError.TheVariants.{TapeDamaged, TapesDead};
 ghost use Rattle.spill_tapes.specs.declared.tape.Phase.TheVariants as phase;
 
@@ -259,12 +259,9 @@ impl Tape {
         requires left { FRONT ≤ self.old.left }
         requires some { 0 < self.old.records }
         requires empty { bytes.old.items ≡ [] }
-        ensures pages { GivesBack pool.old self.old.pages pool.new self.new.pages }
-        ensures phase { self.new.phase ≡ self.old.phase }
-        ensures good { OnOk result (IsGoodRead self.new) }
+        ensures part { ReadsPart D.TapeDisk pool.old self.old disk.old result pool.new self.new disk.new }
         ensures records { self.new.records ≡ self.old.records }
         ensures header { IfOk result (λ header. IsTrue (D.honest disk.old) → (rs : List Record) → AreAhead (D.last disk.old) self.old rs → IsAfterHeader (D.last disk.new) self.new header rs) }
-        ensures disk { OnlyReads D.TapeDisk (failed disk_faults result) disk.old disk.new }
     {
         self.fill(disk, pool, FRONT, bytes)?;
         self.left -= FRONT as u64;
@@ -284,12 +281,9 @@ impl Tape {
         requires left { header.len ≤ self.old.left }
         requires some { 0 < self.old.records }
         requires last { self.old.records ≡ 1 → header.len ≡ self.old.left }
-        ensures pages { GivesBack pool.old self.old.pages pool.new self.new.pages }
-        ensures phase { self.new.phase ≡ self.old.phase }
-        ensures good { OnOk result (IsGoodRead self.new) }
+        ensures part { ReadsPart D.TapeDisk pool.old self.old disk.old result pool.new self.new disk.new }
         ensures len { OnOk result (length bytes.new.items ≡ header.len) }
         ensures gives { OnOk result (IsTrue (D.honest disk.old) → (rs : List Record) → IsAfterHeader (D.last disk.old) self.old header rs → Gives (AreAhead (D.last disk.new) self.new) rs bytes.new.items (Some (header.hash, header.tag))) }
-        ensures disk { OnlyReads D.TapeDisk (failed disk_faults result) disk.old disk.new }
     {
         bytes.clear();
         bytes.reserve(header.len as usize)?;

@@ -26,9 +26,6 @@ pub begins : (own bytes behind : List ℕ) → pointwise nat_eq (take (length ow
 begins own bytes behind front rest =
     sym (take-append-drop (length own) bytes) ∙ (λ i. same_text (take (length own) bytes) own (sym front) i ++ sym rest i)
 
-pub begins_not : (own bytes : List ℕ) → pointwise nat_eq (take (length own) bytes) own ≡ false → (rest : List ℕ) → bytes ≢ own ++ rest
-begins_not own bytes other rest is = other_text (take (length own) bytes) own (sym other) (ap (take (length own)) is ∙ take-append_seam own rest)
-
 pub front_goes_on : (own bytes : List ℕ) → starts_with nat_eq own bytes ≡ true → (more : List ℕ) × (own ≡ bytes ++ more)
 front_goes_on own bytes front = (
   drop (length bytes) own,

@@ -18,14 +18,6 @@ leaves_twice g faults old mid new first second = record {
 pub reads_none : {D : Type 0} (g : Ghosts D) (disk : D) → OnlyReads g 0 disk disk
 reads_none g disk = record { honesty = refl; failures = sym (add-zero (g.failures disk)); writes = refl; keeps = λ _ _ had. had }
 
-pub reads_twice : {D : Type 0} (g : Ghosts D) (faults : ℕ) (old mid new : D) → OnlyReads g 0 old mid → OnlyReads g faults mid new → OnlyReads g faults old new
-reads_twice g faults old mid new first second = record {
-  honesty = second.honesty ∙ first.honesty;
-  failures = second.failures ∙ ap (λ n. n + faults) (first.failures ∙ add-zero (g.failures old));
-  writes = second.writes ∙ first.writes;
-  keeps = λ place byte had. second.keeps place byte (first.keeps place byte had);
-}
-
 pub reads_leaves : {D : Type 0} (g : Ghosts D) (faults : ℕ) (old new : D) → OnlyReads g faults old new → Leaves g faults old new
 reads_leaves g faults old new reads = record {
   honesty = reads.honesty;

@@ -21,11 +21,11 @@ returns-then-not-can_have-clause-undamaged g c = λ honest rs had same.
 pub returns-clause-given : goal.returns-clause-given
 returns-clause-given g c =
     let one = c.in_ok-header.ensures in let two = c.in_ok-next_bytes.ensures in let header = c.in_ok-header.header in let end = c.end_reading.ensures in let t = c.next_bytes.new.self in
-    let phase = two.phase ∙ one.phase ∙ c.requires.phase in
+    let phase = two.part.phase ∙ one.part.phase ∙ c.requires.phase in
     let is = stands header.tag header.len c.next_header.new.self.left c.next_header.new.self.records (sym c.can_have.ensures ∙ c.if-not-can_have.false) in
     record {
-      good = subst IsGood (sym end) (ended_as t phase (subst (λ p. IsGoodIn p t) (sym phase) two.good)).2;
-      gives = λ honest rs had. ended_gives (g.D.TapeDisk.last c.next_bytes.new.disk) t c.end_reading.new.self rs c.next_bytes.new.bytes.items (Some (header.hash, header.tag)) end (two.gives (subst IsTrue (sym one.disk.honesty) honest) rs (one.header honest rs had));
+      good = subst IsGood (sym end) (ended_as t phase (subst (λ p. IsGoodIn p t) (sym phase) two.part.good)).2;
+      gives = λ honest rs had. ended_gives (g.D.TapeDisk.last c.next_bytes.new.disk) t c.end_reading.new.self rs c.next_bytes.new.bytes.items (Some (header.hash, header.tag)) end (two.gives (subst IsTrue (sym one.part.disk.honesty) honest) rs (one.header honest rs had));
       none = tt;
       framed = (is.0, omega (arith, two.len, is.1));
     }
