@@ -81,7 +81,7 @@ impl Operand for i64 {
     ghost use Rattle.grouping_model.specs.Aggregates.{Number, as_number};
     ghost use Rattle.grouping_model.specs.Combining.{of_numbers};
     ghost use Rattle.agg_protocol.specs.States.{A_number};
-    ghost use Rattle.agg_protocol.proofs.ArgumentLaws.{number_first};
+    ghost use Rattle.agg_protocol.specs.Lemmas.ArgumentLaws.{number_first};
 
     ghost shape = { A_number };
 
@@ -137,7 +137,7 @@ impl Operand for bool {
     ghost use Rattle.grouping_model.specs.Aggregates.{Truth_value, as_boolean};
     ghost use Rattle.grouping_model.specs.Combining.{of_truths};
     ghost use Rattle.agg_protocol.specs.States.{A_truth};
-    ghost use Rattle.agg_protocol.proofs.ArgumentLaws.{truth_first};
+    ghost use Rattle.agg_protocol.specs.Lemmas.ArgumentLaws.{truth_first};
 
     ghost shape = { A_truth };
 

@@ -1,4 +1,1 @@
-pub mod Bytes
-pub mod Denoting
-pub mod ArgumentLaws
 pub mod NamedLaws

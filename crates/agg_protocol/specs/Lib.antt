@@ -6,3 +6,4 @@ pub mod Results
 pub mod ArgumentLaws
 pub mod ByteLaws
 pub mod DenotingLaws
+pub mod Lemmas

@@ -1,14 +1,14 @@
 -- Fields of a record one by one, and records one by one.
 use Rattle.std.specs.Prelude.{◌≡◌, ◌≢◌, ℕ, suc, ◌+◌, ◌<◌, ◌≤◌, List, [], ◌∷◌, ◌++◌, drop, take, length, slice_index_or, Option, Some, None, is_some, false, true, MatchOption, Result, Ok, Err, IfErr, OnOk}
 use Rattle.std.proofs.Common.{refl, sym, ◌∙◌, ap, subst, add-zero, arith}
-use Rattle.std.proofs.lemmas.List.{map-append, take_more, take_all, drop_all, drop-drop, length-drop, length-map, length-take, get_or-drop, get_or-map, get_or-take}
+use Rattle.std.proofs.lemmas.List.{drop_all, drop-drop, length-drop, length-map, length-take, get_or-drop, get_or-map, get_or-take}
 use Rattle.std.specs.Result.{result_err}
 use Rattle.std.proofs.lemmas.Bool.{false≢true}
 use Rattle.csv.specs.Records.{fields_of}
 use Rattle.csv.specs.declared.record.ByteRecord.{ByteRecord}
 use Rattle.grouping_model.specs.Datum.{Datum, Kind, Row, Bigint_kind}
 use Rattle.grouping_model.specs.declared.limits.TheConstants.{MOST_ROWS}
-use Rattle.packed_rows.proofs.RowLaws.{PackedSoFar, packed_all, packed_more}
+use Rattle.packed_rows.specs.Lemmas.RowLaws.{PackedSoFar, packed_all, packed_more}
 use Rattle.packed_rows.specs.Field.{IsBadField, Reads, ReadsRow}
 use Rattle.packed_rows.specs.Packing.{packing, value_packing}
 use Rattle.packed_rows.specs.View.{kind_of, kinds_of}
@@ -18,6 +18,7 @@ use Rattle.batch_reader.specs.Rows.{ReadsRows, packings, records_of}
 use Rattle.batch_reader.specs.Refusal.{BuildFault, HeadReads, RecordFault, RowsFault}
 use Rattle.batch_reader.specs.declared.error.BatchError.{BatchError}
 use Rattle.batch_reader.specs.declared.error.BatchError.TheVariants.{NoMemory, WrongWidth, BadField}
+use Rattle.batch_reader.specs.Lemmas.RecordLaws.{RowsSoFar, rows_more, rows_all}
 
 kind_at : (ks : List ValueKind) (kinds : List Kind) (i : ℕ) → kinds_of ks ≡ kinds → i < length ks → slice_index_or kinds i Bigint_kind ≡ kind_of (slice_index_or ks i kind.Bigint)
 kind_at ks kinds i e within = ap (λ (w : List Kind). slice_index_or w i Bigint_kind) (sym e) ∙ get_or-map kind_of ks i kind.Bigint Bigint_kind within
@@ -45,26 +46,6 @@ pub all_fields : (ks : List ValueKind) (kinds : List Kind) (fields : List (List 
 all_fields ks kinds fields i bytes e width all so_far =
     let w = same_width ks kinds e in
     packed_all kinds fields bytes (width ∙ w) (subst (λ n. PackedSoFar kinds fields n bytes) (sym all ∙ w) so_far)
-
--- the first records stand for rows, and these are the rows' packings
-abbrev pub RowsSoFar : List Kind → List (List (List ℕ)) → ℕ → List (List ℕ) → Type 0
-RowsSoFar kinds records i bytes = (rows : List Row) × ReadsRows kinds (take i records) rows × (bytes ≡ packings rows)
-
-reads_push : (kinds : List Kind) (records : List (List (List ℕ))) (rows : List Row) (fields : List (List ℕ)) (row : Row) → ReadsRows kinds records rows → ReadsRow kinds fields row → ReadsRows kinds (records ++ fields ∷ []) (rows ++ row ∷ [])
-reads_push kinds [] [] fields row p q = (q, tt)
-reads_push kinds (f ∷ records) (r ∷ rows) fields row p q = (p.0, reads_push kinds records rows fields row p.1 q)
-reads_push kinds [] (r ∷ rows) fields row p q = absurd p
-reads_push kinds (f ∷ records) [] fields row p q = absurd p
-
-pub rows_more : (kinds : List Kind) (records : List (List (List ℕ))) (i : ℕ) (bytes : List (List ℕ)) (fields : List (List ℕ)) (row : Row) (packed : List ℕ) → i < length records → slice_index_or records i [] ≡ fields → ReadsRow kinds fields row → packed ≡ packing row → RowsSoFar kinds records i bytes → RowsSoFar kinds records (i + 1) (bytes ++ packed ∷ [])
-rows_more kinds records i bytes fields row packed within at reads is s = (
-  s.0 ++ row ∷ [],
-  subst (λ w. ReadsRows kinds w (s.0 ++ row ∷ [])) (ap (λ f. take i records ++ f ∷ []) (sym at) ∙ sym (take_more records i [] within)) (reads_push kinds (take i records) s.0 fields row s.1 reads),
-  (λ j. s.2 j ++ is j ∷ []) ∙ sym (map-append packing s.0 (row ∷ [])),
-)
-
-pub rows_all : (kinds : List Kind) (records : List (List (List ℕ))) (i : ℕ) (bytes : List (List ℕ)) → length records ≡ i → RowsSoFar kinds records i bytes → (rows : List Row) × ReadsRows kinds records rows × (bytes ≡ packings rows)
-rows_all kinds records i bytes e s = (s.0, subst (λ w. ReadsRows kinds w s.0) (take_all i records (omega (arith, e))) s.1, s.2)
 
 -- the first record that stands for no row
 pub first_fault : (kinds : List Kind) (records : List (List (List ℕ))) (i : ℕ) (bytes : List (List ℕ)) (fields : List (List ℕ)) (error : BatchError) → i < length records → slice_index_or records i [] ≡ fields → RowsSoFar kinds records i bytes → RecordFault kinds i fields error → RowsFault kinds records error

@@ -5,3 +5,4 @@ pub mod File
 pub mod Views
 pub mod RecordLaws
 pub mod Names
+pub mod Lemmas

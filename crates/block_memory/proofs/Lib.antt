@@ -1,3 +1,2 @@
-pub mod CellLemmas
 mod MemoryLemmas
 mod Steps

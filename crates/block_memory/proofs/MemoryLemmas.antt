@@ -16,7 +16,7 @@ use denote.Plain.{uint_in, uint_out}
 use denote.Slice.{elements_shared}
 use denote.Steps.{nothing}
 use Rattle.block_memory.specs.Cells.{Cells, Holds, blank_cells, with_bytes}
-use Rattle.block_memory.proofs.CellLemmas.{with_bytes_is, with_bytes_same}
+use Rattle.block_memory.specs.Lemmas.CellLemmas.{with_bytes_is, with_bytes_same}
 use Rattle.block_memory.specs.Ownership.{byte, block_of, each_cell, cell_owns, cells_own, cell_shares, cells_share}
 use Rattle.std.proofs.lemmas.Bool.Decides.{nat_tests}
 use Rattle.std.proofs.lemmas.Grind.{common_steps}

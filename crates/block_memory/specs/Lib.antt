@@ -5,3 +5,4 @@ pub mod Lends
 pub mod Ownership
 pub mod Words
 pub mod CellLaws
+pub mod Lemmas

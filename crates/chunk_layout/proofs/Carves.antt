@@ -6,7 +6,7 @@ use Rattle.std.proofs.lemmas.Bool.{eq-eqb, ne_eqb, eqb-false, not-true, cond-tru
 use Rattle.std.proofs.lemmas.List.{get_or-set_other}
 use Rattle.block_memory.specs.Cells.{Cells, Holds}
 use Rattle.block_memory.specs.Words.{word_bytes}
-use Rattle.block_memory.proofs.CellLemmas.{holds_by_set_word, length-word_bytes}
+use Rattle.block_memory.specs.Lemmas.CellLemmas.{holds_by_set_word, length-word_bytes}
 use Rattle.chunk_layout.specs.Every.{Every}
 use Rattle.chunk_layout.specs.Pieces.{Piece, IsClear, without, outside}
 use Rattle.chunk_layout.specs.Spots.{Blocks, cells_of, block_at, poke, headed, read, piece_of, spot_is_at, without_spot, Stands, Apart, IsLayout}

@@ -5,7 +5,7 @@ use Rattle.std.specs.List.{refill}
 use Rattle.std.proofs.lemmas.List.{length-take}
 use Rattle.block_memory.specs.Cells.{Cells, Holds, IsWritten}
 use Rattle.block_memory.specs.Words.{word_bytes}
-use Rattle.block_memory.proofs.CellLemmas.{holds_kept, length-word_bytes, written_kept}
+use Rattle.block_memory.specs.Lemmas.CellLemmas.{holds_kept, length-word_bytes, written_kept}
 use Rattle.chunk_layout.specs.Every.{Every, Pairwise}
 use Rattle.chunk_layout.specs.Pieces.{Piece, has, piece_at, rewritten, with_bytes_of}
 use Rattle.chunk_layout.specs.Spots.{Blocks, block_at, poke, read, piece_of, spot_is_at, has_spot, spot_at, no_spot, Stands, Apart, IsLayout}

@@ -5,7 +5,7 @@ use Rattle.std.proofs.lemmas.Bool.{false≢true}
 use Rattle.std.proofs.lemmas.List.{get_or-set_same, get_or-set_other, set-get_or, map-set}
 use Rattle.block_memory.specs.Cells.{Cells, Holds, IsWritten, with_bytes}
 use Rattle.block_memory.specs.Words.{word_bytes}
-use Rattle.block_memory.proofs.CellLemmas.{length-with_bytes, holds_kept, length-word_bytes}
+use Rattle.block_memory.specs.Lemmas.CellLemmas.{length-with_bytes, holds_kept, length-word_bytes}
 use Rattle.chunk_layout.specs.Spots.{Blocks, cells_of, block_at, poke, read, piece_of, sizes_of, Stands}
 use Rattle.chunk_layout.specs.Pieces.{Piece}
 use Rattle.chunk_layout.specs.declared.place.Spot.{Spot}

@@ -4,7 +4,7 @@ use Rattle.std.proofs.lemmas.Bool.{cases_lt}
 use Rattle.std.proofs.lemmas.List.{length-take-le, length-append, get_or_append_left, get_or-append_right}
 use Rattle.block_memory.specs.Cells.{Cells, Holds, with_bytes}
 use Rattle.block_memory.specs.Words.{word_bytes}
-use Rattle.block_memory.proofs.CellLemmas.{holds_at, holds_each, holds_kept, holds_by_write, holds_part, written_of_holds, length-word_bytes}
+use Rattle.block_memory.specs.Lemmas.CellLemmas.{holds_at, holds_each, holds_kept, holds_by_write, holds_part, written_of_holds, length-word_bytes}
 use Rattle.chunk_layout.specs.Every.{Every}
 use Rattle.chunk_layout.specs.Pieces.{Piece, piece_at, has, without}
 use Rattle.chunk_layout.specs.Spots.{Blocks, block_at, poke, read, piece_of, spot_at, spot_with, without_spot, Stands, Apart, IsLayout}

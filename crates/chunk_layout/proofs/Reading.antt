@@ -4,7 +4,7 @@ use Rattle.std.specs.Prelude.{unwrap_or}
 use Rattle.std.specs.List.{splice, refill}
 use Rattle.std.proofs.lemmas.List.{length-take}
 use Rattle.block_memory.specs.Cells.{Cells, Holds, IsWritten, with_bytes}
-use Rattle.block_memory.proofs.CellLemmas.{bytes_of_written, written_of_holds, holds_kept, holds_over, length_over}
+use Rattle.block_memory.specs.Lemmas.CellLemmas.{bytes_of_written, written_of_holds, holds_kept, holds_over, length_over}
 use Rattle.chunk_layout.specs.Spots.{read}
 use Rattle.std.proofs.lemmas.Bool.Decides.{nat_tests}
 use Rattle.std.proofs.lemmas.Grind.{common_steps}

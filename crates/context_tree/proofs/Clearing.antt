@@ -10,7 +10,7 @@ use Rattle.context_tree.specs.declared.links.Links.TheInside.{Inside}
 use Rattle.chunk_layout.specs.declared.marks.BlockMarks.{BlockMarks}
 use Rattle.std.specs.List.{refill}
 use Rattle.context_tree.proofs.Slots.{refill-whole}
-use Rattle.context_tree.proofs.Forest.{root-not-under, root-not-below, below-self, under-past, under-other, under-closed, below-closed, forest-cleared}
+use Rattle.context_tree.specs.Lemmas.Forest.{root-not-under, root-not-below, below-self, under-past, under-other, under-closed, below-closed, forest-cleared}
 
 cond-same : {X : Type 0} (b : Bool) (x : X) → cond b x x ≡ x
 cond-same true x = refl

@@ -1,4 +1,3 @@
-pub mod Forest
 pub mod Slots
 pub mod Clearing
 pub mod TreeLaws

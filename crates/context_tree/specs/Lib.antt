@@ -5,3 +5,4 @@ pub mod Tree
 pub mod TreeFields
 pub mod TreeLends
 pub mod SlotLaws
+pub mod Lemmas

@@ -1,9 +1,7 @@
 -- Why a file is refused, by the refusal, and what the batch of a batch file is.
-use Rattle.std.specs.Prelude.{◌≡◌, ◌≢◌, ◌≤◌, Bool, ℕ, List, length, Option, Some, None, IsSomeAnd, [], refl, Result, Ok, Err, IfErr, OnOk}
+use Rattle.std.specs.Prelude.{◌≡◌, ◌≢◌, Bool, ℕ, List, Option, Some, None, [], refl, Result, Ok, Err, IfErr, OnOk}
 use Rattle.std.proofs.Common.{subst, sym}
-use Rattle.grouping_model.specs.Datum.{Kind, Row}
 use Rattle.grouping_model.specs.declared.delivered.Delivered.{Delivered}
-use Rattle.grouping_model.specs.declared.limits.TheConstants.{MOST_ROWS}
 use Rattle.packed_rows.specs.Columns.{Column, kinds, IsSchemaText}
 use Rattle.packed_rows.specs.Refusal.{ParseFault}
 use Rattle.packed_rows.specs.declared.error.RowError.{RowError}
@@ -11,17 +9,16 @@ use Rattle.packed_rows.specs.declared.error.RowError.TheVariants as row
 use Rattle.query_checks.specs.Checks.{Checked}
 use Rattle.group_parser.specs.Parsing.{Accepts}
 use Rattle.batch_reader.specs.File.{BatchFile}
-use Rattle.batch_reader.specs.Head.{ReadsOrigin, ReadsBatchNumber}
-use Rattle.batch_reader.specs.Rows.{ReadsRows, ArePackedRows, packings}
 use Rattle.batch_reader.specs.declared.batch.Batch.{Batch}
 use Rattle.replica_merge.specs.Replicas.{Held}
-use Rattle.replies.specs.BatchLaws.{fed_of, read_are_packed, read_is_fed}
-use Rattle.replies.specs.Batches.{IsRead, TakesRead, IsOtherRead}
+use Rattle.replies.specs.BatchLaws.{fed_of, read_is_fed}
+use Rattle.replies.specs.Batches.{TakesRead, IsOtherRead}
 use Rattle.replies.specs.QueryLaws.{read_over}
 use Rattle.replies.specs.Refusals.{columns_refusal, refusal_faults}
 use Rattle.replies.specs.declared.refusal.Refusal.{Refusal}
 use Rattle.replies.specs.declared.refusal.Refusal.TheVariants as refuse
 use Rattle.file_commands.specs.Commands.{IsNew, IsNotNew, IsNoSummary, TakesFile, IsOtherFile, OfBatchFile}
+use Rattle.file_commands.specs.Lemmas.FileLaws.{IsReadOf}
 
 -- why bytes are no summary file is no fault of the disk
 pub no_file_fault : (file : List ℕ) (why : Refusal) → IsNoSummary file why → refusal_faults why ≡ 0
@@ -37,25 +34,6 @@ if_err (Err why) P Q follows failed = follows why failed
 pub on_ok : {T : Type 0} (result : Result T Refusal) (P Q : Type 0) → (P → Q) → OnOk result P → OnOk result Q
 on_ok (Ok x) P Q follows done = follows done
 on_ok (Err why) P Q follows done = done
-
--- the batch of a batch file was read of its fields and records
-abbrev pub IsReadOf : List Kind → Option BatchFile → Batch → Type 0
-IsReadOf ks file batch = IsSomeAnd file (λ read. IsRead ks read.head.origin read.head.number read.head.told read.records batch)
-
--- what reading a batch file tells, by columns that are a replica's, is that
-pub read_of_file : (told columns : List Column) (file : Option BatchFile) (batch : Batch) → told ≡ columns
-    → IsSomeAnd file (λ read. ReadsOrigin read.head.origin batch.origin) → IsSomeAnd file (λ read. ReadsBatchNumber read.head.number batch.number)
-    → length batch.rows ≤ MOST_ROWS → IsSomeAnd file (λ read. length batch.rows ≡ read.head.told)
-    → IsSomeAnd file (λ read. (rows : List Row) × ReadsRows (kinds told) read.records rows × (batch.rows ≡ packings rows)) → IsReadOf (kinds columns) file batch
-read_of_file told columns None batch same reads_origin reads_number few whole rows = absurd reads_origin
-read_of_file told columns (Some read) batch same reads_origin reads_number few whole rows =
-    subst (λ cs. IsReadOf (kinds cs) (Some read) batch) same
-    (record { origin_is = reads_origin; number_is = reads_number; few = few; whole = whole; rows = rows.0; rows_are = rows.1; packed = rows.2 })
-
--- its rows are packed
-pub packed_of_file : (ks : List Kind) (file : Option BatchFile) (batch : Batch) → IsReadOf ks file batch → ArePackedRows ks batch.rows
-packed_of_file ks None batch is = absurd is
-packed_of_file ks (Some read) batch is = read_are_packed ks read.head.origin read.head.number read.head.told read.records batch is
 
 -- a replica that takes it takes the file
 pub takes_file : (honest : Bool) (file : Option BatchFile) (batch : Batch) (old new : Held) (delivered : Delivered) → IsReadOf (kinds old.query.columns) file batch

@@ -1,3 +1,1 @@
 pub mod Readers
-pub mod ParseLaws
-pub mod PrintLaws

@@ -7,12 +7,12 @@ use Rattle.query_grammar.specs.Terminals.{is_word, is_sign}
 use Rattle.query_grammar.specs.Grammar.{Named}
 use Rattle.query_grammar.specs.Queries.{most_open}
 use Rattle.query_grammar.specs.Reading.{Read, Fault, Unexpected, Too_deep, Inner, ◌>>=◌, after, expect, enclosed_at, cmp_at, tested, test_at, not_at, joined, and_at, or_at, condition_at, conditions}
-use Rattle.query_grammar.proofs.Locality.{condition_step, tested_stays, joined_stays, not_stays, and_stays}
+use Rattle.query_grammar.specs.Lemmas.Locality.{condition_step, tested_stays, joined_stays, not_stays, and_stays}
 use Rattle.std.proofs.lemmas.List.{map_push}
 use Rattle.query_tokens.specs.declared.word.Symbol.TheVariants as symbols
 use Rattle.query_grammar.specs.Whole.{list_at}
-use Rattle.query_grammar.proofs.Alike.{Stays}
-use Rattle.query_grammar.proofs.Chains.{Goes, chain_done, chain_goes, chain_fails, Lists, list_begins, list_goes, list_stops, list_done}
+use Rattle.query_grammar.specs.Lemmas.Alike.{Stays}
+use Rattle.query_grammar.specs.Lemmas.Chains.{Goes, chain_done, chain_goes, chain_fails, Lists, list_begins, list_goes, list_stops, list_done}
 use Rattle.group_parser.specs.declared.fault.ReadError.{ReadError}
 use Rattle.group_parser.specs.declared.fault.ReadError.TheVariants as errors
 use Rattle.group_parser.specs.Views.{Fails, Gives}

@@ -2,3 +2,4 @@ pub mod Views
 pub mod Nots
 pub mod Parsing
 pub mod Names
+pub mod Lemmas

@@ -8,7 +8,7 @@ ghost use Rattle.group_parser.specs.declared.error.ParseError.{ParseError};
 
 /// Exactly the texts that the grammar and the checks allow are parsed, each as one query, and all others are refused, each
 /// by one fault.
-#[tactic(auto, using(crate::proofs::ParseLaws::parses_accepts, crate::proofs::ParseLaws::parses_refuses))]
+#[tactic(auto, using(crate::specs::Lemmas::ParseLaws::parses_accepts, crate::specs::Lemmas::ParseLaws::parses_refuses))]
 pub fn exactly_the_grammar()
     ensures parsed { (columns : List Column) (text : List ℕ) (q : Checked) →
         Accepts columns text q → parsing columns text ≡ Ok q }

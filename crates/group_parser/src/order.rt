@@ -81,7 +81,7 @@ impl Listed for RawTerm {
     ghost use Rattle.std.specs.Prelude.{length, ◌<◌};
     ghost use Rattle.query_checks.specs.Order.{Term, term_of};
     ghost use Rattle.query_grammar.specs.Whole.{term_at};
-    ghost use Rattle.query_grammar.proofs.Whole_locality.{terms_stay};
+    ghost use Rattle.query_grammar.specs.Lemmas.Whole_locality.{terms_stay};
 
     ghost Said = { Term };
 

@@ -71,7 +71,7 @@ fn read_text(alloc: Global, text: &str) -> Result<RawQuery, ParseError>
 /// fault of its tokens; `Syntax` at the first token after which no query can follow, or at the text's end, or `TooDeep`
 /// at a parenthesis of a condition if 64 are open, whichever comes first, the condition of a FILTER counting its own;
 /// and then the errors of [`Query::check`].
-#[tactic(auto, using(crate::proofs::ParseLaws::accepts, crate::proofs::ParseLaws::refuses_text, crate::proofs::ParseLaws::refuses_query, crate::proofs::ParseLaws::can_be_written))]
+#[tactic(auto, using(crate::specs::Lemmas::ParseLaws::accepts, crate::specs::Lemmas::ParseLaws::refuses_text, crate::specs::Lemmas::ParseLaws::refuses_query, crate::specs::Lemmas::ParseLaws::can_be_written))]
 pub fn parse(alloc: Global, schema: &Schema, text: &str) -> Result<Query, ParseError>
     ensures accepted { IfOk result (λ q. Accepts schema.now text.now q) }
     ensures refused { IfErr result (λ e. e ≢ no_memory → Refuses schema.now text.now e) }

@@ -10,7 +10,7 @@ use std::alloc::{AllocError, Global};
 
 /// The canonical text of a query: key words in capitals, names in lower case, parentheses only where they are needed,
 /// one space between words. `parse` reads it as this query. The only error is a failed allocation.
-#[tactic(auto, using(crate::proofs::PrintLaws::parsed_again))]
+#[tactic(auto, using(crate::specs::Lemmas::PrintLaws::parsed_again))]
 pub fn print(alloc: Global, query: &Query) -> Result<String, AllocError>
     ensures spelled { IfOk result (λ text. string_bytes text ≡ spelling (by_names query.now)) }
     ensures read_again { IfOk result (λ text.

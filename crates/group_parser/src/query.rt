@@ -81,7 +81,7 @@ impl Listed for (Item<String>, Option<String>) {
     ghost use Rattle.query_grammar.specs.Grammar.{Named};
     ghost use Rattle.query_grammar.specs.Queries.{most_open};
     ghost use Rattle.query_grammar.specs.Whole.{item_at};
-    ghost use Rattle.query_grammar.proofs.Whole_locality.{items_stay};
+    ghost use Rattle.query_grammar.specs.Lemmas.Whole_locality.{items_stay};
     ghost use Rattle.group_parser.specs.Views.{item_read, alias_read};
 
     ghost Said = { Named × Option (List ℕ) };
@@ -104,7 +104,7 @@ impl Listed for (Item<String>, Option<String>) {
 impl Listed for String {
     ghost use Rattle.std.specs.Prelude.{ℕ, List, string_bytes, length, ◌<◌};
     ghost use Rattle.query_grammar.specs.Reading.{name_at};
-    ghost use Rattle.query_grammar.proofs.Whole_locality.{names_stay};
+    ghost use Rattle.query_grammar.specs.Lemmas.Whole_locality.{names_stay};
 
     ghost Said = { List ℕ };
 

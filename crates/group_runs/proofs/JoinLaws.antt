@@ -23,9 +23,10 @@ use Rattle.group_runs.specs.Steps.{HasRoomForRun, AddsRun}
 use Rattle.group_runs.specs.Chunks.{AreBefore}
 use Rattle.group_runs.specs.StandingLaws.{groups_raised, groups_long, keys_packed, keys_of_kinds}
 use Rattle.group_runs.specs.MergeLaws.{puts_rise, keys_of-groups_added}
-use Rattle.group_runs.proofs.MergeLaws.{puts_long}
-use Rattle.group_runs.proofs.RunLaws.{rises_keys}
-use Rattle.group_runs.proofs.SpliceLaws.{AllBelow, inserted_behind, found_behind, parted, together, packed_rise, groups_below}
+use Rattle.group_runs.specs.Lemmas.MergeLaws.{puts_long}
+use Rattle.group_runs.specs.Lemmas.RunLaws.{rises_keys}
+use Rattle.group_runs.specs.Lemmas.SpliceLaws.{packed_rise}
+use Rattle.group_runs.proofs.SpliceLaws.{AllBelow, inserted_behind, found_behind, parted, together, groups_below}
 
 -- ---- groups before others
 

@@ -1,6 +1,5 @@
 pub mod StateLaws
 pub mod EntryLaws
-pub mod MergeLaws
 pub mod RunLaws
 pub mod FlatLaws
 pub mod PlaceLaws

@@ -8,7 +8,8 @@ use Rattle.group_runs.specs.Runs.{Entry, Rises}
 use Rattle.group_runs.specs.Places.{AreUpTo}
 use Rattle.group_runs.specs.Steps.{AddsGroup, CombineWith}
 use Rattle.group_runs.proofs.FlatLaws.{same_keys_rise}
-use Rattle.group_runs.proofs.PlaceLaws.{Moves, Passes, rises_between, below_up_to, itself_up_to}
+use Rattle.group_runs.specs.Lemmas.PlaceLaws.{Moves, Passes, rises_between}
+use Rattle.group_runs.proofs.PlaceLaws.{below_up_to, itself_up_to}
 use Rattle.group_runs.proofs.SpliceLaws.{present_added, absent_added}
 
 -- what holds of the groups that are done then, and of those that are left

@@ -2,7 +2,7 @@
 use Rattle.std.specs.Prelude.{◌≡◌, ◌≢◌, refl, ℕ, zero, suc, ◌+◌, ◌-◌, ◌<◌, ◌≤◌, List, [], ◌∷◌, ◌++◌, length, take, drop, Bool, Some, IsTrue, ◌↔◌, bytes_eq, nat_lt, slice_get, slice_range}
 use Rattle.std.proofs.Common.{sym, ◌∙◌, ap, subst, arith, add-one, append_assoc}
 use Rattle.std.proofs.lemmas.Slice.Eq.{bytes_eq-Decides}
-use Rattle.std.proofs.lemmas.List.{drop-take, take-append-drop, length-append, length-take}
+use Rattle.std.proofs.lemmas.List.{take-append-drop, length-append, length-take}
 use Rattle.std.specs.declared.cmp.Ordering.TheVariants.{Less, Equal, Greater}
 use Rattle.std.specs.Ordering.{nat_cmp, ordering_reverse, is_lt}
 use Rattle.std.specs.declared.cmp.Ordering.{Ordering}
@@ -13,10 +13,11 @@ use Rattle.std.proofs.Math.Seq.{take-add, take-append_seam}
 use Rattle.std.specs.Cmp.Lexicographic.{slice_cmp}
 use Rattle.std.specs.List.{AllByRecursion}
 use Rattle.std.specs.List.Sorted.{IsStrictlySortedBy}
-use Rattle.list_laws.specs.Each.{each_append, each_dropped, each_weaker}
+use Rattle.list_laws.specs.Each.{each_append, each_weaker}
 use Rattle.group_runs.specs.Runs.{Entry, packed_keys, Rises}
 use Rattle.group_runs.specs.Places.{IsBelow, IsNotBelow, AllBelow, AllAbove, AreUpTo, HasKey, HasKeyAt, IsBetween, IsPlaceOf}
 use Rattle.group_runs.specs.PlaceLaws.{drop_at, key_total}
+use Rattle.group_runs.specs.Lemmas.PlaceLaws.{KeyStands, is, left, long, low, states, Moves, below, front, low, states, whole, Passes, above, below, whole}
 
 -- ---- parts of lists
 pub rises_drop : (n : ℕ) (run : List Entry) → Rises run → Rises (drop n run)
@@ -24,27 +25,6 @@ unfolding IsStrictlySortedBy
 rises_drop zero run rises = rises
 rises_drop (suc n) [] rises = rises
 rises_drop (suc n) (e ∷ run) (above, rises) = rises_drop n run rises
-
--- ---- below a key
--- the key of a group that is below one of a list that rises
-before_below : (run : List Entry) (i : ℕ) (e : Entry) (key : List ℕ) → Rises run → slice_get run i ≡ Some e → IsBelow key e → AllBelow key (take (i + 1) run)
-unfolding IsStrictlySortedBy
-before_below [] i e key rises at below = absurd cc
-before_below (x ∷ run) zero e key rises at below = let same : x ≡ e = cc in (subst (IsBelow key) (sym same) below, tt)
-before_below (x ∷ run) (suc i) e key (above, rises) at below =
-    subst (λ n. AllBelow key (take n (x ∷ run))) (sym (add-one (suc i)))
-    (key_total.trans x.0 e.0 key (above_at run i above at) below, subst (λ n. AllBelow key (take n run)) (add-one i) (before_below run i e key rises at below))
-  where
-    above_at : (es : List Entry) (i : ℕ) → AllByRecursion (λ k. slice_cmp nat_cmp x.0 k ≡ Less) (packed_keys es) → slice_get es i ≡ Some e → slice_cmp nat_cmp x.0 e.0 ≡ Less
-    above_at [] i all at = absurd cc
-    above_at (y ∷ es) zero all at = let same : y ≡ e = cc in subst (λ (y : Entry). slice_cmp nat_cmp x.0 y.0 ≡ Less) same all.0
-    above_at (y ∷ es) (suc i) all at = above_at es i all.1 at
-
-pub below_to : (run : List Entry) (from i : ℕ) (e : Entry) (key : List ℕ) → Rises run → from ≤ i → slice_get run i ≡ Some e → IsBelow key e → AllBelow key (slice_range run from (i + 1))
-below_to run from i e key rises low at below =
-    let whole : from + (i + 1 - from) ≡ i + 1 = omega (arith, low) in
-    subst (AllBelow key) (ap (λ n. drop from (take n run)) (sym whole) ∙ drop-take from (i + 1 - from) run)
-    (each_dropped (IsBelow key) from (take (i + 1) run) (before_below run i e key rises at below))
 
 -- what comes behind a group that is not below is not below
 pub not_below_from : (run : List Entry) (i : ℕ) (e : Entry) (key : List ℕ) → Rises run → slice_get run i ≡ Some e → IsNotBelow key e → AllByRecursion (IsNotBelow key) (drop i run)
@@ -74,14 +54,6 @@ not_itself key low = less_twice (slice_cmp nat_cmp key key) low (key_total.antis
     less_twice Less e both = absurd cc
     less_twice Equal e both = absurd cc
     less_twice Greater e both = absurd cc
-
--- the group at a place, by its key
-pub record KeyStands (run : List Entry) (place : ℕ) (key : List ℕ) : Type 0 where
-  pub states : List ℕ
-  pub left : drop place run ≡ (key, states) ∷ drop (place + 1) run
-  pub is : run ≡ take place run ++ (key, states) ∷ drop (place + 1) run
-  pub long : length (take place run) ≡ place
-  pub low : place < length run
 
 pub key_stands : (run : List Entry) (place : ℕ) (key : List ℕ) → HasKeyAt run place key → KeyStands run place key
 key_stands run place key at =
@@ -160,20 +132,6 @@ above_from run zero key rises high none = above_all run key rises high none
 above_from [] (suc place) key rises high none = tt
 above_from (e ∷ run) (suc place) key (above, rises) high none = above_from run place key rises high none
 
--- a group goes between those below and those above
-pub rises_between : (front back : List Entry) (key states : List ℕ) → Rises (front ++ back) → AllBelow key front → AllAbove key back → Rises (front ++ (key, states) ∷ back)
-unfolding IsStrictlySortedBy
-rises_between [] back key states rises below above = (all_keys back above, rises)
-  where
-    all_keys : (es : List Entry) → AllAbove key es → AllByRecursion (λ z. slice_cmp nat_cmp key z ≡ Less) (packed_keys es)
-    all_keys [] all = tt
-    all_keys (e ∷ es) (first, all) = (first, all_keys es all)
-rises_between (e ∷ front) back key states (over, rises) (low, below) above = (through front over, rises_between front back key states rises below above)
-  where
-    through : (es : List Entry) → AllByRecursion (λ z. slice_cmp nat_cmp e.0 z ≡ Less) (packed_keys (es ++ back)) → AllByRecursion (λ z. slice_cmp nat_cmp e.0 z ≡ Less) (packed_keys (es ++ (key, states) ∷ back))
-    through [] all = (low, all)
-    through (x ∷ es) (first, all) = (first, through es all)
-
 -- ---- what is done of a merge, and what is left
 -- some groups move from what is left to what is done
 pub some_moved : (done old : List Entry) (from place : ℕ) → from ≤ place → done ++ drop from old ≡ (done ++ slice_range old from place) ++ drop place old
@@ -242,14 +200,6 @@ keys_next (x ∷ run) zero e f (above, rises) at next =
     first_above (y ∷ es) all next = let same : y ≡ f = cc in subst (λ (y : Entry). slice_cmp nat_cmp x.0 y.0 ≡ Less) same all.0
 keys_next (x ∷ run) (suc i) e f (above, rises) at next = keys_next run i e f rises at (ap (slice_get run) (add-one i) ∙ ap (slice_get (x ∷ run)) (sym (add-one (suc i))) ∙ next)
 
--- the groups up to a key move from what is left to what is done, where the key is there
-pub record Moves (done old : List Entry) (from place : ℕ) (key : List ℕ) : Type 0 where
-  pub states : List ℕ
-  pub whole : done ++ drop from old ≡ (done ++ slice_range old from place) ++ (key, states) ∷ drop (place + 1) old
-  pub front : done ++ slice_range old from (place + 1) ≡ (done ++ slice_range old from place) ++ (key, states) ∷ []
-  pub below : AllBelow key (done ++ slice_range old from place)
-  pub low : place < length old
-
 pub moves : (done old : List Entry) (from place : ℕ) (key : List ℕ) → AllBelow key done → IsPlaceOf old from key place → HasKeyAt old place key → Moves done old from place key
 moves done old from place key below is at =
     let here = key_stands old place key at in
@@ -260,12 +210,6 @@ moves done old from place key below is at =
       below = each_append (IsBelow key) done (slice_range old from place) below is.below;
       low = here.low;
     }
-
--- where it isn't
-pub record Passes (done old : List Entry) (from place : ℕ) (key : List ℕ) : Type 0 where
-  pub whole : done ++ drop from old ≡ (done ++ slice_range old from place) ++ drop place old
-  pub below : AllBelow key (done ++ slice_range old from place)
-  pub above : AllAbove key (drop place old)
 
 pub passes : (done old : List Entry) (from place : ℕ) (key : List ℕ) → Rises old → AllBelow key done → IsPlaceOf old from key place → (HasKeyAt old place key → ⊥) → Passes done old from place key
 passes done old from place key rises below is none =

@@ -1,34 +1,31 @@
 -- Groups that come to their place in a run.
-use Rattle.std.specs.Prelude.{◌≡◌, refl, ℕ, ◌+◌, cond, List, [], ◌∷◌, ◌++◌, map, find, Some, None, option_map, IfSome}
+use Rattle.std.specs.Prelude.{◌≡◌, refl, ℕ, ◌+◌, cond, List, [], ◌∷◌, ◌++◌, find, Some, None, option_map, IfSome}
 use Rattle.std.proofs.Common.{sym, ◌∙◌, ap, subst, arith}
 use Rattle.std.specs.declared.cmp.Ordering.TheVariants.{Less, Equal, Greater}
-use Rattle.std.specs.Ordering.{match_ordering, is_eq, nat_cmp, ordering_reverse}
+use Rattle.std.specs.Ordering.{match_ordering, is_eq, ordering_reverse}
 use Rattle.std.specs.Cmp.{tied_itself}
-use Rattle.std.specs.Cmp.Lexicographic.{slice_cmp}
 use Rattle.std.specs.List.{AllByRecursion}
-use Rattle.std.specs.List.Sorted.{IsStrictlySortedBy}
 use Rattle.std.specs.BTreeMap.{insert_entry}
 use Rattle.grouping_model.specs.Datum.{Row, HasKinds, row_cmp, same_row}
 use Rattle.grouping_model.specs.Aggregates.{Partial}
 use Rattle.grouping_model.specs.Combining.{combine_all}
 use Rattle.grouping_model.specs.Query.{Query}
 use Rattle.grouping_model.specs.Grouping.{Group}
-use Rattle.grouping_model.specs.Parts.{functions, keys_of, partials_at}
+use Rattle.grouping_model.specs.Parts.{functions, partials_at}
 use Rattle.grouping_model.specs.DatumOrderLaws.{row_cmp_total}
 use Rattle.grouping_model.specs.PartLaws.{same_row-swap}
 use Rattle.packed_rows.specs.Packing.{packing}
-use Rattle.packed_rows.proofs.PackingOrder.{packed_order}
 use Rattle.agg_library.specs.StateRows.{AllWithin}
 use Rattle.having_filter.specs.Kept.{key_kinds}
-use Rattle.group_runs.specs.Runs.{Entry, Rises}
+use Rattle.group_runs.specs.Runs.{Entry}
 use Rattle.group_runs.specs.Standing.{StandsFor, AreGroups}
 use Rattle.group_runs.specs.Adding.{merged, group_added}
 use Rattle.group_runs.specs.Steps.{HasRoomForGroup, AddsGroup, HaveRoomForMore, CombineWith}
 use Rattle.group_runs.specs.Places as places
-use Rattle.group_runs.specs.StandingLaws.{states_raised, keys_packed, keys_of_kinds}
+use Rattle.group_runs.specs.StandingLaws.{states_raised}
 use Rattle.group_runs.proofs.StateLaws.{states_lowered}
 use Rattle.group_runs.proofs.EntryLaws.{key_order}
-use Rattle.group_runs.proofs.RunLaws.{packed_once}
+use Rattle.group_runs.specs.Lemmas.RunLaws.{packed_once}
 
 -- ---- behind lower keys
 
@@ -67,19 +64,6 @@ pub together : (q : Query) (m : ℕ) (front back : List Entry) (before after : L
 together q m [] back [] after are more = more
 together q m (e ∷ front) back (g ∷ before) after (first, are) more = (first, together q m front back before after are more)
 together q m _ back _ after are more = absurd are
-
--- groups with rising keys have rising packed keys
-pub packed_rise : (q : Query) (m : ℕ) (run : List Entry) (groups : List Group) → AreGroups q m run groups → IsStrictlySortedBy row_cmp (keys_of groups) → Rises run
-unfolding IsStrictlySortedBy
-packed_rise q m run groups are rising = subst (IsStrictlySortedBy (slice_cmp nat_cmp)) (sym (keys_packed q m run groups are)) (each (keys_of groups) (keys_of_kinds q m run groups are) rising)
-  where
-    above : (k : Row) (ks : List Row) → HasKinds (key_kinds q) k → AllByRecursion (HasKinds (key_kinds q)) ks → AllByRecursion (λ z. row_cmp k z ≡ Less) ks → AllByRecursion (λ z. slice_cmp nat_cmp (packing k) z ≡ Less) (map packing ks)
-    above k [] has all low = tt
-    above k (l ∷ ks) has (one, all) (first, low) = (packed_order (key_kinds q) k l has one ∙ first, above k ks has all low)
-
-    each : (ks : List Row) → AllByRecursion (HasKinds (key_kinds q)) ks → IsStrictlySortedBy row_cmp ks → IsStrictlySortedBy (slice_cmp nat_cmp) (map packing ks)
-    each [] has rising = tt
-    each (k ∷ ks) (one, has) (low, rising) = (above k ks one has low, each ks has rising)
 
 module _ (q : Query) (m n : ℕ) (key : List ℕ) (group : Group) (is : key ≡ packing group.0) (has : HasKinds (key_kinds q) group.0) where
   -- what is below and above in bytes is so in keys

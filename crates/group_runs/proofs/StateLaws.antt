@@ -15,7 +15,7 @@ use Rattle.agg_protocol.specs.Arguments.{Takes}
 use Rattle.agg_protocol.specs.States as states
 use Rattle.agg_protocol.specs.States.{Shape, rows_of, most_rows}
 use Rattle.agg_protocol.specs.DenotingLaws.{shape_known, within, state_rows}
-use Rattle.agg_protocol.proofs.Denoting.{rows_add, once}
+use Rattle.agg_protocol.specs.Lemmas.Denoting.{rows_add, once}
 use Rattle.agg_protocol.specs.declared.kind.AggKind.{AggKind}
 use Rattle.agg_protocol.specs.Kinds.{function_of, functions_of, kind_shape, kind_width}
 use Rattle.agg_library.specs.StateRows.{DenotesAll, AllWithin, initial_partials, partial_after}

@@ -7,3 +7,4 @@ pub mod Chunks
 pub mod MergeLaws
 pub mod PlaceLaws
 pub mod StandingLaws
+pub mod Lemmas

@@ -5,11 +5,9 @@ use Rattle.std.proofs.lemmas.Bool.{cases_lt}
 use Rattle.std.specs.Ordering.{eq_by_cmp, is_eq}
 use Rattle.std.specs.Cmp.{tied_itself, Equal-is}
 use Rattle.grouping_model.specs.World.{Batch, batch_cmp, batch_cmp_total, Knowledge, knows, learn, IsUnbroken, prefix}
-use Rattle.grouping_model.specs.MemberLaws.{false_is_not_true}
 use Rattle.grouping_model.specs.KnowledgeLaws.{batch_cmp_ties, knows_learn, same_knowledge}
-use Rattle.grouping_model.proofs.PrefixLaws.{prefix_unbroken, prefix_largest}
-use Rattle.std.proofs.lemmas.Bool.Decides.{nat_tests}
-use Rattle.std.proofs.lemmas.Grind.{common_steps}
+use Rattle.grouping_model.specs.Lemmas.PrefixLaws.{prefix_unbroken}
+use Rattle.grouping_model.specs.Lemmas.LearningLaws.{prefix_is, next_unknown}
 
 -- what is known stays known, and nothing but the new batch is learned
 known_before : (knowledge : Knowledge) (new batch : Batch) → IsTrue (knows knowledge batch) → IsTrue (knows (learn knowledge new) batch)
@@ -33,27 +31,6 @@ learn_known knowledge batch known =
       | true ↦ λ e. sym (ap (knows knowledge) (batch_cmp_ties other batch ((Equal-is (batch_cmp other batch)).0 e)) ∙ known)
       | false ↦ λ e. refl
     ] refl)
-
--- the prefix is the number up to which all are known, where the next one is not
-pub prefix_is : (knowledge : Knowledge) (origin n : ℕ) → IsUnbroken knowledge origin n → knows knowledge (origin, n + 1) ≡ false → prefix knowledge origin ≡ n
-prefix_is knowledge origin n unbroken next =
-    elim (cases_lt n (prefix knowledge origin)) [
-      | inl longer ↦ false_is_not_true (sym next ∙ prefix_unbroken knowledge origin (n + 1) (omega arith) (omega (arith, longer)))
-      | inr shorter ↦ let low = prefix_largest knowledge origin n unbroken in omega (arith, shorter, low)
-    ]
-
-one_more : (knowledge : Knowledge) (origin n : ℕ) → IsUnbroken knowledge origin n → IsTrue (knows knowledge (origin, n + 1)) → IsUnbroken knowledge origin (n + 1)
-one_more knowledge origin n unbroken known number low high = grind (arith, nat_tests, common_steps)
-
--- the number next to the prefix is not known
-pub next_unknown : (knowledge : Knowledge) (origin : ℕ) → knows knowledge (origin, prefix knowledge origin + 1) ≡ false
-next_unknown knowledge origin =
-    elim (knows knowledge (origin, prefix knowledge origin + 1)) as (λ b. knows knowledge (origin, prefix knowledge origin + 1) ≡ b → b ≡ false) [
-      | true ↦ λ known.
-          let longer = prefix_largest knowledge origin (prefix knowledge origin + 1) (one_more knowledge origin (prefix knowledge origin) (prefix_unbroken knowledge origin) known) in
-          absurd (omega (arith, longer))
-      | false ↦ λ e. refl
-    ] refl
 
 -- a batch that is not next to an origin's prefix leaves that prefix
 pub prefix_stays : (knowledge : Knowledge) (batch : Batch) (origin : ℕ) → batch ≢ (origin, prefix knowledge origin + 1) → prefix (learn knowledge batch) origin ≡ prefix knowledge origin

@@ -1,10 +1,4 @@
-pub mod PrefixLaws
-pub mod AggregateLaws
-pub mod CombiningLaws
 pub mod UnionLaws
 pub mod ConditionLaws
-pub mod PartLaws
-pub mod TransitionLaws
 pub mod AnswerLaws
 pub mod LearningLaws
-pub mod GroupLaws

@@ -1,5 +1,5 @@
 -- What a union tells of an origin: its prefix, its early numbers, its rows, and the origins.
-use Rattle.std.specs.Prelude.{◌≡◌, refl, ℕ, zero, suc, ◌+◌, ◌-◌, ◌≤◌, ◌<◌, nat_lt, true, false, ◌||◌, List, [], ◌∷◌, ◌++◌, ◌⊎◌, filter, IsTrue, ◌↔◌}
+use Rattle.std.specs.Prelude.{◌≡◌, refl, ℕ, ◌+◌, ◌-◌, ◌≤◌, ◌<◌, nat_lt, true, false, ◌||◌, List, [], ◌∷◌, ◌++◌, ◌⊎◌, filter, IsTrue, ◌↔◌}
 use Rattle.std.proofs.Common.{sym, ◌∙◌, ap, inl, inr, arith, append_assoc}
 use Rattle.std.proofs.lemmas.Bool.{cases_lt}
 use Rattle.std.specs.Ordering.{nat_cmp}
@@ -12,9 +12,10 @@ use Rattle.grouping_model.specs.Rising.Facts.{distinct-rises, same_members}
 use Rattle.grouping_model.specs.World.{World, Batch, Knowledge, knows, union, IsUnbroken, prefix, early, origins, count_up, batch_rows, origin_rows}
 use Rattle.grouping_model.specs.MemberLaws.{Member, from_contains, to_contains, among_member, distinct_member, member_filter, filter_member}
 use Rattle.grouping_model.specs.KnowledgeLaws.{knows_union}
-use Rattle.grouping_model.proofs.PrefixLaws.{prefix_unbroken, prefix_largest}
-use Rattle.grouping_model.proofs.LearningLaws.{prefix_is}
+use Rattle.grouping_model.specs.Lemmas.PrefixLaws.{prefix_unbroken, prefix_largest}
+use Rattle.grouping_model.specs.Lemmas.LearningLaws.{prefix_is}
 use Rattle.grouping_model.specs.EarlyLaws.{early_are, early_rise, origins_are, origins_rise, filter_rises}
+use Rattle.grouping_model.specs.Lemmas.UnionLaws.{counted_on}
 
 -- the union knows what either side knows
 left_known : (a b : Knowledge) (batch : Batch) → IsTrue (knows a batch) → IsTrue (knows (union a b) batch)
@@ -145,24 +146,6 @@ united_origins a b =
           | inl left ↦ let found = (origins_are a o).0 (to_contains (origins a) o left) in (found.0, left_known a b (o, found.0) found.1)
           | inr right ↦ let found = (origins_are b o).0 (to_contains (origins b) o right) in (found.0, right_known a b (o, found.0) found.1)
         ]))
-
--- counting on from where counting stopped
-pub counted_on : (first p q : ℕ) → count_up first (p + q) ≡ count_up first p ++ count_up (first + p) q
-counted_on first zero q = (λ i. count_up (first_is i) (zero_is i))
-  where
-    zero_is : zero + q ≡ q
-    zero_is = omega arith
-
-    first_is : first ≡ first + zero
-    first_is = omega arith
-counted_on first (suc p) q =
-    ap (count_up first) moved ∙ ap (λ ns. first ∷ ns) (counted_on (first + 1) p q ∙ ap (λ n. count_up (first + 1) p ++ count_up n q) same)
-  where
-    moved : suc p + q ≡ suc (p + q)
-    moved = omega arith
-
-    same : (first + 1) + p ≡ first + suc p
-    same = omega arith
 
 flat_map_on : {X Y : Type 0} (f : X → List Y) (xs ys : List X) → flat_map f (xs ++ ys) ≡ flat_map f xs ++ flat_map f ys
 flat_map_on f [] ys = refl

@@ -19,3 +19,4 @@ pub mod PartLaws
 pub mod Sorting
 pub mod Order
 pub mod OrderLaws
+pub mod Lemmas

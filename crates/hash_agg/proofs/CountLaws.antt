@@ -27,8 +27,8 @@ use Rattle.group_runs.specs.Adding.{row_added, rows_added, group_added, groups_a
 use Rattle.hash_agg.specs.Added.{Are, source_of}
 use Rattle.hash_agg.specs.Passes.{Of_row, Of_group, pieces_added, made_of, piece_key, weight, rows_at, CountUpTo, given_pieces, all_pieces, PassState, setting_of, Holds, CanRead, Reads, total, brings, brought_by, Brings}
 use Rattle.group_runs.specs.StandingLaws.{keys_packed, keys_of_kinds}
-use Rattle.group_runs.proofs.RunLaws.{run_apart}
-use Rattle.group_runs.proofs.MergeLaws.{puts-append}
+use Rattle.group_runs.specs.Lemmas.RunLaws.{run_apart}
+use Rattle.group_runs.specs.Lemmas.MergeLaws.{puts-append}
 use Rattle.group_runs.specs.MergeLaws.{AreApart, puts, puts_rise, nothing_rises, keys_of-rows_added, keys_of-groups_added}
 use Rattle.hash_agg.proofs.PassLaws.{rows_append, pieces_append}
 use Rattle.hash_agg.proofs.WholeLaws.{GivenAt, given_added, all_added, packings_once}

@@ -18,7 +18,7 @@ use Rattle.packed_rows.specs.Packing.{packing}
 use Rattle.aggregation_cost.specs.Cost.{cost}
 use Rattle.aggregation_cost.specs.Passes as cost
 use Rattle.aggregation_cost.specs.Space.{Key, Setting}
-use Rattle.aggregation_cost.proofs.CostLaws.{passes_few}
+use Rattle.aggregation_cost.specs.Lemmas.CostLaws.{passes_few}
 use Rattle.aggregation_cost.specs.KeyLaws.{same_key_itself, same_key-is, distinct-apart}
 use Rattle.aggregation_cost.specs.ListLaws.{any-filter, each_both, each_of_filter}
 use Rattle.group_runs.specs.Runs.{Entry, packed_keys}

@@ -10,14 +10,14 @@ use Rattle.grouping_model.specs.Grouping.{Group, column_of, key_of}
 use Rattle.packed_rows.specs.Packing.{packing}
 use Rattle.aggregation_cost.specs.Passes as cost
 use Rattle.aggregation_cost.specs.Space.{Setting}
-use Rattle.aggregation_cost.proofs.CostLaws.{each_fits}
+use Rattle.aggregation_cost.specs.Lemmas.CostLaws.{each_fits}
 use Rattle.aggregation_cost.specs.ListLaws.{each_of_flat_map}
 use Rattle.having_filter.specs.Kept.{IsWellFormed, key_kinds}
 use Rattle.group_runs.specs.Runs.{Entry}
 use Rattle.group_runs.specs.Standing.{AreGroups}
 use Rattle.hash_agg.specs.Inputs.{Brought, Packed, Counted, Given, Of_rows, Of_groups, Gives, AllGive}
 use Rattle.hash_agg.specs.Passes.{Piece, Of_row, Of_group, piece_key, cost_records, records_of, given_pieces, all_pieces}
-use Rattle.hash_agg.proofs.KeyLaws.{key_has}
+use Rattle.hash_agg.specs.Lemmas.KeyLaws.{key_has}
 use Rattle.hash_agg.proofs.StepLaws.{key_brief}
 
 abbrev HasShort : cost.Record → Type 0

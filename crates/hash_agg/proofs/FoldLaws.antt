@@ -25,16 +25,13 @@ use Rattle.packed_rows.specs.RowsOnEnd.{on_end}
 use Rattle.hash_agg.specs.Inputs.{Brought, Packed, Counted, rows_in, all_rows, AreInputsOf, AllBring, IsAggregate, IsRunOver}
 use Rattle.group_runs.specs.Adding.{groups_added}
 use Rattle.group_runs.specs.Steps.{AddsRun}
-use Rattle.hash_agg.proofs.KeyLaws.{key_has}
+use Rattle.hash_agg.specs.Lemmas.KeyLaws.{key_has}
 use Rattle.group_runs.specs.MergeLaws.{puts, puts_rise, keys_of-groups_added}
-use Rattle.group_runs.proofs.MergeLaws.{puts_long, among-puts, groups_added_part}
+use Rattle.group_runs.specs.Lemmas.MergeLaws.{puts_long, among-puts, groups_added_part}
 use Rattle.group_runs.specs.StandingLaws.{keys_packed, keys_of_kinds}
-use Rattle.group_runs.proofs.RunLaws.{rises_keys}
 use Rattle.hash_agg.proofs.WholeLaws.{packings_once, keys_few}
-use Rattle.group_runs.proofs.SpliceLaws.{packed_rise}
-
-pub run_keys_rise : (q : Query) (most : ℕ) (run : List Entry) (groups : List Group) → AreGroups q most run groups → Rises run → IsStrictlySortedBy row_cmp (keys_of groups)
-run_keys_rise q most run groups are rises = rises_keys (key_kinds q) (keys_of groups) (keys_of_kinds q most run groups are) (subst (IsStrictlySortedBy _) (keys_packed q most run groups are) rises)
+use Rattle.group_runs.specs.Lemmas.SpliceLaws.{packed_rise}
+use Rattle.hash_agg.specs.Lemmas.FoldLaws.{run_keys_rise}
 
 -- ---- the kinds of keys
 

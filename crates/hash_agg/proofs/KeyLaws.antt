@@ -4,14 +4,11 @@ use Rattle.std.proofs.Common.{sym, ◌∙◌, ap, arith}
 use Rattle.std.proofs.lemmas.List.{get_or-map, map-append, append-nil, take_more}
 use Rattle.std.proofs.lemmas.List.Concat.{flat_map-append}
 use Rattle.std.specs.List.{AllByRecursion}
-use Rattle.grouping_model.specs.Datum.{Datum, Null, Row, Kind, Bigint_kind, HasKind, HasKinds, at_place}
-use Rattle.grouping_model.specs.Query.{Query}
-use Rattle.grouping_model.specs.Grouping.{key_of}
+use Rattle.grouping_model.specs.Datum.{Datum, Null, Row, Kind, HasKinds, at_place}
 use Rattle.packed_rows.specs.Packing.{packing, value_packing}
 use Rattle.packed_rows.specs.View.{datum_of, row_of}
 use Rattle.packed_rows.specs.declared.value.Value.{Value}
 use Rattle.agg_protocol.specs.ArgumentLaws.{length-row_of}
-use Rattle.having_filter.specs.Kept.{key_kinds}
 
 pub all_index : {X : Type 0} (P : X → Type 0) (xs : List X) (i : ℕ) (d : X) → AllByRecursion P xs → i < length xs → P (slice_index_or xs i d)
 all_index P [] i d all low = absurd (omega arith)
@@ -23,20 +20,6 @@ kinds_long [] [] has = refl
 kinds_long [] (value ∷ row) has = absurd has
 kinds_long (kind ∷ kinds) [] has = absurd has
 kinds_long (kind ∷ kinds) (value ∷ row) (first, has) = let rest : length row ≡ length kinds = kinds_long kinds row has in omega (arith, rest)
-
-kind_at : (kinds : List Kind) (row : Row) (place : ℕ) → HasKinds kinds row → place < length kinds → HasKind (slice_index_or kinds place Bigint_kind) (at_place row place)
-kind_at [] row place has low = absurd (omega arith)
-kind_at (kind ∷ kinds) [] place has low = absurd has
-kind_at (kind ∷ kinds) (value ∷ row) zero (first, has) low = first
-kind_at (kind ∷ kinds) (value ∷ row) (suc place) (first, has) low = kind_at kinds row place has (omega arith)
-
--- a key has the kinds of its columns
-pub key_has : (q : Query) (row : Row) → AllByRecursion (λ place. place < length q.kinds) q.keys → HasKinds q.kinds row → HasKinds (key_kinds q) (key_of q row)
-key_has q row within has = each q.keys within
-  where
-    each : (keys : List ℕ) → AllByRecursion (λ place. place < length q.kinds) keys → HasKinds (map (λ place. slice_index_or q.kinds place Bigint_kind) keys) (map (at_place row) keys)
-    each [] within = tt
-    each (place ∷ keys) (low, within) = (kind_at q.kinds row place has low, each keys within)
 
 -- a column of GROUP BY is one of the row
 pub place_within : (kinds : List Kind) (values : List Value) (keys : List ℕ) (i : ℕ) → HasKinds kinds (row_of values) → AllByRecursion (λ place. place < length kinds) keys → i < length keys → slice_index_or keys i 0 < length values

@@ -6,7 +6,7 @@ use Rattle.std.proofs.lemmas.Bool.Decides.{nat_tests}
 use Rattle.std.proofs.lemmas.List.{map-append}
 use Rattle.aggregation_cost.specs.Cost.{greatest}
 use Rattle.aggregation_cost.specs.Space.{Key, Setting, need, fits, fronts}
-use Rattle.aggregation_cost.proofs.CostLaws.{one_fits}
+use Rattle.aggregation_cost.specs.Lemmas.CostLaws.{one_fits}
 use Rattle.context_tree.specs.Tree.{TreeState}
 use Rattle.key_hashes.specs.SipHashes.{low_hash}
 use Rattle.group_table.specs.Space.{HoldsKeys, key_of, keys_in}

@@ -25,8 +25,8 @@ use Rattle.group_runs.specs.Standing.{AreStates, StandsFor, AreGroups}
 use Rattle.group_runs.specs.Adding.{merged}
 use Rattle.hash_agg.specs.Passes.{Piece, Of_row, Of_group, IsPiece, ArePieces, piece_key, piece_added, pieces_added, made_of, weight, rows_at, AreOnce, IsParted, AreGroupsBy, Stands}
 use Rattle.group_runs.specs.MergeLaws.{AreApart, apart_from}
-use Rattle.group_runs.proofs.MergeLaws.{found_among, found_others}
-use Rattle.group_runs.proofs.RunLaws.{packed_once}
+use Rattle.group_runs.specs.Lemmas.MergeLaws.{found_among, found_others}
+use Rattle.group_runs.specs.Lemmas.RunLaws.{packed_once}
 use Rattle.group_runs.specs.StandingLaws.{states_raised}
 use Rattle.hash_agg.proofs.TableLaws.{HasNoKey}
 use Rattle.hash_agg.proofs.OneByOneLaws.{one_append, none_to_none}

@@ -11,7 +11,7 @@ use Rattle.having_filter.specs.Meaning.{meaning}
 use Rattle.hash_agg.specs.declared.plan.Plan.{Plan}
 use Rattle.group_runs.specs.Standing.{StandsFor}
 use Rattle.hash_agg.specs.Passes.{Piece, Of_row, Of_group, group_record, IsRowRecord, IsGroupRecord, ArePieces, made_of, CountUpTo, Stands, Spills, setting_of, PassState, CanRead, Reads, AreRows, AreOfRun}
-use Rattle.group_runs.proofs.RunLaws.{packed_once}
+use Rattle.group_runs.specs.Lemmas.RunLaws.{packed_once}
 use Rattle.hash_agg.proofs.PassLaws.{reads_over}
 use Rattle.hash_agg.proofs.SpillLaws.{spills_over}
 use Rattle.hash_agg.proofs.StepLaws.{one_row, passed_over, can_count, of_group_record}

@@ -19,7 +19,7 @@ use Rattle.group_runs.specs.Runs.{Entry, packed_keys, Rises}
 use Rattle.group_runs.specs.Places.{AllBelow}
 use Rattle.hash_agg.specs.Passes.{AreOnce, Led, IsLed, pairs}
 use Rattle.group_runs.specs.PlaceLaws.{key_total, take_found, smaller_first}
-use Rattle.group_runs.proofs.PlaceLaws.{below_to, rises_between}
+use Rattle.group_runs.specs.Lemmas.PlaceLaws.{below_to, rises_between}
 use Rattle.hash_agg.proofs.TableLaws.{HasNoKey}
 
 -- ---- keys that differ

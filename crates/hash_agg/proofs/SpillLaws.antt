@@ -13,7 +13,7 @@ use Rattle.packed_rows.specs.Packing.{packing}
 use Rattle.aggregation_cost.specs.Passes as cost
 use Rattle.aggregation_cost.specs.Space.{Key, Setting, fits}
 use Rattle.aggregation_cost.specs.KeyLaws.{same_key_itself, same_key-is}
-use Rattle.aggregation_cost.proofs.Steps.{taken_from-push, spilled_from-push}
+use Rattle.aggregation_cost.specs.Lemmas.Steps.{taken_from-push, spilled_from-push}
 use Rattle.spill_tapes.specs.Records.{Record}
 use Rattle.spill_lists.specs.declared.lists.OnTape.{OnTape}
 use Rattle.group_runs.specs.Runs.{Entry, packed_keys}

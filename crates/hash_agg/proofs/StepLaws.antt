@@ -34,12 +34,12 @@ use Rattle.group_runs.specs.Standing.{AreStates, StandsFor, states_width}
 use Rattle.group_runs.specs.Steps.{AreWithin, AreAdvanced, AreCombined}
 use Rattle.hash_agg.specs.Passes.{Piece, Of_row, Of_group, group_record, IsGroupRecord, IsPiece, piece_key, piece_added, weight, rows_at, CountUpTo, AreOnce, AreGroupsBy, GroupsState, entries_of, WritesAt, Stands, Spills, AreSafe, PassState, standing, setting_of, Holds, CanRead, Reads, AreRows, AreOfRun, total, brings, brought_by, Brings, Proceeds}
 use Rattle.hash_agg.specs.Added.{IsSelected}
-use Rattle.hash_agg.proofs.KeyLaws.{key_has}
+use Rattle.hash_agg.specs.Lemmas.KeyLaws.{key_has}
 use Rattle.hash_agg.proofs.NeedLaws.{keys_set}
 use Rattle.hash_agg.proofs.SpillLaws.{among_entries, none_of, spills_there, spills_new, spills_left}
 use Rattle.group_runs.specs.PlaceLaws.{take_found}
 use Rattle.group_runs.specs.StandingLaws.{group_at, groups_long, states_by}
-use Rattle.group_runs.proofs.RunLaws.{packed_once}
+use Rattle.group_runs.specs.Lemmas.RunLaws.{packed_once}
 use Rattle.hash_agg.proofs.InputLaws.{flat_row_at}
 use Rattle.agg_library.specs.StateRowLaws.{states_wide, narrow}
 use Rattle.hash_agg.proofs.TableLaws.{no_key, named_at, get_mapped}

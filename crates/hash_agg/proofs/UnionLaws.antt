@@ -20,7 +20,7 @@ use Rattle.group_runs.specs.Runs.{Entry, Rises}
 use Rattle.group_runs.specs.Standing.{StandsFor, AreGroups, IsRun}
 use Rattle.packed_rows.specs.RowsOnEnd.{on_end}
 use Rattle.hash_agg.specs.Passes.{Piece, IsPiece, made_of, rows_at, CountUpTo, AreOnce, AreGroupsBy, AreSafe, Stands}
-use Rattle.hash_agg.proofs.FoldLaws.{run_keys_rise}
+use Rattle.hash_agg.specs.Lemmas.FoldLaws.{run_keys_rise}
 use Rattle.group_runs.specs.MergeLaws.{AreApart, apart_from, rising_apart}
 use Rattle.hash_agg.proofs.PassLaws.{at_cons, missing, by_uniform, by_append, by_set, once_apart, same_itself}
 use Rattle.hash_agg.proofs.OneByOneLaws.{as_long, none_to_none}

@@ -17,7 +17,7 @@ use Rattle.packed_rows.specs.Packing.{packing}
 use Rattle.aggregation_cost.specs.ListLaws.{each_of_filter}
 use Rattle.aggregation_cost.specs.Passes.{is_empty}
 use Rattle.spill_tapes.specs.Records.{Record}
-use Rattle.spill_lists.proofs.CountLaws.{is_not, is_it, is_past}
+use Rattle.spill_lists.specs.Lemmas.CountLaws.{is_not, is_it, is_past}
 use Rattle.spill_lists.specs.Lists.{LeftList, list_of, on_list, deeper, is_none, lists, left_by}
 use Rattle.group_runs.specs.Runs.{Entry}
 use Rattle.hash_agg.specs.Passes.{Piece, Of_row, Of_group, IsPiece, ArePieces, piece_key, piece_added, pieces_added, made_of, weight, rows_at, CountUpTo, AreOnce, Stands}
@@ -26,7 +26,7 @@ use Rattle.hash_agg.proofs.PassLaws.{after, added_with, IsKept, or_none, at_appe
 use Rattle.hash_agg.proofs.OneByOneLaws.{one_append, none_to_none, one_filtered, LastOf, last_of, as_none}
 use Rattle.hash_agg.proofs.SpillLaws.{piece_hash}
 use Rattle.hash_agg.proofs.UnionLaws.{once_append}
-use Rattle.group_runs.proofs.RunLaws.{packed_once}
+use Rattle.group_runs.specs.Lemmas.RunLaws.{packed_once}
 use Rattle.having_filter.specs.Kept.{key_kinds}
 
 -- ---- one of some

@@ -16,9 +16,9 @@ use Rattle.packed_rows.specs.RowsOnEnd.{on_end}
 use Rattle.hash_agg.specs.Inputs.{Brought, Packed, Counted, brought, IsInput, AreInputsOf, Given, Of_rows, Of_groups, Gives, AllGive}
 use Rattle.group_runs.specs.Adding.{rows_added, groups_added}
 use Rattle.group_runs.specs.MergeLaws.{puts}
-use Rattle.group_runs.proofs.MergeLaws.{rows_added_part, groups_added_part, puts_all, distinct_few}
+use Rattle.group_runs.specs.Lemmas.MergeLaws.{rows_added_part, groups_added_part, puts_all, distinct_few}
 use Rattle.group_runs.specs.StandingLaws.{keys_packed}
-use Rattle.group_runs.proofs.RunLaws.{packed_once}
+use Rattle.group_runs.specs.Lemmas.RunLaws.{packed_once}
 
 -- the groups after all that an input gives, and after all that some inputs give
 abbrev pub given_added : Query → List Group → Given → List Group

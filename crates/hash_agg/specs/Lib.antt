@@ -4,3 +4,4 @@ pub mod Waiting
 pub mod Means
 pub mod Counting
 pub mod Added
+pub mod Lemmas

@@ -15,8 +15,8 @@ use Rattle.having_filter.specs.Plans.{IsKept, PlansFor}
 use Rattle.having_filter.specs.declared.plan.Plan.{Plan}
 use Rattle.having_filter.specs.Kept.{written_by_names, label_of}
 use Rattle.having_filter.specs.NormalLaws.{columns_of_query, named_again}
-use Rattle.having_filter.proofs.NormalLaws.{asked_again, spelled_alike, label_twice}
-use Rattle.having_filter.proofs.WellLaws.{passed_query}
+use Rattle.having_filter.specs.Lemmas.NormalLaws.{asked_again, spelled_alike, label_twice}
+use Rattle.having_filter.specs.Lemmas.WellLaws.{passed_query}
 
 -- the labels of a query's items are those of the checked query
 labels_plain : (items : List (Form (List ℕ) × Option (List ℕ))) → map label_of (map canonical_item items) ≡ map label_of items

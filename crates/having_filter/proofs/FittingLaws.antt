@@ -30,7 +30,7 @@ use Rattle.query_checks.specs.Order.{order_of}
 use Rattle.having_filter.specs.Kept.{IsCheckedQuery, by_names}
 use Rattle.having_filter.specs.PlaceLaws.{placed_name}
 use Rattle.having_filter.specs.NormalLaws.{HasColumns, placed_item, columns_of_query}
-use Rattle.having_filter.proofs.PassedLaws.{passes_first, passes_places}
+use Rattle.having_filter.specs.Lemmas.PassedLaws.{passes_first, passes_places}
 
 -- ---- kinds
 

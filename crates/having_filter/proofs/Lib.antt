@@ -1,10 +1,6 @@
 pub mod ValueLaws
 pub mod PlanLaws
-pub mod OrderLaws
-pub mod NormalLaws
-pub mod WellLaws
 pub mod CheckedLaws
 pub mod AnswerLaws
-pub mod PassedLaws
 pub mod FittingLaws
 pub mod OrderingLaws

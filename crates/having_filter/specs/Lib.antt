@@ -7,3 +7,4 @@ pub mod Answers
 pub mod Fitting
 pub mod NormalLaws
 pub mod PlaceLaws
+pub mod Lemmas

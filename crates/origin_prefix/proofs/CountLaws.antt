@@ -1,5 +1,5 @@
 -- What a delivery of a batch that isn't next to the prefix is counted as.
-use Rattle.std.specs.Prelude.{◌≡◌, ◌≢◌, refl, ℕ, ◌+◌, ◌<◌, ◌==◌, true, false, List, [], Some, if◌then◌else◌, Result, Ok, Err, OnOk}
+use Rattle.std.specs.Prelude.{◌≡◌, ◌≢◌, refl, ℕ, ◌+◌, ◌<◌, ◌==◌, true, false, List, [], Some, if◌then◌else◌}
 use Rattle.std.proofs.Common.{arith}
 use Rattle.grouping_model.specs.Query.{Query}
 use Rattle.packed_rows.specs.Columns.{kinds}
@@ -8,7 +8,7 @@ use Rattle.aggregation_cost.specs.Space.{Setting}
 use Rattle.hash_agg.specs.Counting.{AreCounted}
 use Rattle.hash_agg.specs.declared.work.Work.{Work}
 use Rattle.origin_prefix.specs.Parts.{Part, rows_at, IsEarly, IsPartOf, behind, aggregations_behind, aggregations_on}
-use Rattle.origin_prefix.proofs.ByNumber.{found_holds}
+use Rattle.origin_prefix.specs.Lemmas.ByNumber.{found_holds}
 
 -- a number that is early isn't next
 early_apart : (query : Checked) (part : Part) (number : ℕ) (kept : List (List ℕ)) → IsPartOf query part → rows_at part.early number ≡ Some kept → number ≢ part.prefix + 1
@@ -29,8 +29,3 @@ apart_counted q setting part number rows work writes apart =
 pub early_counted : (query : Checked) (q : Query) (setting : Setting) (part : Part) (number : ℕ) (rows kept : List (List ℕ)) (work : Work) (writes : ℕ)
     → IsPartOf query part → rows_at part.early number ≡ Some kept → AreCounted q setting (aggregations_on part number rows) work writes work writes
 early_counted query q setting part number rows kept work writes is there = apart_counted q setting part number rows work writes (early_apart query part number kept is there)
-
--- what holds in any case
-pub on_ok : {T E : Type 0} (result : Result T E) (P : Type 0) → P → OnOk result P
-on_ok (Ok x) P p = p
-on_ok (Err e) P p = tt

@@ -1,22 +1,18 @@
 -- What becomes of a part to which a batch is delivered.
-use Rattle.std.specs.Prelude.{◌≡◌, ◌≢◌, refl, ℕ, ◌+◌, ◌-◌, ◌<◌, ◌≤◌, ◌||◌, ◌&&◌, nat_le, Bool, true, false, List, [], ◌∷◌, Some, None, Result, Ok, Err, IfOk, IfErr, OnOk, OnErr}
+use Rattle.std.specs.Prelude.{◌≡◌, ◌≢◌, refl, ℕ, ◌+◌, ◌-◌, ◌<◌, ◌≤◌, ◌||◌, ◌&&◌, nat_le, Bool, true, false, List, Some, None, Result, Ok, Err, IfOk, IfErr, OnOk, OnErr}
 use Rattle.std.proofs.Common.{◌∙◌, sym, ap, subst, inl, inr, arith}
 use Rattle.std.proofs.lemmas.Bool.{cases_lt, and_right, or_right}
 use Rattle.std.specs.Option.{is_some}
-use Rattle.std.specs.List.{AllByRecursion}
 use Rattle.std.specs.List.Sorted.{IsStrictlySortedBy}
 use Rattle.std.specs.Ordering.{nat_cmp}
-use Rattle.std.specs.declared.cmp.Ordering.TheVariants.{Less}
 use Rattle.std.specs.BTreeMap.{insert_entry}
 use Rattle.std.proofs.lemmas.Result.{IfOk-weaker, IfErr-weaker}
 use Rattle.list_laws.specs.Each.{each_weaker}
-use Rattle.grouping_model.specs.Datum.{Kind}
 use Rattle.grouping_model.specs.Query.{Query}
 use Rattle.grouping_model.specs.declared.limits.TheConstants.{LAST_NUMBER}
 use Rattle.grouping_model.specs.declared.delivered.Delivered.{Delivered}
 use Rattle.grouping_model.specs.declared.delivered.Delivered.TheVariants.{Known, Early}
 use Rattle.packed_rows.specs.Columns.{kinds}
-use Rattle.packed_rows.specs.PackingOrderLaws.{less}
 use Rattle.batch_reader.specs.Rows.{ArePackedRows}
 use Rattle.query_checks.specs.Checks.{Checked}
 use Rattle.having_filter.specs.Meaning.{meaning}
@@ -26,8 +22,9 @@ use Rattle.origin_prefix.specs.declared.error.RefusedBatch.{RefusedBatch}
 use Rattle.origin_prefix.specs.declared.error.JoinError.TheVariants.{OriginDisagrees, Spill}
 use Rattle.spill_lists.specs.declared.error.SpillError.{SpillError}
 use Rattle.origin_prefix.specs.Errors.{no_memory}
-use Rattle.origin_prefix.proofs.ByNumber.{numbers, some_is, found_holds, all_put}
+use Rattle.origin_prefix.specs.Lemmas.ByNumber.{numbers, some_is, found_holds, all_put}
 use Rattle.origin_prefix.proofs.PartLaws.{settled_part}
+use Rattle.origin_prefix.specs.Lemmas.DeliverLaws.{next_rising}
 
 -- a number within the prefix isn't early
 pub within_prefix : (query : Checked) (part : Part) (number : ℕ) (rows kept : List (List ℕ)) → IsPartOf query part → number ≤ part.prefix → rows_at part.early number ≡ Some kept → kept ≡ rows
@@ -75,14 +72,6 @@ part_open query part is =
       above = each_weaker (IsEarly (kinds query.columns) part.prefix) (IsBehind (kinds query.columns) part.prefix)
           (λ b e. record { behind = let low = e.behind in omega (arith, low); within = e.within; rows = e.rows }) part.early is.early;
     }
-
-above_next : (ks : List Kind) (prefix : ℕ) (batches : Batches) → AllByRecursion (IsEarly ks prefix) batches → AllByRecursion (λ m. nat_cmp (prefix + 1) m ≡ Less) (numbers batches)
-above_next ks prefix [] all = tt
-above_next ks prefix (b ∷ batches) all = (less (prefix + 1) b.0 all.0.behind, above_next ks prefix batches all.1)
-
-pub next_rising : (query : Checked) (part : Part) (rows : List (List ℕ)) → IsPartOf query part → IsStrictlySortedBy nat_cmp (numbers ((part.prefix + 1, rows) ∷ part.early))
-unfolding IsStrictlySortedBy
-next_rising query part rows is = (above_next (kinds query.columns) part.prefix part.early is.early, is.rising)
 
 pub next_open : (query : Checked) (part : Part) (rows : List (List ℕ)) → IsPartOf query part → part.prefix + 1 ≤ LAST_NUMBER → ArePackedRows (kinds query.columns) rows
     → IsOpen query part.prefix part.run (behind part.prefix part.early (Some rows))

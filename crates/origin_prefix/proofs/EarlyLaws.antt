@@ -13,8 +13,8 @@ use Rattle.std.proofs.Common.{◌∙◌, sym, ap, subst, inl, inr, arith}
 use Rattle.std.specs.Ordering.{eq_by_cmp, nat_cmp}
 use Rattle.origin_prefix.specs.Parts.{Batches, rows_at}
 use Rattle.origin_prefix.specs.Joins.{either, DiffersAt}
-use Rattle.origin_prefix.proofs.ByNumber.{numbers, some_is, at_head, behind_head, none_found, above_first}
-use Rattle.origin_prefix.proofs.Lists.{is_itself, is_same, is_other, same_or_other}
+use Rattle.origin_prefix.specs.Lemmas.ByNumber.{numbers, some_is, at_head, behind_head, none_found, above_first}
+use Rattle.origin_prefix.specs.Lemmas.Lists.{is_itself, is_same, is_other, same_or_other}
 
 -- a batch that was put under its number
 abbrev pub AtNumber : Batches → ℕ → List (List ℕ) → Batches → Type 0

@@ -10,7 +10,7 @@ use Rattle.packed_rows.specs.Columns.{kinds}
 use Rattle.query_checks.specs.Checks.{Checked}
 use Rattle.origin_prefix.specs.Parts.{Batches, Part, rows_at, IsEarly, IsBehind, IsOpen, IsPartOf}
 use Rattle.origin_prefix.specs.Joins.{either, Unites}
-use Rattle.origin_prefix.proofs.ByNumber.{numbers}
+use Rattle.origin_prefix.specs.Lemmas.ByNumber.{numbers}
 
 -- what was copied from a part, and then from another, behind a number
 abbrev pub Copied : ℕ → Batches → Batches → Batches → Type 0

@@ -1,7 +1,6 @@
 -- The batches that follow a prefix: what they bring, and what becomes of a part that takes them.
 use Rattle.std.specs.Prelude.{◌≡◌, refl, ℕ, zero, suc, ◌+◌, ◌*◌, ◌<◌, ◌≤◌, ◌==◌, Bool, true, false, cond, List, [], ◌∷◌, map, filter, take, drop, length, if◌then◌else◌, IsTrue}
 use Rattle.std.proofs.Common.{◌∙◌, sym, ap, subst, inl, inr, arith}
-use Rattle.std.proofs.lemmas.List.Elements.{recursion_from_All}
 use Rattle.std.proofs.lemmas.List.{length-map, length-append}
 use Rattle.std.proofs.lemmas.List.Sums.{sum_by-cons}
 use Rattle.std.specs.List.{AllByRecursion}
@@ -10,7 +9,7 @@ use Rattle.std.specs.Ordering.{nat_cmp}
 use Rattle.std.proofs.lemmas.Bool.{cases_lt}
 use Rattle.list_laws.specs.Each.{each_weaker, each_both, each_dropped}
 use Rattle.grouping_model.specs.Condition.{is_met}
-use Rattle.grouping_model.specs.Datum.{Kind, Row, HasKinds}
+use Rattle.grouping_model.specs.Datum.{Kind, Row}
 use Rattle.grouping_model.specs.Grouping.{key_of, selected, column_of}
 use Rattle.grouping_model.specs.Parts.{keys_of}
 use Rattle.grouping_model.specs.Query.{Query}
@@ -25,12 +24,9 @@ use Rattle.hash_agg.specs.Inputs.{Packed, Counted, IsAggregate, IsRunOver, IsInp
 use Rattle.group_runs.specs.Runs.{Entry, packed_keys}
 use Rattle.group_runs.specs.Standing.{IsRun}
 use Rattle.group_runs.specs.StandingLaws.{groups_raised, keys_packed, keys_of_kinds}
-use Rattle.origin_prefix.proofs.ByNumber.{numbers, above_first, rising_rest}
+use Rattle.origin_prefix.specs.Lemmas.ByNumber.{numbers, above_first, rising_rest}
 use Rattle.origin_prefix.specs.Parts.{Batches, Part, IsEarly, IsBehind, IsOpen, IsPartOf, following, rows_following, Folds, Settles}
-
--- packed rows of a batch may be aggregated
-pub packed_input : (query : Checked) (rows : List (List ℕ)) → ArePackedRows (kinds query.columns) rows → IsInput (meaning query) (Packed rows)
-packed_input query rows are = (are.rows, record { of_kinds = recursion_from_All (HasKinds (kinds query.columns)) are.rows are.of_kinds; packings_are = are.packings_are })
+use Rattle.origin_prefix.specs.Lemmas.PartLaws.{packed_input}
 
 -- what holds of each batch holds of the rows of those that follow
 pub each_following : (P : List (List ℕ) → Type 0) (Q : ℕ × List (List ℕ) → Type 0) → ((batch : ℕ × List (List ℕ)) → Q batch → P batch.1)

@@ -5,3 +5,4 @@ pub mod Joins
 pub mod Fitting
 pub mod Held
 pub mod WorldRows
+pub mod Lemmas

@@ -2,19 +2,19 @@
 use Rattle.std.specs.Prelude.{◌≡◌, ◌≢◌, ℕ, ◌+◌, ◌<◌, ◌≤◌, List, [], ◌∷◌, ◌++◌, length, take, drop, Contains, slice_index_or, Result, Ok, Err, IsErr, MatchResult}
 use Rattle.std.proofs.Common.{refl, sym, ◌∙◌, ap, subst, arith, append_assoc, append-nil}
 use Rattle.grouping_model.specs.Datum.{Datum, Kind, Row, IsText, HasKind, HasKinds, null_field, Bigint_kind}
-use Rattle.packed_rows.specs.Field.{IsTextField, Reads, ReadsRow, IsBadField, IsLeftmostBad}
+use Rattle.packed_rows.specs.Field.{IsTextField, Reads, IsBadField, IsLeftmostBad}
 use Rattle.std.proofs.lemmas.List.Elements.{Contains-append_right}
-use Rattle.std.proofs.lemmas.List.Concat.{flat_map-append}
 use Rattle.packed_rows.specs.Packing.{value_packing, packing}
-use Rattle.std.proofs.lemmas.List.{map_push, take_more, take_all, drop_more, drop_all, get_or-map, length-map}
+use Rattle.std.proofs.lemmas.List.{map_push, drop_more, drop_all, get_or-map, length-map}
 use Rattle.packed_rows.specs.declared.value.Value.{Value}
 use Rattle.packed_rows.specs.declared.value.ValueKind.{ValueKind}
 use Rattle.packed_rows.specs.View.{datum_of, row_of, kind_of, kinds_of, texts_of}
 use Rattle.std.specs.Borrow.{Bor}
 use Rattle.packed_rows.specs.declared.value.ValueKind.TheVariants as kind
-use Rattle.packed_rows.proofs.PackingOrder.{value_apart, zero_apart}
+use Rattle.packed_rows.specs.Lemmas.PackingOrder.{value_apart, zero_apart}
 use Rattle.std.proofs.lemmas.Bool.Decides.{nat_tests}
 use Rattle.std.proofs.lemmas.Grind.{common_steps}
+use Rattle.packed_rows.specs.Lemmas.RowLaws.{PackedSoFar, packed_more}
 
 -- the packing of one value more
 pub packed_next : (values : List Value) (i : ℕ) (d : Value) (before after : List ℕ) → i < length values → before ≡ packing (row_of (take i values)) → after ≡ before ++ value_packing (datum_of (slice_index_or values i d)) → after ≡ packing (row_of (take (i + 1) values))
@@ -103,25 +103,6 @@ more_left kinds bytes row rest u more whole p = λ e. ended row whole rest more 
 
 pub none_left : (kinds : List Kind) (bytes : List ℕ) (row : Row) (rest : List ℕ) → Unpacked kinds [] bytes row rest → rest ≡ [] → HasKinds kinds row × (bytes ≡ packing row)
 none_left kinds bytes row rest u none = grind (arith, nat_tests, common_steps)
-
--- ---- fields that are read one after another
-
--- the first fields stand for values, and these are the values' bytes
-abbrev pub PackedSoFar : List Kind → List (List ℕ) → ℕ → List ℕ → Type 0
-PackedSoFar kinds fields i bytes = (row : Row) × ReadsRow (take i kinds) (take i fields) row × (bytes ≡ packing row)
-
-reads_push : (kinds : List Kind) (fields : List (List ℕ)) (row : Row) (kind : Kind) (field : List ℕ) (value : Datum) → ReadsRow kinds fields row → Reads kind field value → ReadsRow (kinds ++ kind ∷ []) (fields ++ field ∷ []) (row ++ value ∷ [])
-reads_push [] [] [] kind field value p q = (q, tt)
-reads_push (k ∷ kinds) (f ∷ fields) (v ∷ row) kind field value p q = (p.0, reads_push kinds fields row kind field value p.1 q)
-reads_push kinds fields row kind field value p q = absurd assumption
-
-pub packed_more : (kinds : List Kind) (fields : List (List ℕ)) (i : ℕ) (bytes : List ℕ) (kind : Kind) (field : List ℕ) (value : Datum) → i < length kinds → i < length fields → Reads (slice_index_or kinds i kind) (slice_index_or fields i field) value → PackedSoFar kinds fields i bytes → PackedSoFar kinds fields (i + 1) (bytes ++ value_packing value)
-packed_more kinds fields i bytes kind field value h h' r s =
-    let pushed = reads_push (take i kinds) (take i fields) s.0 (slice_index_or kinds i kind) (slice_index_or fields i field) value s.1 r in
-    (s.0 ++ value ∷ [], rw (take_more kinds i kind h, take_more fields i field h') pushed, ap (λ (w : List ℕ). w ++ value_packing value) s.2 ∙ ap (λ (w : List ℕ). packing s.0 ++ w) (sym (append-nil (value_packing value))) ∙ sym (flat_map-append value_packing s.0 (value ∷ [])))
-
-pub packed_all : (kinds : List Kind) (fields : List (List ℕ)) (bytes : List ℕ) → length fields ≡ length kinds → PackedSoFar kinds fields (length kinds) bytes → (row : Row) × ReadsRow kinds fields row × (bytes ≡ packing row)
-packed_all kinds fields bytes e s = (s.0, subst (λ (w : List Kind). ReadsRow w fields s.0) (take_all (length kinds) kinds (omega arith)) (subst (λ (w : List (List ℕ)). ReadsRow (take (length kinds) kinds) w s.0) (ap (λ n. take n fields) (sym e) ∙ take_all (length fields) fields (omega arith)) s.1), s.2)
 
 kind_is : (ks : List ValueKind) (kinds : List Kind) (i : ℕ) → kinds_of ks ≡ kinds → i < length ks → slice_index_or kinds i Bigint_kind ≡ kind_of (slice_index_or ks i kind.Bigint)
 kind_is ks kinds i e h = ap (λ (w : List Kind). slice_index_or w i Bigint_kind) (sym e) ∙ get_or-map kind_of ks i kind.Bigint Bigint_kind h

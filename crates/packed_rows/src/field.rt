@@ -45,7 +45,7 @@ pub(crate) fn read_text(field: &[u8]) -> Option<&str>
 }
 
 /// A field stands for one value at most, which has its column's kind, and the fields of a row for one row at most.
-#[tactic(auto, using(crate::proofs::FieldLaws::one_value, crate::specs::FieldLaws::read_kind, crate::proofs::FieldLaws::one_row, crate::specs::FieldLaws::read_kinds))]
+#[tactic(auto, using(crate::specs::Lemmas::FieldLaws::one_value, crate::specs::FieldLaws::read_kind, crate::specs::Lemmas::FieldLaws::one_row, crate::specs::FieldLaws::read_kinds))]
 pub fn reading()
     ensures one_value { (kind : Kind) (field : List ℕ) (x y : Datum) → Reads kind field x →
         Reads kind field y → x ≡ y }

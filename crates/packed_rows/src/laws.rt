@@ -9,7 +9,7 @@ ghost use Rattle.packed_rows.specs.Columns.{Column, AreColumns, IsSchemaText, pr
 
 /// Packed keys of the same kinds compare by their bytes as the keys do. A packing tells where it ends, so what
 /// follows two packings doesn't matter, and equal packings are of equal keys.
-#[tactic(auto, using(crate::proofs::PackingOrder::packed_order, crate::proofs::PackingOrder::row_apart))]
+#[tactic(auto, using(crate::specs::Lemmas::PackingOrder::packed_order, crate::specs::Lemmas::PackingOrder::row_apart))]
 pub fn packing_order()
     ensures order { (kinds : List Kind) (x y : Row) → HasKinds kinds x → HasKinds kinds y →
         slice_cmp nat_cmp (packing x) (packing y) ≡ row_cmp x y }

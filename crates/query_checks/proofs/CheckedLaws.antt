@@ -1,6 +1,6 @@
 -- What each check that fails gives.
 use Rattle.std.proofs.Common.{◌≡◌, ◌≢◌, ℕ, true, false, List, refl}
-use Rattle.std.specs.Prelude.{Ok, Err}
+use Rattle.std.specs.Prelude.{Err}
 use Rattle.packed_rows.specs.Columns.{Column, kinds}
 use Rattle.query_checks.specs.declared.error.QueryError.TheVariants as error
 use Rattle.query_checks.specs.declared.error.QueryError.TheVariants.{NoMemory}
@@ -15,7 +15,3 @@ gives_mismatch columns q plain fit _ = rw plain (rw fit refl)
 pub gives_ungrouped : (columns : List Column) (q : Written ℕ) → are_plain q ≡ true → kinds_fit (kinds columns) q ≡ true → is_grouped q ≡ false → error.NotGrouped ≢ NoMemory → checked_places columns q ≡ Err error.NotGrouped
 unfolding checked_places
 gives_ungrouped columns q plain fit grouped _ = rw plain (rw fit (rw grouped refl))
-
-pub gives_checked : (columns : List Column) (q : Written ℕ) → are_plain q ≡ true → kinds_fit (kinds columns) q ≡ true → is_grouped q ≡ true → checked_places columns q ≡ Ok q
-unfolding checked_places
-gives_checked columns q plain fit grouped = rw plain (rw fit (rw grouped refl))

@@ -15,3 +15,4 @@ pub mod FormLaws
 pub mod ReadLaws
 pub mod SameLaws
 pub mod Names
+pub mod Lemmas

@@ -50,7 +50,7 @@ pub fn text_of_known(alloc: Global, schema: &Schema, raw: &RawQuery) -> Result<S
 /// The first of these that is found anywhere in them: `AggregateHere` for an aggregate in WHERE or in a FILTER;
 /// `TypeMismatch` for an argument, an operand or a condition of the wrong kind; `NotGrouped` for a column among the items
 /// or in HAVING that stands outside aggregates and isn't in GROUP BY.
-#[tactic(auto, unfolding(crate::specs::Checks::checked_places), using(crate::proofs::CheckedLaws::gives_mismatch, crate::proofs::CheckedLaws::gives_ungrouped, crate::proofs::CheckedLaws::gives_checked))]
+#[tactic(auto, unfolding(crate::specs::Checks::checked_places), using(crate::proofs::CheckedLaws::gives_mismatch, crate::proofs::CheckedLaws::gives_ungrouped, crate::specs::Lemmas::CheckedLaws::gives_checked))]
 pub fn check_parts(schema: &Schema, parts: &Parts) -> Result<(), QueryError>
     ensures passed { OnOk result (checked_places schema.now (written_of_parts parts.now)
         ≡ Ok (written_of_parts parts.now)) }

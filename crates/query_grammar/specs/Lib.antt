@@ -5,3 +5,4 @@ pub mod Reading
 pub mod Whole
 pub mod Laws
 pub mod Canonical
+pub mod Lemmas

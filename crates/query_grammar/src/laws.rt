@@ -18,21 +18,21 @@ ghost use Rattle.query_grammar.specs.Laws.{IsUnexpected, IsTooDeep, IsSpelled};
 ghost use Rattle.query_grammar.specs.Canonical.{canonical};
 
 /// What is read is in the grammar, all of it.
-#[tactic(auto, using(crate::proofs::Faults::is_query))]
+#[tactic(auto, using(crate::specs::Lemmas::Faults::is_query))]
 pub fn what_is_read_is_a_query()
     ensures { (limit : ℕ) (ts : List Lexeme) (q : Asked) (rest : List Lexeme) →
         query_at limit ts ≡ Ok (q, rest) → IsQuery limit ts q }
 {}
 
 /// What is in the grammar is read.
-#[tactic(auto, using(crate::proofs::Whole_complete::query_reads))]
+#[tactic(auto, using(crate::specs::Lemmas::Whole_complete::query_reads))]
 pub fn what_is_a_query_is_read()
     ensures { (limit : ℕ) (ts : List Lexeme) (q : Asked) → IsQuery limit ts q →
         query_at limit ts ≡ Ok (q, []) }
 {}
 
 /// Tokens say one query at most.
-#[tactic(auto, using(crate::proofs::Whole_complete::one_query))]
+#[tactic(auto, using(crate::specs::Lemmas::Whole_complete::one_query))]
 pub fn one_query()
     ensures { (limit : ℕ) (ts : List Lexeme) (q r : Asked) → IsQuery limit ts q →
         IsQuery limit ts r → q ≡ r }
@@ -41,7 +41,7 @@ pub fn one_query()
 /// Where tokens are refused, it is at the first one after which no query can follow, or at their end if none is. It is
 /// for the number of parentheses if a query can follow with one more of them allowed, and else for the token itself. And
 /// where there is such a token, it is the one that is refused, so tokens have one first fault.
-#[tactic(auto, using(crate::proofs::Faults::is_unexpected, crate::proofs::Faults::is_too_deep))]
+#[tactic(auto, using(crate::specs::Lemmas::Faults::is_unexpected, crate::specs::Lemmas::Faults::is_too_deep))]
 pub fn refused_tokens()
     ensures unexpected { (limit : ℕ) (ts : List Lexeme) (left : ℕ) →
         query_at limit ts ≡ Err (Unexpected left) → IsUnexpected limit ts left }
@@ -55,7 +55,7 @@ pub fn refused_tokens()
 
 /// What legal tokens say can be written: all names are legal and not reserved, numbers have 64 bits, no text has the
 /// character 0, and only a count of rows has no column.
-#[tactic(auto, using(crate::proofs::Writables::query_writable))]
+#[tactic(auto, using(crate::specs::Lemmas::Writables::query_writable))]
 pub fn what_is_a_query_can_be_written()
     ensures { (limit : ℕ) (ts : List Lexeme) (q : Asked) → IsQuery limit ts q →
         AllByRecursion IsLexeme ts → CanBeAsked q }
@@ -63,7 +63,7 @@ pub fn what_is_a_query_can_be_written()
 
 /// The canonical text of a query says the query, each column of GROUP BY once, no alias that is the item's own name, and of
 /// ORDER BY the terms that order, by their places, if its conditions are nested at most 64 deep and these places have 64 bits.
-#[tactic(auto, using(crate::proofs::PrintedQuery::text_says))]
+#[tactic(auto, using(crate::specs::Lemmas::PrintedQuery::text_says))]
 pub fn canonical_text_is_read()
     ensures { (q : Asked) → IsWritable q.written →
         all_of (filters_pass is_shallow) are_shallow q.written ≡ true →
@@ -72,7 +72,7 @@ pub fn canonical_text_is_read()
 {}
 
 /// Two checked queries whose schemas and canonical texts are the same are the same query.
-#[tactic(auto, using(crate::proofs::OneText::one_text))]
+#[tactic(auto, using(crate::specs::Lemmas::OneText::one_text))]
 pub fn one_text_one_query()
     ensures { (q r : Checked) → kept.IsCheckedQuery q → kept.IsCheckedQuery r →
         printed q.columns ≡ printed r.columns →

@@ -4,7 +4,7 @@ use Rattle.std.proofs.lemmas.List.{append-nil}
 use Rattle.query_tokens.specs.Words.{Lexeme}
 use Rattle.query_tokens.specs.Bytes.{first_is}
 use Rattle.query_tokens.specs.Spelling.{IsLexeme, EndsBefore, AreApart, LastEndsBefore, Piece, Space, Spelled, spell, runs_into, runs_on, text_of, lexemes_in}
-use Rattle.query_tokens.proofs.Pieces.{spell_solid}
+use Rattle.query_tokens.specs.Lemmas.Pieces.{spell_solid}
 use Rattle.query_tokens.specs.EndLaws.{before_others}
 
 first_kept : (test : ℕ → Bool) (bytes rest : List ℕ) → 0 < length bytes → first_is test bytes ≡ false → first_is test (bytes ++ rest) ≡ false

@@ -2,9 +2,7 @@ pub mod Ascii
 pub mod Quotes
 pub mod Numerals
 pub mod Steps
-pub mod Respelled
 pub mod Pieces
-pub mod Legal
 pub mod Ends
 pub mod Places
 pub mod Wholes

@@ -12,7 +12,7 @@ use Rattle.query_tokens.specs.Bytes.{is_space, begins_name, first_is, symbol_of_
 use Rattle.query_tokens.specs.Tokens.{◌>>=◌, number_after, integer_of, integer_or_fault, name_at, integer_at, string_content, and_before, text_or_fault, text_at, symbol_or_fault, longest_symbol, symbol_at, word_at, tokens_at, tokens_in}
 use Rattle.query_tokens.specs.Spelling.{spell_byte, spell_symbol}
 use Rattle.query_tokens.specs.Wholes.{IsTextOf, MakeUp}
-use Rattle.query_tokens.proofs.Steps.{word_end}
+use Rattle.query_tokens.specs.Lemmas.Steps.{word_end}
 use Rattle.std.proofs.lemmas.Bool.Decides.{nat_tests}
 use Rattle.std.proofs.lemmas.Grind.{common_steps}
 

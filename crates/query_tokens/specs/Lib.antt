@@ -5,3 +5,4 @@ pub mod Spelling
 pub mod Reserved
 pub mod Wholes
 pub mod EndLaws
+pub mod Lemmas

@@ -12,7 +12,7 @@ ghost use Rattle.query_tokens.specs.Words.{Lexeme, Name, Integer, Text, Sign, Pl
 
 /// What is spelled is read again: a lexeme before whatever doesn't run into it, and a text of lexemes and spaces,
 /// from whatever place. So no two lexemes have one spelling, and no two lists of lexemes one text.
-#[tactic(auto, using(crate::proofs::Respelled::word_again, crate::proofs::Pieces::pieces_again, crate::proofs::Pieces::tokens_again, crate::proofs::Pieces::no_fault, crate::proofs::Pieces::spaced_again, crate::proofs::Pieces::one_spelling, crate::proofs::Pieces::one_text))]
+#[tactic(auto, using(crate::specs::Lemmas::Respelled::word_again, crate::specs::Lemmas::Pieces::pieces_again, crate::proofs::Pieces::tokens_again, crate::proofs::Pieces::no_fault, crate::specs::Lemmas::Pieces::spaced_again, crate::proofs::Pieces::one_spelling, crate::proofs::Pieces::one_text))]
 pub fn spelling_is_read()
     ensures word { (at : ℕ) (w : Lexeme) (rest : List ℕ) → IsLexeme w → EndsBefore w rest →
         word_at at (spell w ++ rest) ≡ Ok (w, rest) }
@@ -33,7 +33,7 @@ pub fn spelling_is_read()
 
 /// What is read is a lexeme that a text can have: each name is one of 1 to 63 bytes in lower case, each integer has
 /// 64 bits, and no string has the character 0. So it can be spelled, and is then read again.
-#[tactic(auto, using(crate::proofs::Legal::word_legal, crate::proofs::Legal::read_legal, crate::proofs::Legal::respelled))]
+#[tactic(auto, using(crate::specs::Lemmas::Legal::word_legal, crate::specs::Lemmas::Legal::read_legal, crate::specs::Lemmas::Legal::respelled))]
 pub fn what_is_read()
     ensures word { (at : ℕ) (bytes : List ℕ) (w : Lexeme) (rest : List ℕ) →
         word_at at bytes ≡ Ok (w, rest) → IsLexeme w }

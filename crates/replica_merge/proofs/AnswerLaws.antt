@@ -29,7 +29,7 @@ use Rattle.packed_rows.specs.RowsOnEnd.{on_end}
 use Rattle.hash_agg.specs.Inputs.{Brought, IsInput, AreInputsOf, all_rows, rows_in}
 use Rattle.origin_prefix.specs.Parts.{Part}
 use Rattle.origin_prefix.specs.Fitting.{FitsOrigin}
-use Rattle.origin_prefix.proofs.ByNumber.{numbers, above_first, rising_rest}
+use Rattle.origin_prefix.specs.Lemmas.ByNumber.{numbers, above_first, rising_rest}
 use Rattle.replica_merge.specs.Replicas.{Parts, part_at, part_of, told, Held, Fits, IsHeldPart, AreHeldParts, counted_part}
 use Rattle.replica_merge.proofs.ToldLaws.{HasGap, part_gap, prefix_told, origins_told, each_at, part_here}
 use Rattle.replica_merge.specs.Unions.{brought_by, IsRunAlone, IsUnion}

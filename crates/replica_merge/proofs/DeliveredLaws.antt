@@ -28,12 +28,13 @@ use Rattle.origin_prefix.specs.declared.error.JoinError.TheVariants.{OriginDisag
 use Rattle.spill_lists.specs.declared.error.SpillError.{SpillError}
 use Rattle.origin_prefix.specs.declared.error.RefusedBatch.{RefusedBatch}
 use Rattle.origin_prefix.specs.Fitting.{FitsOrigin}
-use Rattle.origin_prefix.proofs.Lists.{is_itself, is_other, same_or_other}
-use Rattle.origin_prefix.proofs.ByNumber.{at, found_holds, all_found, put_same, put_else}
-use Rattle.origin_prefix.proofs.TellingLaws.{delivered_tells}
-use Rattle.origin_prefix.proofs.FittingLaws.{fits_delivered, agrees_delivered}
+use Rattle.origin_prefix.specs.Lemmas.Lists.{is_itself, is_other, same_or_other}
+use Rattle.origin_prefix.specs.Lemmas.ByNumber.{at, found_holds, all_found, put_same, put_else}
+use Rattle.origin_prefix.specs.Lemmas.TellingLaws.{delivered_tells}
+use Rattle.origin_prefix.specs.Lemmas.FittingLaws.{fits_delivered, agrees_delivered}
 use Rattle.replica_merge.specs.Replicas.{Parts, part_at, part_of, told, Held, Fits, IsHeldPart, AreHeldParts, DeliversAt, RefusesAt}
-use Rattle.replica_merge.proofs.ToldLaws.{held_part, told_is, same_batch, HasGap, part_gap, prefix_told, part_here}
+use Rattle.replica_merge.specs.Lemmas.ToldLaws.{held_part}
+use Rattle.replica_merge.proofs.ToldLaws.{told_is, same_batch, HasGap, part_gap, prefix_told, part_here}
 
 -- ---- maps
 

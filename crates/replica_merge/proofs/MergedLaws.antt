@@ -20,13 +20,14 @@ use Rattle.origin_prefix.specs.Joins.{either, Joins, PartsDisagree, DisagreeAt, 
 use Rattle.origin_prefix.specs.declared.error.JoinError.{JoinError}
 use Rattle.origin_prefix.specs.declared.error.JoinError.TheVariants.{OriginDisagrees}
 use Rattle.origin_prefix.specs.Fitting.{FitsOrigin}
-use Rattle.origin_prefix.proofs.Lists.{is_itself, is_other, same_or_other}
-use Rattle.origin_prefix.proofs.ByNumber.{numbers, at, at_head, behind_head, none_found, above_first, all_found, put_same, put_else, first_alone, some_is}
-use Rattle.origin_prefix.proofs.TellingLaws.{joined_tells}
-use Rattle.origin_prefix.proofs.FittingLaws.{fits_joined, agrees_joined}
+use Rattle.origin_prefix.specs.Lemmas.Lists.{is_itself, is_other, same_or_other}
+use Rattle.origin_prefix.specs.Lemmas.ByNumber.{numbers, at, at_head, behind_head, none_found, above_first, all_found, put_same, put_else, first_alone, some_is}
+use Rattle.origin_prefix.specs.Lemmas.TellingLaws.{joined_tells}
+use Rattle.origin_prefix.specs.Lemmas.FittingLaws.{fits_joined, agrees_joined}
 use Rattle.replica_merge.specs.Replicas.{Parts, part_at, part_of, told, Fits, IsHeldPart, AreHeldParts, AsideAt, JoinedAside, JoinsAt, Merges, DisagreeSomewhere, IsFirstRefused, filled}
 use Rattle.replica_merge.specs.Counting.{MergeIsCounted}
-use Rattle.replica_merge.proofs.ToldLaws.{held_part, told_is, some_told, empty_tells, part_here}
+use Rattle.replica_merge.specs.Lemmas.ToldLaws.{held_part}
+use Rattle.replica_merge.proofs.ToldLaws.{told_is, some_told, empty_tells, part_here}
 use Rattle.replica_merge.proofs.DeliveredLaws.{part_is, some_if_tells}
 
 -- what stands aside of an origin while some of the other's parts are left

@@ -13,13 +13,13 @@ use Rattle.group_runs.specs.Standing.{run_bytes}
 use Rattle.group_runs.specs.StandingLaws.{stands_spelled}
 use Rattle.origin_prefix.specs.Parts.{Part}
 use Rattle.origin_prefix.specs.Fitting.{FitsOrigin}
-use Rattle.origin_prefix.proofs.ByNumber.{at, numbers}
+use Rattle.origin_prefix.specs.Lemmas.ByNumber.{at, numbers}
 use Rattle.summary_codec.specs.File.{file_in, file_bytes}
 use Rattle.summary_codec.specs.Reading.{IsSummary}
 use Rattle.summary_codec.specs.WorldFile.{world_part, world_file_in, world_file}
 use Rattle.summary_codec.specs.declared.version.Version.{Version}
 use Rattle.summary_codec.specs.declared.version.Version.TheVariants.{Second}
-use Rattle.summary_codec.proofs.OneReading.{one_reading}
+use Rattle.summary_codec.specs.Lemmas.OneReading.{one_reading}
 use Rattle.replica_merge.specs.Replicas.{Held, part_at, part_of, told, Fits, IsHeldPart, AreHeldParts}
 use Rattle.replica_merge.proofs.AnswerLaws.{fit_each}
 use Rattle.replica_merge.proofs.ToldLaws.{origins_told, early_told, prefix_told, map_same, each_at, part_here, HasGap, part_gap}

@@ -21,7 +21,7 @@ use Rattle.group_runs.specs.Runs.{Entry}
 use Rattle.group_runs.specs.Standing.{AreStates, StandsFor, AreGroups}
 use Rattle.agg_library.specs.StateRowLaws.{first_and_rest}
 use Rattle.group_runs.specs.PlaceLaws.{dropped}
-use Rattle.group_runs.proofs.RunLaws.{packed_once}
+use Rattle.group_runs.specs.Lemmas.RunLaws.{packed_once}
 
 -- ---- the states of a group
 

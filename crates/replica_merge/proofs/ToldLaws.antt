@@ -19,14 +19,14 @@ use Rattle.grouping_model.specs.World.{batch_cmp, knows, prefix, early, origins,
 use Rattle.grouping_model.specs.MemberLaws.{Member, from_contains, to_contains, among_member}
 use Rattle.grouping_model.specs.KnowledgeLaws.{knows_knowing}
 use Rattle.grouping_model.specs.EarlyLaws.{early_are, early_rise, origins_are, origins_rise}
-use Rattle.grouping_model.proofs.LearningLaws.{prefix_is}
+use Rattle.grouping_model.specs.Lemmas.LearningLaws.{prefix_is}
 use Rattle.packed_rows.specs.Columns.{kinds}
 use Rattle.query_checks.specs.Checks.{Checked}
 use Rattle.std.specs.Map.{lookup}
 use Rattle.list_laws.specs.Each.{each_both}
 use Rattle.origin_prefix.specs.Parts.{Part, empty, rows_at, tells, IsEarly, IsPartOf}
-use Rattle.origin_prefix.proofs.Lists.{is_itself, is_other, same_or_other}
-use Rattle.origin_prefix.proofs.ByNumber.{numbers, at_head, behind_head, found_holds, none_found, rising_rest, first_alone, all_found}
+use Rattle.origin_prefix.specs.Lemmas.Lists.{is_itself, is_other, same_or_other}
+use Rattle.origin_prefix.specs.Lemmas.ByNumber.{numbers, at_head, behind_head, found_holds, none_found, rising_rest, first_alone, all_found}
 use Rattle.replica_merge.specs.Replicas.{Parts, part_at, part_of, batches_of, told, IsHeldPart, AreHeldParts, known_part}
 
 -- ---- membership
@@ -234,9 +234,6 @@ each_at {X} es rising = all_found (λ (e : ℕ × X). lookup (eq_by_cmp nat_cmp 
 pub map_same : {X Y : Type 0} (f : ℕ → Y) (g : ℕ × X → Y) (es : List (ℕ × X)) → AllByRecursion (λ (e : ℕ × X). f e.0 ≡ g e) es → map f (numbers es) ≡ map g es
 map_same f g [] all = refl
 map_same f g (e ∷ es) all = (λ i. all.0 i ∷ map_same f g es all.1 i)
-
-pub held_part : (query : Checked) (parts : Parts) → AreHeldParts query parts → (o : ℕ) (p : Part) → part_at parts o ≡ Some p → IsHeldPart query (o, p)
-held_part query parts held o p there = found_holds (IsHeldPart query) parts o p held.each there
 
 -- what holds of the part that is there
 pub part_here : (parts : Parts) (o : ℕ) (p : Part) → part_at parts o ≡ Some p → part_of parts o ≡ p

@@ -20,10 +20,10 @@ use Rattle.group_runs.specs.MergeLaws.{puts_rise, keys_of-groups_added}
 use Rattle.group_runs.specs.Runs.{Entry, Rises}
 use Rattle.group_runs.specs.Standing.{AreGroups, IsRun}
 use Rattle.group_runs.specs.Steps.{AddsRun, HasRoomForRun}
-use Rattle.group_runs.proofs.MergeLaws.{groups_added_part}
-use Rattle.group_runs.proofs.SpliceLaws.{packed_rise}
+use Rattle.group_runs.specs.Lemmas.MergeLaws.{groups_added_part}
+use Rattle.group_runs.specs.Lemmas.SpliceLaws.{packed_rise}
 use Rattle.hash_agg.specs.Inputs.{Brought, Counted, rows_in, all_rows, AreInputsOf, IsInput}
-use Rattle.hash_agg.proofs.FoldLaws.{run_keys_rise}
+use Rattle.hash_agg.specs.Lemmas.FoldLaws.{run_keys_rise}
 use Rattle.origin_prefix.specs.Parts.{Part}
 use Rattle.replica_merge.specs.Replicas.{counted}
 use Rattle.replica_merge.specs.Unions.{brought_by, IsRunAlone, IsUnion}

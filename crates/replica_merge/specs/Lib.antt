@@ -3,3 +3,4 @@ pub mod Coding
 pub mod Counting
 pub mod Errors
 pub mod Unions
+pub mod Lemmas

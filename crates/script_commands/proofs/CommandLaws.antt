@@ -1,12 +1,10 @@
 -- The fields of a record, and the commands of a list of records.
-use Rattle.std.proofs.Common.{◌≡◌, ◌≢◌, ℕ, zero, suc, List, [], ◌∷◌, length, drop, get_or, refl, ap, arith, ◌&&◌, Bool, true, false, if◌then◌else◌, IsTrue, IsUtf8, Option, Some, None, codes, unwrap_or}
+use Rattle.std.proofs.Common.{◌≡◌, ◌≢◌, ℕ, zero, suc, List, [], ◌∷◌, length, drop, get_or, refl, ap, arith, false, IsTrue, IsUtf8}
 use Rattle.std.proofs.lemmas.Bool.{false_from_ne_true}
 use Rattle.std.proofs.lemmas.Str.{is_utf8-from_IsUtf8, IsUtf8-from_is_utf8}
-use Rattle.std.specs.Option.{option_map_or}
-use Rattle.std.specs.Str.{bytes_eq, is_utf8}
+use Rattle.std.specs.Str.{is_utf8}
 use Rattle.script_io.specs.Records.{Record}
-use Rattle.script_io.specs.Digits.{row_count, limit_told}
-use Rattle.script_commands.specs.Commands.{Request, Limit, Feed, Unknown, command_at, commands_after, commands_of, feed_request, is_name, name_request, names_request, one_field, owned_by, owned_rows, request_of, two_fields}
+use Rattle.script_commands.specs.Commands.{Unknown, command_at, commands_after, commands_of, feed_request, one_field, owned_by, owned_rows, request_of, two_fields}
 
 pub request_two : (fields : Record) → length fields ≡ 2 → request_of fields ≡ one_field (get_or fields 0 []) (get_or fields 1 [])
 unfolding request_of
@@ -87,60 +85,3 @@ text_is bytes h = is_utf8-from_IsUtf8 bytes h
 
 pub no_text : (bytes : List ℕ) → ¬ (IsUtf8 bytes) → is_utf8 bytes ≡ false
 no_text bytes h = false_from_ne_true (is_utf8 bytes) (λ e. h (IsUtf8-from_is_utf8 bytes e))
-
--- ---- a feed owns as many records as it tells
-
-abbrev pub IsNoFeed : Request → Type 0
-IsNoFeed request = (name origin number : List ℕ) (told : ℕ) → request ≢ Feed name origin number told
-
-either_no_feed : (b : Bool) (x y : Request) → IsNoFeed x → IsNoFeed y → IsNoFeed (if b then x else y)
-either_no_feed true x y p q = p
-either_no_feed false x y p q = q
-
-unknown_no_feed : IsNoFeed Unknown
-unknown_no_feed name origin number told e = cc
-
-name_no_feed : (word name : List ℕ) → IsNoFeed (name_request word name)
-name_no_feed word name =
-    either_no_feed (bytes_eq word (codes "replica")) _ _ (λ n o m t e. cc)
-    (either_no_feed (bytes_eq word (codes "known")) _ _ (λ n o m t e. cc)
-    (either_no_feed (bytes_eq word (codes "answer")) _ _ (λ n o m t e. cc) unknown_no_feed))
-
-limit_no_feed : (bytes : Option ℕ) → IsNoFeed (option_map_or Limit bytes Unknown)
-limit_no_feed None name origin number told e = cc
-limit_no_feed (Some n) name origin number told e = cc
-
-one_no_feed : (word field : List ℕ) → IsNoFeed (one_field word field)
-one_no_feed word field =
-    either_no_feed (bytes_eq word (codes "columns")) _ _ (either_no_feed (is_utf8 field) _ _ (λ n o m t e. cc) unknown_no_feed)
-    (either_no_feed (bytes_eq word (codes "query")) _ _ (either_no_feed (is_utf8 field) _ _ (λ n o m t e. cc) unknown_no_feed)
-    (either_no_feed (bytes_eq word (codes "limit")) _ _ (limit_no_feed (limit_told field))
-    (either_no_feed (is_name field) _ _ (name_no_feed word field) unknown_no_feed)))
-
-names_no_feed : (word name other : List ℕ) → IsNoFeed (names_request word name other)
-names_no_feed word name other =
-    either_no_feed (bytes_eq word (codes "merge")) _ _ (λ n o m t e. cc)
-    (either_no_feed (bytes_eq word (codes "save")) _ _ (λ n o m t e. cc)
-    (either_no_feed (bytes_eq word (codes "load")) _ _ (λ n o m t e. cc) unknown_no_feed))
-
-two_no_feed : (word name other : List ℕ) → IsNoFeed (two_fields word name other)
-two_no_feed word name other = either_no_feed (is_name name && is_name other) _ _ (names_no_feed word name other) unknown_no_feed
-
-feed_owns : (is_feed named : Bool) (count : Option ℕ) (name origin number other other_origin other_number : List ℕ) (told : ℕ)
-    → (if is_feed && named then option_map_or (Feed name origin number) count Unknown else Unknown) ≡ Feed other other_origin other_number told
-    → (if is_feed then unwrap_or count 0 else 0) ≡ told
-feed_owns true true (Some n) name origin number other other_origin other_number told e = cc
-feed_owns true true None name origin number other other_origin other_number told e = absurd cc
-feed_owns true false count name origin number other other_origin other_number told e = absurd cc
-feed_owns false named count name origin number other other_origin other_number told e = absurd cc
-
-pub owned_told : (fields : Record) (name origin number : List ℕ) (told : ℕ) → request_of fields ≡ Feed name origin number told → owned_by fields ≡ told
-unfolding request_of owned_by
-owned_told [] name origin number told e = absurd cc
-owned_told (a ∷ []) name origin number told e = absurd cc
-owned_told (a ∷ b ∷ []) name origin number told e = absurd (one_no_feed a b name origin number told e)
-owned_told (a ∷ b ∷ c ∷ []) name origin number told e = absurd (two_no_feed a b c name origin number told e)
-owned_told (a ∷ b ∷ c ∷ d ∷ []) name origin number told e = absurd cc
-owned_told (a ∷ b ∷ c ∷ d ∷ f ∷ []) name origin number told e =
-    feed_owns (bytes_eq a (codes "feed")) (is_name b) (row_count f) b c d name origin number told e
-owned_told (a ∷ b ∷ c ∷ d ∷ f ∷ g ∷ rest) name origin number told e = absurd cc

@@ -1,7 +1,7 @@
 -- Each record takes a byte at least, so as many turns as a text has bytes read all of its records.
 use Rattle.std.proofs.Common.{◌≡◌, ◌≤◌, ◌<◌, ◌+◌, ℕ, zero, suc, List, [], ◌∷◌, length, get_or, Option, Some, None, Bool, true, false, not, MatchBool, if◌then◌else◌, refl, sym, ap, subst, arith, ◌∙◌, add-one}
 use Rattle.csv.specs.Machine.{Read, ends_at_end, field_after, fields_after, is_end, next_record, step}
-use Rattle.csv.specs.Reading.{default_config, records_from, records_next, Reached, ReadRecord, source_of, strip_bom}
+use Rattle.csv.specs.Reading.{default_config, records_from, records_next, Reached, ReadRecord, source_of}
 use Rattle.csv.specs.Records.{field_at}
 use Rattle.csv.specs.declared.parser.State.{State}
 use Rattle.csv.specs.declared.parser.State.TheVariants as st
@@ -10,7 +10,7 @@ use Rattle.csv.proofs.ReadFacts.{rows-end, rows-more}
 use Rattle.std.specs.Borrow.{Bor}
 use Rattle.std.specs.Prelude.{IsSome, unwrap_or}
 use Rattle.std.proofs.lemmas.Bool.{false≢true}
-use Rattle.script_io.specs.Records.{Record, records_of, records_on}
+use Rattle.script_io.specs.Records.{Record, records_on}
 
 -- a record ends in a state between two records
 pub end-between : (s : State) (c : ℕ) → is_end (step default_config s c).1 ≡ true → ends_at_end (step default_config s c).0 ≡ false
@@ -110,27 +110,6 @@ pub reader-read : (a b : Reader (Bor (List ℕ))) (found : Bool) (f : Record) (a
     ((all ≡ []) × ((if not found then [] else records_on b.state (unwrap_or (source_of known b) [])) ≡ []))
 reader-read a b true f all there config between read is = is ∙ (reader-next a b f there config between read).2
 reader-read a b false f all there config between read is = (is ∙ reader-end a b f there config read, refl)
-
-few_next : (n : ℕ) (o : Option Read) → ((r : Read) → length (records_from default_config n r.1 r.2) ≤ n)
-    → length (records_next (records_from default_config n) o) ≤ suc n
-few_next n None h = omega arith
-few_next n (Some r) h = let short = h r in omega arith
-
--- a text has no more records than bytes, and one
-pub records-few : (n : ℕ) (s : State) (text : List ℕ) → length (records_from default_config n s text) ≤ n
-unfolding records_from
-records-few zero s text = omega arith
-records-few (suc n) s text = few_next n (next_record default_config s [] [] text) (λ r. records-few n r.1 r.2)
-
-pub strip-short : (xs : List ℕ) → length (strip_bom xs) ≤ length xs
-unfolding strip_bom
-strip-short [] = omega arith
-strip-short (a ∷ []) = omega arith
-strip-short (a ∷ b ∷ []) = omega arith
-strip-short (a ∷ b ∷ c ∷ rest) = grind arith
-
-pub length-records_of : (script : List ℕ) → length (records_of script) ≤ length script + 1
-length-records_of script = let few = records-few (length (strip_bom script) + 1) st.StartRecord (strip_bom script) in let short = strip-short script in omega arith
 
 -- the field at a place
 pub field_is : (fields : Record) (i : ℕ) → i < length fields → field_at fields i ≡ Some (get_or fields i [])

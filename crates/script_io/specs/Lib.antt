@@ -7,3 +7,4 @@ pub mod Left
 pub mod Output
 pub mod InputLaws
 pub mod OutputLaws
+pub mod Lemmas

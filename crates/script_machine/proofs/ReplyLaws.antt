@@ -9,11 +9,11 @@ use Rattle.grouping_model.specs.Datum.{Datum, Kind, Row, Bigint_kind}
 use Rattle.grouping_model.specs.World.{Knowledge}
 use Rattle.packed_rows.specs.Columns.{Column, kinds, IsSchemaText}
 use Rattle.packed_rows.specs.Field.{Reads, ReadsRow, IsLeftmostBad}
-use Rattle.packed_rows.proofs.FieldLaws.{one_row}
+use Rattle.packed_rows.specs.Lemmas.FieldLaws.{one_row}
 use Rattle.packed_rows.specs.PrintedLaws.{one_schema}
 use Rattle.query_checks.specs.Checks.{Checked}
 use Rattle.group_parser.specs.Parsing.{Accepts}
-use Rattle.group_parser.proofs.ParseLaws.{one_accepted, one_refused, not_both}
+use Rattle.group_parser.specs.Lemmas.ParseLaws.{one_accepted, one_refused, not_both}
 use Rattle.script_io.specs.Digits.{number_of}
 use Rattle.batch_reader.specs.Rows.{ReadsRows}
 use Rattle.batch_reader.specs.Refusal.{RecordFault, FirstFault, BuildFault}

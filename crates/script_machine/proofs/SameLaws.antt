@@ -6,8 +6,8 @@ use Rattle.grouping_model.specs.World.{World, Knowledge, knows, prefix, early, c
 use Rattle.grouping_model.specs.EarlyLaws.{early_are}
 use Rattle.grouping_model.specs.KnowledgeLaws.{same_knowledge}
 use Rattle.grouping_model.specs.MemberLaws.{Member, to_contains}
-use Rattle.grouping_model.proofs.AnswerLaws.{known_alone, flat_map_members, counted_within}
-use Rattle.grouping_model.proofs.PrefixLaws.{prefix_unbroken}
+use Rattle.grouping_model.specs.Lemmas.AnswerLaws.{known_alone, flat_map_members, counted_within}
+use Rattle.grouping_model.specs.Lemmas.PrefixLaws.{prefix_unbroken}
 use Rattle.query_checks.specs.Checks.{Checked}
 use Rattle.batch_reader.specs.Rows.{packings}
 use Rattle.having_filter.specs.Meaning.{meaning}

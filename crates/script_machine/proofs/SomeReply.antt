@@ -9,17 +9,17 @@ use Rattle.grouping_model.specs.World.{Knowledge}
 use Rattle.packed_rows.specs.Columns.{Column, kinds}
 use Rattle.packed_rows.specs.Field.{ReadsRow, IsLeftmostBad}
 use Rattle.packed_rows.specs.Packing.{packing}
-use Rattle.packed_rows.proofs.RowLaws.{PackedSoFar, packed_all, packed_more}
+use Rattle.packed_rows.specs.Lemmas.RowLaws.{PackedSoFar, packed_all, packed_more}
 use Rattle.batch_reader.specs.Rows.{ReadsRows}
 use Rattle.batch_reader.specs.Refusal.{HeadReads, FirstFault, BuildFault}
 use Rattle.batch_reader.specs.declared.error.BatchError.{BatchError}
 use Rattle.batch_reader.specs.declared.error.BatchError.TheVariants as batch
-use Rattle.batch_reader.proofs.RecordLaws.{RowsSoFar, rows_more, rows_all}
+use Rattle.batch_reader.specs.Lemmas.RecordLaws.{RowsSoFar, rows_more, rows_all}
 use Rattle.query_checks.specs.Checks.{Checked}
 use Rattle.group_parser.specs.Parsing.{parsing}
 use Rattle.group_parser.specs.declared.error.ParseError.{ParseError}
-use Rattle.group_parser.proofs.ParseLaws.{parses_accepts, parses_refuses}
-use Rattle.origin_prefix.proofs.Lists.{same_or_other}
+use Rattle.group_parser.specs.Lemmas.ParseLaws.{parses_accepts, parses_refuses}
+use Rattle.origin_prefix.specs.Lemmas.Lists.{same_or_other}
 use Rattle.script_io.specs.Records.{Record}
 use Rattle.script_commands.specs.Commands as ask
 use Rattle.script_commands.specs.Commands.{Request}

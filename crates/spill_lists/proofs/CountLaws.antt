@@ -2,7 +2,6 @@
 use Rattle.std.specs.Prelude.{◌≡◌, refl, ℕ, zero, suc, ◌+◌, ◌<◌, ◌≤◌, ◌==◌, ◌-◌, ◌/◌, ◌%◌, ◌^◌, nat_lt, Bool, true, false, cond, List, [], ◌∷◌, map, length, get_or, sum_by}
 use Rattle.std.specs.List.{range_with_len}
 use Rattle.std.proofs.Common.{sym, ◌∙◌, ap, arith}
-use Rattle.std.proofs.lemmas.Bool.Decides.{nat_tests}
 use Rattle.std.proofs.Math.ListN.{set}
 use Rattle.std.proofs.lemmas.List.Sums.{sum_by-cons, sum_by-set}
 use Rattle.spill_tapes.specs.Records.{Record}
@@ -10,6 +9,7 @@ use Rattle.spill_tapes.specs.Tapes.{TapesState}
 use Rattle.spill_lists.specs.Lists.{LeftList, list_of, on_list, deeper, lists}
 use Rattle.spill_lists.specs.Standing.{count_of, AreOn, AreSpilled}
 use Rattle.spill_lists.specs.declared.lists.OnTape.{OnTape}
+use Rattle.spill_lists.specs.Lemmas.CountLaws.{is_not, is_it, is_past}
 
 -- how many are on n lists, from one on
 abbrev on_some : ℕ → List Record → ℕ → ℕ → ℕ
@@ -24,16 +24,6 @@ one_longer false r rs = refl
 
 one_list : (level a n : ℕ) (spilled : List Record) → on_some level spilled a (suc n) ≡ length (on_list level spilled a) + on_some level spilled (a + 1) n
 one_list level a n spilled = sum_by-cons (λ (list : LeftList). length list.records) (record { level = deeper level; records = on_list level spilled a }) (map (λ i. record { level = deeper level; records = on_list level spilled i }) (range_with_len (a + 1) n))
-
--- places of lists, as tests tell them
-pub is_not : (n i : ℕ) → n < i → (n == i) ≡ false
-is_not n i less = grind (arith, nat_tests)
-
-pub is_it : (n i : ℕ) → (n == i) ≡ true → n ≡ i
-is_it n i e = grind (arith, nat_tests)
-
-pub is_past : (n i : ℕ) → (n == i) ≡ false → i ≤ n → i < n
-is_past n i e low = grind (arith, nat_tests)
 
 -- one record more is on none of the lists behind its own
 past : (level : ℕ) (r : Record) (rs : List Record) (a n : ℕ) → list_of level r.hash < a → on_some level (r ∷ rs) a n ≡ on_some level rs a n

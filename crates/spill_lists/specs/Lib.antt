@@ -2,3 +2,4 @@ pub mod Lists
 pub mod Standing
 pub mod Fields
 pub mod Errors
+pub mod Lemmas

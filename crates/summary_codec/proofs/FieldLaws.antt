@@ -7,7 +7,7 @@ use Rattle.std.specs.Cmp.Lexicographic.{pointwise, same_text, other_text}
 use Rattle.std.specs.Int.{bytes_high_first}
 use Rattle.byteorder.specs.Endian.{big_from}
 use Rattle.byteorder.specs.Numbers.{big_from-lt}
-use Rattle.agg_protocol.proofs.Bytes.{own_bytes}
+use Rattle.agg_protocol.specs.Lemmas.Bytes.{own_bytes}
 use Rattle.summary_codec.specs.Versions.{opening}
 use Rattle.summary_codec.specs.Reading.{IsCutShort}
 use Rattle.summary_codec.specs.declared.version.Version.{Version}

@@ -1,27 +1,14 @@
 -- Groups of a file.
-use Rattle.std.proofs.Common.{◌≡◌, refl, ℕ, ◌-◌, ◌+◌, List, [], ◌∷◌, ◌++◌, length, slice_get, Some, sym, ap, subst, ◌∙◌, option_map}
+use Rattle.std.proofs.Common.{◌≡◌, ℕ, ◌-◌, ◌+◌, List, [], ◌∷◌, ◌++◌, length, slice_get, Some, sym, ap, subst, ◌∙◌, option_map}
 use Rattle.std.proofs.lemmas.List.{length-map, map-append}
 use Rattle.std.proofs.lemmas.Option.{slice_get-map}
-use Rattle.std.proofs.lemmas.List.Sums.{sum_by-cons}
-use Rattle.std.specs.Prelude.{sum_by}
 use Rattle.std.specs.List.Sorted.{IsStrictlySortedBy}
 use Rattle.std.specs.Ordering.{nat_cmp}
 use Rattle.std.specs.Cmp.Lexicographic.{slice_cmp}
-use Rattle.agg_protocol.specs.States.{shape_of, width_of}
-use Rattle.agg_protocol.specs.declared.kind.AggKind.{AggKind}
-use Rattle.agg_protocol.specs.Kinds.{functions_of, kind_width, row_width}
 use Rattle.group_runs.specs.Runs.{Entry, Rises, packed_keys}
 use Rattle.group_runs.specs.PlaceLaws.{key_total}
 use Rattle.summary_codec.specs.Reading.{IsNext}
-use Rattle.summary_codec.proofs.RisingLaws.{rises_next}
-
--- how many bytes a row of states has, by the functions of the aggregates
-pub width_by_functions : (kinds : List AggKind) → row_width kinds ≡ sum_by (λ function. width_of (shape_of function)) (functions_of kinds)
-width_by_functions [] = refl
-width_by_functions (k ∷ ks) =
-    sum_by-cons kind_width k ks
-    ∙ ap (λ n. kind_width k + n) (width_by_functions ks)
-    ∙ sym (sum_by-cons (λ function. width_of (shape_of function)) _ (functions_of ks))
+use Rattle.summary_codec.specs.Lemmas.RisingLaws.{rises_next}
 
 -- the last key of a run
 pub last_key : (run : List Entry) (n : ℕ) (key states : List ℕ) → n ≡ length run - 1 → slice_get run n ≡ Some (key, states) → slice_get (packed_keys run) (length (packed_keys run) - 1) ≡ Some key

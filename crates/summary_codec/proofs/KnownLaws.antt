@@ -4,9 +4,9 @@ use Rattle.std.proofs.Common.{ap, inl, inr, arith}
 use Rattle.grouping_model.specs.Grouping.{part}
 use Rattle.grouping_model.specs.World.{World, Knowledge, knows, origins, prefix, early, count_up, batch_rows, origin_rows}
 use Rattle.grouping_model.specs.MemberLaws.{Member, to_contains}
-use Rattle.grouping_model.proofs.AnswerLaws.{flat_map_members, counted_within}
+use Rattle.grouping_model.specs.Lemmas.AnswerLaws.{flat_map_members, counted_within}
 use Rattle.grouping_model.specs.EarlyLaws.{early_are}
-use Rattle.grouping_model.proofs.PrefixLaws.{prefix_unbroken}
+use Rattle.grouping_model.specs.Lemmas.PrefixLaws.{prefix_unbroken}
 use Rattle.batch_reader.specs.Rows.{packings}
 use Rattle.query_checks.specs.Checks.{Checked}
 use Rattle.having_filter.specs.Meaning.{meaning}

@@ -1,18 +1,14 @@
 -- Reading one thing after another.
-use Rattle.std.proofs.Common.{◌≡◌, refl, ℕ, zero, suc, ◌+◌, ◌-◌, ◌<◌, ◌≤◌, List, [], ◌∷◌, ◌++◌, map, Ok, Err, inl, inr, sym, ap, ◌∙◌, subst, arith}
+use Rattle.std.proofs.Common.{◌≡◌, refl, ℕ, zero, suc, ◌+◌, ◌-◌, ◌<◌, ◌≤◌, List, [], ◌∷◌, ◌++◌, map, Ok, Err, inl, sym, ap, ◌∙◌, subst, arith}
 use Rattle.std.specs.List.Sorted.{IsStrictlySortedBy}
 use Rattle.std.specs.Ordering.{nat_cmp, match_ordering}
 use Rattle.std.specs.declared.cmp.Ordering.TheVariants.{Less, Greater}
 use Rattle.std.specs.Cmp.{nat_cmp_total}
 use Rattle.std.specs.BTreeMap.{insert_entry}
-use Rattle.summary_codec.proofs.RisingLaws.{last_of_all, rises_next}
-use Rattle.summary_codec.specs.Reading.{IsNext, Outcome, Reader, both, each}
+use Rattle.summary_codec.specs.Lemmas.RisingLaws.{last_of_all, rises_next}
+use Rattle.summary_codec.specs.Reading.{IsNext, Outcome, Reader, each}
 use Rattle.summary_codec.specs.declared.error.SummaryError.{SummaryError}
-
--- a first step that gives a value goes on with the second
-pub goes_on : {A B : Type 0} (first : Reader A) (next : A → Reader B) (bytes rest : List ℕ) (x : A) (out : Outcome B) → first bytes (Ok (x, rest)) → next x rest out → both first next bytes out
-goes_on first next bytes rest x (Ok found) there more = (x, rest, there, more)
-goes_on first next bytes rest x (Err e) there more = inr (x, rest, there, more)
+use Rattle.summary_codec.specs.Lemmas.LoopLaws.{goes_on}
 
 -- so many things were read, and what is read of the others is read of all
 abbrev pub ReadSoFar : {A : Type 0} → (List A → Reader A) → ℕ → List ℕ → ℕ → List A → List ℕ → Type 0

@@ -5,3 +5,4 @@ pub mod Reading
 pub mod WorldFile
 pub mod Worlds
 pub mod Names
+pub mod Lemmas

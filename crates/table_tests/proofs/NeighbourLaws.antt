@@ -6,7 +6,7 @@ use Rattle.context_tree.specs.Links.{parent_of, is_true_of, is_below, IsForest}
 use Rattle.context_tree.specs.Tree.{TreeState, is_there, id_in, parent_id}
 use Rattle.context_tree.specs.declared.links.ContextId.{ContextId}
 use Rattle.context_tree.specs.declared.links.Link.{Link}
-use Rattle.context_tree.proofs.Forest.{below-other, root-not-below}
+use Rattle.context_tree.specs.Lemmas.Forest.{below-other, root-not-below}
 use Rattle.group_table.specs.Table.{TableState, IsSameBut}
 use Rattle.group_table.specs.Standing.{IsPlaced, IsTableIn, KeepsOthers, IsBeside, KeepsBeside, IsSameFor}
 use Rattle.group_table.specs.Children.{IsNewTable}

@@ -1,7 +1,7 @@
 use Rattle.std.proofs.Common.{arith}
 use Rattle.packed_rows.specs.View.{row_of}
 use Rattle.agg_protocol.specs.ArgumentLaws.{length-row_of}
-use Rattle.agg_protocol.proofs.ArgumentLaws.{rows_of_both}
+use Rattle.agg_protocol.specs.Lemmas.ArgumentLaws.{rows_of_both}
 use Rattle.agg_protocol.proofs.aggregate_in_parts.Goals as goal
 
 pub combine-requires : goal.combine-requires

@@ -4,7 +4,7 @@ use Rattle.packed_rows.specs.View.{datum_of, row_of}
 use Rattle.packed_rows.specs.declared.Value.TheVariants.{Null}
 use Rattle.agg_protocol.specs.States.{most_rows}
 use Rattle.agg_protocol.specs.ArgumentLaws.{length-row_of}
-use Rattle.agg_protocol.proofs.ArgumentLaws.{takes_at, rows_after}
+use Rattle.agg_protocol.specs.Lemmas.ArgumentLaws.{takes_at, rows_after}
 use Rattle.agg_protocol.proofs.aggregate_values.Goals as goal
 
 pub transition-state-requires-clause-takes : goal.transition-state-requires-clause-takes

@@ -1,5 +1,5 @@
 use Rattle.std.proofs.Common.{sym}
-use Rattle.agg_protocol.proofs.ArgumentLaws as laws
+use Rattle.agg_protocol.specs.Lemmas.ArgumentLaws as laws
 use Rattle.agg_protocol.proofs.moving.Goals as goal
 
 pub returns-clause-one_more : goal.returns-clause-one_more

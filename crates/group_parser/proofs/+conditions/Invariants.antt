@@ -2,7 +2,7 @@ use Rattle.std.proofs.Common.{◌<◌, length, ◌+◌, ◌*◌}
 use Rattle.std.specs.Prelude.{codes}
 use Rattle.query_grammar.specs.Queries.{most_open}
 use Rattle.query_grammar.specs.Reading.{tested, test_at, and_at, condition_at, conditions}
-use Rattle.query_grammar.proofs.Chains.{Goes}
+use Rattle.query_grammar.specs.Lemmas.Chains.{Goes}
 use Rattle.group_parser.specs.Views.{lexemes, condition_read}
 use Rattle.group_parser.proofs.Readers.{or_step, and_step}
 use Rattle.group_parser.proofs.+conditions.Given as goal

@@ -1,4 +1,4 @@
-use Rattle.grouping_model.proofs.AggregateLaws as laws
+use Rattle.grouping_model.specs.Lemmas.AggregateLaws as laws
 use Rattle.grouping_model.proofs.bits_of_numbers.Goals as goal
 
 pub returns-clause-bits : goal.returns-clause-bits

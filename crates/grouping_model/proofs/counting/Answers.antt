@@ -1,4 +1,4 @@
-use Rattle.grouping_model.proofs.TransitionLaws as laws
+use Rattle.grouping_model.specs.Lemmas.TransitionLaws as laws
 use Rattle.grouping_model.proofs.counting.Goals as goal
 
 pub returns-clause-rows : goal.returns-clause-rows

@@ -1,4 +1,4 @@
-use Rattle.grouping_model.proofs.PartLaws as laws
+use Rattle.grouping_model.specs.Lemmas.PartLaws as laws
 use Rattle.grouping_model.specs.PartLaws.{partials_at-part}
 use Rattle.grouping_model.proofs.groups_as_map.Goals as goal
 

@@ -1,4 +1,4 @@
-use Rattle.grouping_model.proofs.GroupLaws as laws
+use Rattle.grouping_model.specs.Lemmas.GroupLaws as laws
 use Rattle.grouping_model.proofs.groups_of_rows.Goals as goal
 
 pub returns : goal.returns

@@ -1,4 +1,4 @@
-use Rattle.grouping_model.proofs.PrefixLaws as laws
+use Rattle.grouping_model.specs.Lemmas.PrefixLaws as laws
 use Rattle.grouping_model.proofs.unbroken_prefix.Goals as goal
 
 pub returns-clause-unbroken : goal.returns-clause-unbroken

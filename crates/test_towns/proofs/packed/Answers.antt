@@ -2,7 +2,7 @@ use Rattle.std.proofs.Common.{subst}
 use Rattle.packed_rows.specs.Columns.{kinds}
 use Rattle.batch_reader.specs.Rows.{ReadsRows, records_of}
 use Rattle.batch_reader.specs.RecordLaws.{built_rows}
-use Rattle.origin_prefix.proofs.PartLaws.{packed_input}
+use Rattle.origin_prefix.specs.Lemmas.PartLaws.{packed_input}
 use Rattle.test_towns.proofs.packed.Goals as goal
 
 pub returns : goal.returns

@@ -3,7 +3,7 @@ use Rattle.std.specs.Int.{w64, cast_signed, cast_unsigned}
 use Rattle.std.proofs.lemmas.Int.{to_z-of_z}
 use Rattle.grouping_model.specs.Aggregates.{Number}
 use Rattle.agg_protocol.specs.States.{bytes_of}
-use Rattle.agg_protocol.proofs.Bytes.{number_written}
+use Rattle.agg_protocol.specs.Lemmas.Bytes.{number_written}
 use Rattle.agg_library.proofs.codec.write_number.Goals as goal
 
 pub returns-in-Some-clause-written : goal.returns-in-Some-clause-written

@@ -2,7 +2,7 @@ use Rattle.std.proofs.Common.{◌<◌, ◌∙◌, sym, subst, arith}
 use Rattle.list_laws.specs.Outcomes.{always_err}
 use Rattle.agg_protocol.specs.States.{Denotes, shape_of, rows_of}
 use Rattle.agg_protocol.specs.DenotingLaws.{width_known}
-use Rattle.agg_protocol.proofs.Denoting.{once}
+use Rattle.agg_protocol.specs.Lemmas.Denoting.{once}
 use Rattle.agg_library.specs.StateRows.{partial_after}
 use Rattle.agg_library.proofs.ArgumentSteps.{advanced}
 use Rattle.agg_library.proofs.parts.advance_part.Goals as goal

@@ -1,6 +1,6 @@
 use Rattle.csv.specs.Records.{fields_of}
 use Rattle.packed_rows.specs.Columns.{kinds}
-use Rattle.packed_rows.proofs.RowLaws.{PackedSoFar}
+use Rattle.packed_rows.specs.Lemmas.RowLaws.{PackedSoFar}
 use Rattle.batch_reader.proofs.rows.pack_record.Given as goal
 
 abbrev pub invariant-loop-column : goal.invariant-loop-column

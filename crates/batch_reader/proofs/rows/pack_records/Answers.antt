@@ -3,7 +3,8 @@ use Rattle.std.proofs.Common.{refl, arith}
 use Rattle.std.proofs.lemmas.Result.{err_from_is_err_and}
 use Rattle.packed_rows.specs.Columns.{kinds}
 use Rattle.batch_reader.specs.Rows.{records_of}
-use Rattle.batch_reader.proofs.RecordLaws.{rows_more, rows_all, first_fault, record_at, records_long}
+use Rattle.batch_reader.specs.Lemmas.RecordLaws.{rows_more, rows_all}
+use Rattle.batch_reader.proofs.RecordLaws.{first_fault, record_at, records_long}
 use Rattle.batch_reader.proofs.rows.pack_records.Goals as goal
 
 pub loop-row-init : goal.loop-row-init

@@ -1,4 +1,4 @@
-use Rattle.block_memory.proofs.CellLemmas.{word_of_bytes}
+use Rattle.block_memory.specs.Lemmas.CellLemmas.{word_of_bytes}
 use Rattle.block_memory.proofs.block.word_of.Goals as goal
 
 pub returns : goal.returns

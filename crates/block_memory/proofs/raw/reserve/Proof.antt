@@ -44,7 +44,7 @@ use Rattle.block_memory.specs.contracts.raw.Memory.{the_row as R, the_type}
 use Rattle.block_memory.specs.contracts.raw.reserve as f
 use Rattle.block_memory.proofs.raw.reserve.Statement.{statement}
 use Rattle.block_memory.proofs.raw.reserve.Code as code
-use Rattle.block_memory.proofs.CellLemmas.{length-blank_cells}
+use Rattle.block_memory.specs.Lemmas.CellLemmas.{length-blank_cells}
 use Rattle.block_memory.proofs.MemoryLemmas.{fresh_cells, layout}
 
 abbrev stayed : Stays f.ended.signature.params f.ended.kept

@@ -2,7 +2,7 @@ use Rattle.std.proofs.Common.{◌≡◌, ◌<◌, ℕ, inl, inr, Option, Some, N
 use Rattle.std.specs.Prelude.{◌==◌}
 use Rattle.std.proofs.lemmas.Bool.{cases_eq, eq-eqb, ne_eqb}
 use Rattle.context_tree.specs.Links.{parent_of, is_true_of, is_below}
-use Rattle.context_tree.proofs.Forest.{stamp_at, below-self, below-other, not-below}
+use Rattle.context_tree.specs.Lemmas.Forest.{stamp_at, below-self, below-other, not-below}
 use Rattle.context_tree.proofs.links.is_below.Goals as goal
 
 pub loop-at-preserved : goal.loop-at-preserved

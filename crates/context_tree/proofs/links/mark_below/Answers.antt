@@ -2,7 +2,7 @@ use Rattle.std.proofs.Common.{◌≡◌, ◌<◌, Bool, inl, inr, true, false, g
 use Rattle.std.specs.Prelude.{◌||◌}
 use Rattle.std.proofs.lemmas.Bool.{cases_eq, cases_lt, false≢true}
 use Rattle.context_tree.specs.Links.{is_under}
-use Rattle.context_tree.proofs.Forest.{under-other, under-past, root-not-under}
+use Rattle.context_tree.specs.Lemmas.Forest.{under-other, under-past, root-not-under}
 use Rattle.context_tree.proofs.links.mark_below.Goals as goal
 
 pub mark-requires : goal.mark-requires

@@ -10,7 +10,8 @@ use Rattle.replies.specs.Refusals.{refusal_faults}
 use Rattle.replies.specs.RefusalLaws.{batch_own, batch_tells}
 use Rattle.replies.specs.declared.refusal.Refusal.TheVariants.{NoMemory, OriginDisagrees}
 use Rattle.file_commands.specs.Commands.{DeliversFile, FeedIsCounted, FileAgrees, FileDisagrees, IsNewFile, IsOtherFile}
-use Rattle.file_commands.proofs.FileLaws.{if_err, on_ok, read_of_file, packed_of_file, takes_file, of_batch_file, other_file}
+use Rattle.file_commands.specs.Lemmas.FileLaws.{read_of_file, packed_of_file}
+use Rattle.file_commands.proofs.FileLaws.{if_err, on_ok, takes_file, of_batch_file, other_file}
 use Rattle.file_commands.proofs.feeding.feed.Goals as goal
 
 pub take_batch-requires-clause-rows : goal.take_batch-requires-clause-rows

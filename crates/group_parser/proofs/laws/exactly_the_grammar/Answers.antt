@@ -1,4 +1,4 @@
-use Rattle.group_parser.proofs.ParseLaws.{accepts_parses, refuses_parses, one_accepted, one_refused, not_both}
+use Rattle.group_parser.specs.Lemmas.ParseLaws.{accepts_parses, refuses_parses, one_accepted, one_refused, not_both}
 use Rattle.group_parser.proofs.laws.exactly_the_grammar.Goals as goal
 
 pub returns-clause-parsed : goal.returns-clause-parsed

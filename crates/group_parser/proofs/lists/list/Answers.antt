@@ -1,6 +1,6 @@
 use Rattle.std.proofs.Common.{length, arith}
 use Rattle.query_grammar.specs.Whole.{list_at}
-use Rattle.query_grammar.proofs.Chains.{list_fails}
+use Rattle.query_grammar.specs.Lemmas.Chains.{list_fails}
 use Rattle.group_parser.specs.Views.{lexemes}
 use Rattle.group_parser.proofs.Readers.{fails_on, fails_out, list_init, list_next, list_next_fails, list_ends}
 use Rattle.group_parser.proofs.lists.list.Goals as goal

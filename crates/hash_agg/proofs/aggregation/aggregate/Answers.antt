@@ -1,6 +1,6 @@
 use Rattle.std.specs.Prelude.{map}
 use Rattle.std.proofs.Common.{arith}
-use Rattle.aggregation_cost.proofs.BoundLaws.{spilled_few}
+use Rattle.aggregation_cost.specs.Lemmas.BoundLaws.{spilled_few}
 use Rattle.grouping_model.specs.Query.{Query}
 use Rattle.having_filter.specs.Meaning.{meaning}
 use Rattle.group_runs.specs.Standing.{states_width}

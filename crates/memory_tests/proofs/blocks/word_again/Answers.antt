@@ -1,4 +1,4 @@
-use Rattle.block_memory.proofs.CellLemmas.{holds_by_set_word, word_read_back, written_by_set_word}
+use Rattle.block_memory.specs.Lemmas.CellLemmas.{holds_by_set_word, word_read_back, written_by_set_word}
 use Rattle.memory_tests.proofs.blocks.word_again.Goals as goal
 
 pub word-requires : goal.word-requires

@@ -6,7 +6,7 @@ use Rattle.std.specs.Ordering.{eq_by_cmp, nat_cmp}
 use Rattle.origin_prefix.specs.Parts.{Batches, rows_at, IsBehind}
 use Rattle.origin_prefix.specs.Joins.{either}
 use Rattle.list_laws.specs.Outcomes.{none_there}
-use Rattle.origin_prefix.proofs.ByNumber.{all_put}
+use Rattle.origin_prefix.specs.Lemmas.ByNumber.{all_put}
 use Rattle.origin_prefix.proofs.EarlyLaws.{AtNumber, behind_number, copied, passed_over, found_behind, all_behind, either_none}
 use Rattle.origin_prefix.proofs.early.copy_above.Goals as goal
 

@@ -10,7 +10,7 @@ use Rattle.std.proofs.lemmas.List.Elements.{recursion_from_All}
 use Rattle.list_laws.specs.Each.{each_weaker}
 use Rattle.origin_prefix.specs.Parts.{Batches, rows_at}
 use Rattle.origin_prefix.specs.Joins.{DiffersAt}
-use Rattle.origin_prefix.proofs.ByNumber.{numbers, rising_rest}
+use Rattle.origin_prefix.specs.Lemmas.ByNumber.{numbers, rising_rest}
 use Rattle.origin_prefix.proofs.EarlyLaws.{behind_number, are_behind, behind_rises, differs_behind, differs_later, none_differ, none_lower}
 use Rattle.origin_prefix.proofs.early.first_difference.Goals as goal
 

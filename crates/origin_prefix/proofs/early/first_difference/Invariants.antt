@@ -4,7 +4,7 @@ use Rattle.std.specs.List.Sorted.{IsStrictlySortedBy}
 use Rattle.std.specs.Ordering.{nat_cmp}
 use Rattle.origin_prefix.specs.Parts.{rows_at}
 use Rattle.origin_prefix.specs.Joins.{DiffersAt}
-use Rattle.origin_prefix.proofs.ByNumber.{numbers}
+use Rattle.origin_prefix.specs.Lemmas.ByNumber.{numbers}
 use Rattle.origin_prefix.proofs.early.first_difference.Given as goal
 
 abbrev pub invariant-loop-next : goal.invariant-loop-next

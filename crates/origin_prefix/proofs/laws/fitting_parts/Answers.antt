@@ -1,5 +1,5 @@
 use Rattle.having_filter.specs.Meaning.{meaning}
-use Rattle.origin_prefix.proofs.FittingLaws.{fits_delivered, agrees_delivered, fits_joined, agrees_joined}
+use Rattle.origin_prefix.specs.Lemmas.FittingLaws.{fits_delivered, agrees_delivered, fits_joined, agrees_joined}
 use Rattle.origin_prefix.proofs.laws.fitting_parts.Goals as goal
 
 pub returns-clause-delivered : goal.returns-clause-delivered

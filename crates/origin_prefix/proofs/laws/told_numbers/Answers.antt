@@ -1,4 +1,4 @@
-use Rattle.origin_prefix.proofs.TellingLaws.{delivered_tells, joined_tells}
+use Rattle.origin_prefix.specs.Lemmas.TellingLaws.{delivered_tells, joined_tells}
 use Rattle.origin_prefix.proofs.laws.told_numbers.Goals as goal
 
 pub returns-clause-delivered : goal.returns-clause-delivered

@@ -1,4 +1,4 @@
-use Rattle.packed_rows.proofs.PrintedColumns as laws
+use Rattle.packed_rows.specs.Lemmas.PrintedColumns as laws
 use Rattle.packed_rows.specs.PrintedLaws.{one_schema}
 use Rattle.packed_rows.proofs.laws.printed_schemas.Goals as goal
 

@@ -1,4 +1,4 @@
-use Rattle.query_grammar.proofs.FirstFaults.{unexpected_found, too_deep_found}
+use Rattle.query_grammar.specs.Lemmas.FirstFaults.{unexpected_found, too_deep_found}
 use Rattle.query_grammar.proofs.laws.refused_tokens.Goals as goal
 
 pub returns-clause-unexpected_found : goal.returns-clause-unexpected_found

@@ -3,7 +3,8 @@ use Rattle.query_tokens.specs.Tokens.{number_after}
 use Rattle.std.proofs.lemmas.Str.Parse.{parse_digits}
 use Rattle.std.specs.declared.num.ParseIntError.{ParseIntError}
 use Rattle.std.proofs.lemmas.Bool.{cases_lt}
-use Rattle.query_tokens.proofs.Numerals.{own, too_large}
+use Rattle.query_tokens.specs.Lemmas.Numerals.{own}
+use Rattle.query_tokens.proofs.Numerals.{too_large}
 use Rattle.query_tokens.proofs.reading.integer_of.Goals as goal
 
 pub returns-in-Ok : goal.returns-in-Ok

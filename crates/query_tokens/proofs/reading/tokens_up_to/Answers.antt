@@ -5,7 +5,7 @@ use Rattle.query_tokens.specs.declared.word.Token.{Token}
 use Rattle.query_tokens.specs.Words.{lexeme_of, placed_of, all_placed}
 use Rattle.query_tokens.specs.Bytes.{is_space}
 use Rattle.query_tokens.specs.Tokens.{tokens_in}
-use Rattle.query_tokens.proofs.Legal.{tokens_legal}
+use Rattle.query_tokens.specs.Lemmas.Legal.{tokens_legal}
 use Rattle.query_tokens.proofs.Steps.{passes_space, goes_on, shorter, ends, is_done, more_left}
 use Rattle.query_tokens.proofs.reading.tokens_up_to.Goals as goal
 

@@ -1,4 +1,4 @@
-use Rattle.origin_prefix.proofs.PartLaws.{packed_input}
+use Rattle.origin_prefix.specs.Lemmas.PartLaws.{packed_input}
 use Rattle.refusal_tests.proofs.parts.group.Goals as goal
 
 pub aggregate-grouped-requires-clause-inputs : goal.aggregate-grouped-requires-clause-inputs

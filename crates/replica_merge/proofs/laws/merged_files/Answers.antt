@@ -6,7 +6,7 @@ use Rattle.query_checks.specs.Checks.{Checked}
 use Rattle.summary_codec.specs.Reading.{IsSaved}
 use Rattle.summary_codec.specs.declared.version.Version.TheVariants.{Second}
 use Rattle.summary_codec.specs.WorldFile.{world_file}
-use Rattle.summary_codec.proofs.SpelledRead.{spelled}
+use Rattle.summary_codec.specs.Lemmas.SpelledRead.{spelled}
 use Rattle.replica_merge.specs.Replicas.{Parts, told, Fits, AreHeldParts, MergesIn}
 use Rattle.replica_merge.proofs.MergedLaws.{merges_told, merges_fit}
 use Rattle.replica_merge.proofs.SavedLaws.{saved_world}

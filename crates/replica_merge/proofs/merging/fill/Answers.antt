@@ -1,7 +1,7 @@
 use Rattle.std.proofs.Common.{◌∙◌, sym, ap, subst}
 use Rattle.std.specs.List.Sorted.{IsStrictlySortedBy}
 use Rattle.std.specs.Ordering.{nat_cmp}
-use Rattle.origin_prefix.proofs.ByNumber.{numbers, rising_rest}
+use Rattle.origin_prefix.specs.Lemmas.ByNumber.{numbers, rising_rest}
 use Rattle.replica_merge.specs.Replicas.{Parts, part_at, filled}
 use Rattle.replica_merge.proofs.MergedLaws.{back_at}
 use Rattle.replica_merge.proofs.merging.fill.Goals as goal

@@ -15,7 +15,7 @@ use Rattle.spill_lists.specs.declared.error.SpillError.TheVariants.{TapeDamaged}
 use Rattle.replica_merge.specs.declared.error.MergeError.TheVariants.{Join}
 use Rattle.replica_merge.specs.Counting.{MergeIsCounted, JoinsInOrder}
 use Rattle.origin_prefix.specs.Parts.{Part, empty, IsPartOf}
-use Rattle.origin_prefix.proofs.ByNumber.{numbers, rising_rest}
+use Rattle.origin_prefix.specs.Lemmas.ByNumber.{numbers, rising_rest}
 use Rattle.replica_merge.specs.Replicas.{Parts, part_at, part_of, IsHeldPart, IsFirstRefused, MergeTells}
 use Rattle.tape_disks.specs.Disk.{Leaves}
 use Rattle.tape_disks.specs.DiskLaws.{leaves_twice}

@@ -1,5 +1,5 @@
 use Rattle.std.specs.Prelude.{◌≡◌, ◌++◌}
-use Rattle.origin_prefix.proofs.ByNumber.{numbers}
+use Rattle.origin_prefix.specs.Lemmas.ByNumber.{numbers}
 use Rattle.replica_merge.proofs.replica.early_numbers.Given as goal
 
 abbrev pub invariant-loop-number : goal.invariant-loop-number

@@ -1,5 +1,5 @@
 use Rattle.std.proofs.Common.{arith}
-use Rattle.script_io.proofs.RecordFacts.{length-records_of}
+use Rattle.script_io.specs.Lemmas.RecordFacts.{length-records_of}
 use Rattle.script_machine.proofs.engine.run_script.Goals as goal
 
 pub answer_all-outcome-requires-clause-few : goal.answer_all-outcome-requires-clause-few

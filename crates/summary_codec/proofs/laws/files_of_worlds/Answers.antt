@@ -1,7 +1,7 @@
 use Rattle.std.proofs.Common.{sym, subst}
 use Rattle.summary_codec.specs.Reading.{IsSummaryIn}
 use Rattle.summary_codec.specs.Worlds.{world_parts}
-use Rattle.summary_codec.proofs.WorldLaws.{part_fits, second_keeps, world_read}
+use Rattle.summary_codec.specs.Lemmas.WorldLaws.{part_fits, second_keeps, world_read}
 use Rattle.summary_codec.proofs.laws.files_of_worlds.Goals as goal
 
 pub returns-clause-read : goal.returns-clause-read

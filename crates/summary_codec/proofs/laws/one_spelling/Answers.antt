@@ -1,6 +1,6 @@
-use Rattle.summary_codec.proofs.OneReading as one
-use Rattle.summary_codec.proofs.SpelledRead as spelled
-use Rattle.summary_codec.proofs.WrittenRead as written
+use Rattle.summary_codec.specs.Lemmas.OneReading as one
+use Rattle.summary_codec.specs.Lemmas.SpelledRead as spelled
+use Rattle.summary_codec.specs.Lemmas.WrittenRead as written
 use Rattle.summary_codec.proofs.laws.one_spelling.Goals as goal
 
 pub returns-clause-read_again : goal.returns-clause-read_again

@@ -1,6 +1,6 @@
-use Rattle.summary_codec.proofs.OneReading.{one_file_version}
-use Rattle.summary_codec.proofs.ReadQueries.{same_behind}
-use Rattle.summary_codec.proofs.VersionLaws.{held_within}
+use Rattle.summary_codec.specs.Lemmas.OneReading.{one_file_version}
+use Rattle.summary_codec.specs.Lemmas.ReadQueries.{same_behind}
+use Rattle.summary_codec.specs.Lemmas.VersionLaws.{held_within}
 use Rattle.summary_codec.proofs.laws.versions.Goals as goal
 
 pub returns-clause-one : goal.returns-clause-one

@@ -1,7 +1,7 @@
 use Rattle.std.proofs.Common.{inr, subst, Ok}
 use Rattle.std.proofs.lemmas.Result.{IfOk-weaker, IfErr-weaker}
 use Rattle.summary_codec.specs.Reading.{opened, summary}
-use Rattle.summary_codec.proofs.SpelledRead.{spelled}
+use Rattle.summary_codec.specs.Lemmas.SpelledRead.{spelled}
 use Rattle.summary_codec.proofs.reading.decode_sharing.Goals as goal
 
 pub returns-clause-read : goal.returns-clause-read

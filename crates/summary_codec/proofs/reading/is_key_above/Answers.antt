@@ -3,7 +3,7 @@ use Rattle.std.specs.Ordering.{nat_cmp}
 use Rattle.std.specs.Cmp.Lexicographic.{slice_cmp}
 use Rattle.group_runs.specs.Runs.{packed_keys}
 use Rattle.summary_codec.proofs.GroupLaws.{last_key}
-use Rattle.summary_codec.proofs.RisingLaws.{is_next, next_is}
+use Rattle.summary_codec.specs.Lemmas.RisingLaws.{is_next, next_is}
 use Rattle.summary_codec.proofs.reading.is_key_above.Goals as goal
 
 pub returns-in-Some-clause-above : goal.returns-in-Some-clause-above

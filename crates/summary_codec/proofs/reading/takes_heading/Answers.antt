@@ -4,7 +4,7 @@ use Rattle.packed_rows.specs.Columns.{printed}
 use Rattle.query_checks.specs.Spelling.{spelling}
 use Rattle.having_filter.specs.Kept.{by_names}
 use Rattle.summary_codec.specs.Reading.{text}
-use Rattle.summary_codec.proofs.WrittenRead.{heading_again}
+use Rattle.summary_codec.specs.Lemmas.WrittenRead.{heading_again}
 use Rattle.summary_codec.proofs.reading.takes_heading.Goals as goal
 
 pub returns : goal.returns

@@ -4,7 +4,7 @@ use Rattle.grouping_model.specs.Query.{Query}
 use Rattle.agg_protocol.specs.States.{shape_of, width_of}
 use Rattle.having_filter.specs.Meaning.{meaning}
 use Rattle.agg_library.specs.StateRowLaws.{fits}
-use Rattle.summary_codec.proofs.GroupLaws.{width_by_functions}
+use Rattle.summary_codec.specs.Lemmas.GroupLaws.{width_by_functions}
 use Rattle.summary_codec.proofs.reading.width_of_states.Goals as goal
 
 pub width-requires : goal.width-requires

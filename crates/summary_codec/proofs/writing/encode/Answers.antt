@@ -1,10 +1,10 @@
 use Rattle.std.proofs.Common.{◌≡◌, rules, arith, sym, subst}
-use Rattle.summary_codec.proofs.LengthLaws.{short_parts, few_parts}
+use Rattle.summary_codec.specs.Lemmas.LengthLaws.{short_parts, few_parts}
 use Rattle.summary_codec.specs.File.{file_bytes}
 use Rattle.summary_codec.specs.Reading.{IsSaved}
 use Rattle.summary_codec.specs.declared.version.Version.TheVariants.{Second}
-use Rattle.summary_codec.proofs.VersionLaws.{held_within}
-use Rattle.summary_codec.proofs.WrittenRead.{read_again}
+use Rattle.summary_codec.specs.Lemmas.VersionLaws.{held_within}
+use Rattle.summary_codec.specs.Lemmas.WrittenRead.{read_again}
 use Rattle.summary_codec.proofs.writing.encode.Goals as goal
 
 pub push_number-requires-clause-fits : goal.push_number-requires-clause-fits

@@ -3,9 +3,9 @@ use Rattle.std.proofs.Common.{subst, sym, ◌∙◌, arith, refl, ap}
 use Rattle.having_filter.specs.Kept.{by_names}
 use Rattle.query_checks.specs.Spelling.{spelling}
 use Rattle.packed_rows.specs.Columns.{AreColumns, printed}
-use Rattle.group_parser.proofs.PrintLaws.{parsed_again}
-use Rattle.summary_codec.proofs.LengthLaws.{short_schema}
-use Rattle.origin_prefix.proofs.CountLaws.{on_ok}
+use Rattle.group_parser.specs.Lemmas.PrintLaws.{parsed_again}
+use Rattle.summary_codec.specs.Lemmas.LengthLaws.{short_schema}
+use Rattle.origin_prefix.specs.Lemmas.CountLaws.{on_ok}
 use Rattle.summary_codec.proofs.writing.push_heading.Goals as goal
 
 pub push_sized-requires : goal.push_sized-requires

@@ -1,7 +1,7 @@
 use Rattle.std.proofs.Common.{◌≡◌, ap, sym, ◌∙◌}
 use Rattle.grouping_model.specs.Combining.{transition, joined as joined_by}
 use Rattle.packed_rows.specs.View.{datum_of}
-use Rattle.agg_protocol.proofs.ArgumentLaws.{moved_list}
+use Rattle.agg_protocol.specs.Lemmas.ArgumentLaws.{moved_list}
 use Rattle.agg_library.proofs.reduction.ReductionAggregate.transition.Goals as goal
 
 pub returns-clause-moves : goal.returns-clause-moves

@@ -1,5 +1,5 @@
 use Rattle.grouping_model.specs.Aggregates.{Sum, Summed}
-use Rattle.agg_protocol.proofs.ArgumentLaws.{combined_lists}
+use Rattle.agg_protocol.specs.Lemmas.ArgumentLaws.{combined_lists}
 use Rattle.agg_library.proofs.sums.SumAggregate.combine.Goals as goal
 
 pub returns-clause-of_lists : goal.returns-clause-of_lists

@@ -4,7 +4,7 @@ use Rattle.std.specs.Int.{w64, cast_signed, cast_unsigned}
 use Rattle.grouping_model.specs.Aggregates.{Sum, Summed}
 use Rattle.grouping_model.specs.Combining.{transition}
 use Rattle.packed_rows.specs.View.{datum_of}
-use Rattle.agg_protocol.proofs.ArgumentLaws.{moved_list}
+use Rattle.agg_protocol.specs.Lemmas.ArgumentLaws.{moved_list}
 use Rattle.agg_library.proofs.ArgumentSteps.{sum_kept}
 use Rattle.agg_library.proofs.sums.SumAggregate.transition.Goals as goal
 

@@ -1,5 +1,5 @@
 use Rattle.std.proofs.Common.{◌∙◌, take}
-use Rattle.block_memory.proofs.CellLemmas.{length-with_bytes}
+use Rattle.block_memory.specs.Lemmas.CellLemmas.{length-with_bytes}
 use Rattle.block_memory.proofs.block.RawBlock.bytes_mut.Goals as goal
 
 pub invariant_of-self-lent : goal.invariant_of-self-lent

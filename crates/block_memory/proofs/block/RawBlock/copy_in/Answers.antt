@@ -1,4 +1,4 @@
-use Rattle.block_memory.proofs.CellLemmas.{length-with_bytes}
+use Rattle.block_memory.specs.Lemmas.CellLemmas.{length-with_bytes}
 use Rattle.block_memory.proofs.block.RawBlock.copy_in.Goals as goal
 
 pub returns-clause-len : goal.returns-clause-len

@@ -1,5 +1,5 @@
 use Rattle.std.proofs.Common.{arith}
-use Rattle.block_memory.proofs.CellLemmas.{length-blank_cells}
+use Rattle.block_memory.specs.Lemmas.CellLemmas.{length-blank_cells}
 use Rattle.block_memory.proofs.block.RawBlock.new.Goals as goal
 
 pub invariant_of-result : goal.invariant_of-result

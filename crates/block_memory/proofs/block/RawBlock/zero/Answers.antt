@@ -1,5 +1,5 @@
 use Rattle.block_memory.specs.Cells.{zeros}
-use Rattle.block_memory.proofs.CellLemmas.{length-with_bytes}
+use Rattle.block_memory.specs.Lemmas.CellLemmas.{length-with_bytes}
 use Rattle.block_memory.proofs.block.RawBlock.zero.Goals as goal
 
 pub returns-clause-written : goal.returns-clause-written

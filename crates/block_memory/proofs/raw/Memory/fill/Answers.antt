@@ -1,6 +1,6 @@
 use Rattle.std.proofs.Common.{◌∙◌, ap, Some, ◌+◌, set}
 use Rattle.block_memory.specs.Cells.{Cells}
-use Rattle.block_memory.proofs.CellLemmas.{fill_more}
+use Rattle.block_memory.specs.Lemmas.CellLemmas.{fill_more}
 use Rattle.block_memory.proofs.raw.Memory.fill.Goals as goal
 
 pub loop-i-preserved : goal.loop-i-preserved

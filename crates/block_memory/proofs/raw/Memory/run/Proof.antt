@@ -15,7 +15,7 @@ use Rattle.block_memory.specs.contracts.raw.Memory.{the_row as R, the_type}
 use Rattle.block_memory.specs.contracts.raw.Memory.run as f
 use Rattle.block_memory.proofs.raw.Memory.run.Statement.{statement}
 use Rattle.block_memory.proofs.raw.Memory.run.Code as code
-use Rattle.block_memory.proofs.CellLemmas.{bytes_of_written}
+use Rattle.block_memory.specs.Lemmas.CellLemmas.{bytes_of_written}
 use Rattle.block_memory.proofs.MemoryLemmas.{front, back, run_out, bytes_shared}
 
 abbrev stayed : Stays f.ended.signature.params f.ended.kept

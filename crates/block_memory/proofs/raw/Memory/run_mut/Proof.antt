@@ -20,7 +20,7 @@ use Rattle.block_memory.proofs.raw.Memory.run_mut.Statement.{statement}
 use Rattle.block_memory.proofs.raw.Memory.run_mut.Code as code
 use Rattle.std.proofs.lemmas.List.{take_all}
 use Rattle.std.proofs.Common.{take}
-use Rattle.block_memory.proofs.CellLemmas.{bytes_of_written, length-with_bytes}
+use Rattle.block_memory.specs.Lemmas.CellLemmas.{bytes_of_written, length-with_bytes}
 use Rattle.block_memory.proofs.MemoryLemmas.{front, back, run_out, run_in, bytes_out, bytes_in}
 
 abbrev stayed : Stays f.ended.signature.params f.ended.kept

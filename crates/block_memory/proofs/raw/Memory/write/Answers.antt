@@ -1,6 +1,6 @@
 use Rattle.std.proofs.Common.{◌∙◌, ap, Some, ◌+◌, get_or, set}
 use Rattle.block_memory.specs.Cells.{Cells}
-use Rattle.block_memory.proofs.CellLemmas.{write_more}
+use Rattle.block_memory.specs.Lemmas.CellLemmas.{write_more}
 use Rattle.block_memory.proofs.raw.Memory.write.Goals as goal
 
 pub loop-i-preserved : goal.loop-i-preserved

@@ -1,7 +1,7 @@
 use Rattle.std.proofs.Common.{◌<◌, None, length, get_or, sym, ◌∙◌, subst}
 use Rattle.std.specs.Prelude.{IsSome}
 use Rattle.block_memory.specs.Cells.{Holds, IsWritten}
-use Rattle.block_memory.proofs.CellLemmas.{holds_unique}
+use Rattle.block_memory.specs.Lemmas.CellLemmas.{holds_unique}
 use Rattle.chunk_layout.specs.Spots.{Blocks, block_at}
 use Rattle.chunk_layout.proofs.Fields.{found-low, found-some, found-written, found-bytes}
 use Rattle.chunk_layout.proofs.layout.ChunkLayout.get.Goals as goal

@@ -3,7 +3,7 @@ use Rattle.std.proofs.lemmas.List.{get_or_default}
 use Rattle.std.specs.Option.{option_copied_mut, is_some}
 use Rattle.std.specs.Vec.{with_item}
 use Rattle.block_memory.specs.Cells.{Cells, Holds, IsWritten, with_bytes}
-use Rattle.block_memory.proofs.CellLemmas.{holds_unique}
+use Rattle.block_memory.specs.Lemmas.CellLemmas.{holds_unique}
 use Rattle.chunk_layout.specs.Spots.{block_at, cells_of}
 use Rattle.chunk_layout.specs.declared.layout.ChunkLayout.TheInside.{Inside}
 use Rattle.chunk_layout.proofs.Fields.{found-low, found-some, found-written, found-bytes, fields-lent, layout-lent}

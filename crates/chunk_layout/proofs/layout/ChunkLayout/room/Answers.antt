@@ -2,7 +2,7 @@ use Rattle.std.proofs.Common.{◌<◌, ◌-◌, None, length, get_or, sym, ap, �
 use Rattle.std.specs.Prelude.{IsSome}
 use Rattle.block_memory.specs.Cells.{Holds, IsWritten}
 use Rattle.block_memory.specs.Words.{word_bytes}
-use Rattle.block_memory.proofs.CellLemmas.{word_read_back, written_of_holds, length-word_bytes}
+use Rattle.block_memory.specs.Lemmas.CellLemmas.{word_read_back, written_of_holds, length-word_bytes}
 use Rattle.chunk_layout.specs.Spots.{Blocks, block_at}
 use Rattle.chunk_layout.specs.Pieces.{Layout}
 use Rattle.chunk_layout.proofs.Fields.{found-low, found-some, found-inside, found-small, found-header}

@@ -6,7 +6,7 @@ use Rattle.context_tree.specs.Tree.{TreeState, has_stamp, is_there, context_at, 
 use Rattle.context_tree.specs.declared.context.Context.{Context}
 use Rattle.context_tree.specs.declared.links.Link.{Link}
 use Rattle.context_tree.proofs.Clearing.{get_or-cleared}
-use Rattle.context_tree.proofs.Forest.{not-under-itself}
+use Rattle.context_tree.specs.Lemmas.Forest.{not-under-itself}
 use Rattle.context_tree.proofs.TreeLaws.{AreGivenUp, given-long, all-given, given-up, fields-given}
 use Rattle.context_tree.proofs.tree.Tree.prune.Goals.{After-give_up_free}
 use Rattle.context_tree.proofs.tree.Tree.prune.Goals as goal

@@ -8,7 +8,8 @@ use Rattle.having_filter.specs.Meaning.{meaning}
 use Rattle.group_runs.specs.Runs.{Entry, Rises}
 use Rattle.group_runs.specs.Steps.{HasRoomForGroup}
 use Rattle.group_runs.proofs.RunLaws.{run_front_rises}
-use Rattle.group_runs.proofs.PlaceLaws.{Moves, Passes, moves, passes, some_moved, rises_between}
+use Rattle.group_runs.specs.Lemmas.PlaceLaws.{Moves, Passes, rises_between}
+use Rattle.group_runs.proofs.PlaceLaws.{moves, passes, some_moved}
 use Rattle.group_runs.proofs.SpliceLaws.{present_room}
 use Rattle.group_runs.proofs.chunk.Chunk.merge_group.Goals.{Then-has_at, Else-has_at}
 use Rattle.group_runs.proofs.chunk.Chunk.merge_group.Goals as goal

@@ -3,7 +3,8 @@ use Rattle.std.proofs.Common.{subst, arith, rules}
 use Rattle.std.specs.List.{AllByRecursion}
 use Rattle.group_runs.specs.Runs.{Entry}
 use Rattle.group_runs.specs.Places.{IsBelow, IsNotBelow}
-use Rattle.group_runs.proofs.PlaceLaws.{below_to, not_below_from}
+use Rattle.group_runs.specs.Lemmas.PlaceLaws.{below_to}
+use Rattle.group_runs.proofs.PlaceLaws.{not_below_from}
 use Rattle.group_runs.proofs.chunk.Chunk.seek.Goals as goal
 
 pub loop-low-preserved-then-is_below : goal.loop-low-preserved-then-is_below

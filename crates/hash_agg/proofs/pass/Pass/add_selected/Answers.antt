@@ -10,7 +10,7 @@ use Rattle.spill_lists.specs.declared.error.SpillError.TheVariants.{NoMemory}
 use Rattle.hash_agg.specs.Added.{Packed_rows, query_of}
 use Rattle.hash_agg.specs.Passes.{AreRows, entries_of}
 use Rattle.hash_agg.proofs.AddedLaws.{same_pass, there_added, new_added, left_added, refused_still, damaged_here}
-use Rattle.hash_agg.proofs.KeyLaws.{key_has}
+use Rattle.hash_agg.specs.Lemmas.KeyLaws.{key_has}
 use Rattle.hash_agg.proofs.ReturnLaws.{same_table, same_rest, moved_table}
 use Rattle.hash_agg.proofs.StepLaws.{key_brief, key_short, packed_short, row_told, there_room, new_room}
 use Rattle.hash_agg.proofs.pass.Pass.add_selected.Goals as goal

@@ -6,7 +6,8 @@ use Rattle.std.specs.Option.{option_copied}
 use Rattle.grouping_model.specs.declared.limits.TheConstants.{LAST_NUMBER}
 use Rattle.having_filter.specs.Meaning.{meaning}
 use Rattle.origin_prefix.specs.Parts.{Part, rows_at, behind}
-use Rattle.origin_prefix.proofs.CountLaws.{on_ok, early_counted}
+use Rattle.origin_prefix.specs.Lemmas.CountLaws.{on_ok}
+use Rattle.origin_prefix.proofs.CountLaws.{early_counted}
 use Rattle.origin_prefix.proofs.DeliverLaws.{known_within, reply_early, refused_early, unknown, unknown_refused, kept_delivers, part_kept, part_settled, behind_gap, next_open}
 use Rattle.origin_prefix.proofs.part.OriginPart.deliver.Goals as goal
 use Rattle.origin_prefix.proofs.part.OriginPart.deliver.Goals.{in-Ok, in-Err}

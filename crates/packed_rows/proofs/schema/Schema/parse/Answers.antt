@@ -2,7 +2,7 @@ use Rattle.std.proofs.Common.{sym, subst}
 use Rattle.std.specs.List.{AllByRecursion}
 use Rattle.query_tokens.specs.Words.{all_placed}
 use Rattle.query_tokens.specs.Spelling.{IsLexeme, lexemes_of}
-use Rattle.query_tokens.proofs.Legal.{read_legal}
+use Rattle.query_tokens.specs.Lemmas.Legal.{read_legal}
 use Rattle.packed_rows.specs.DescribedLaws.{all_members}
 use Rattle.packed_rows.proofs.schema.Schema.parse.Goals as goal
 

@@ -1,7 +1,7 @@
 use Rattle.std.specs.Prelude.{◌≡◌, ◌++◌, ◌<◌, ◌≤◌, ℕ, List, string_bytes, take, codes, length}
 use Rattle.std.proofs.Common.{◌∙◌, ap, sym, subst, arith, append-nil}
 use Rattle.packed_rows.specs.Columns.{printed, column_text, IsSchemaText}
-use Rattle.packed_rows.proofs.PrintedColumns.{printed_again}
+use Rattle.packed_rows.specs.Lemmas.PrintedColumns.{printed_again}
 use Rattle.std.proofs.lemmas.List.{take_all}
 use Rattle.packed_rows.specs.View.{kind_of}
 use Rattle.packed_rows.proofs.ColumnLaws.{printed_more, first_separator, later_separator, separator}

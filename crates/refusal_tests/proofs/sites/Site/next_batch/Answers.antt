@@ -1,4 +1,4 @@
-use Rattle.file_commands.proofs.FileLaws.{read_of_file, packed_of_file}
+use Rattle.file_commands.specs.Lemmas.FileLaws.{read_of_file, packed_of_file}
 use Rattle.refusal_tests.proofs.sites.Site.next_batch.Goals as goal
 
 pub returns-clause-rows : goal.returns-clause-rows

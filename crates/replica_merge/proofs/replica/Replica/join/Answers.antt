@@ -5,7 +5,7 @@ use Rattle.grouping_model.specs.World.{World}
 use Rattle.query_checks.specs.Checks.{Checked}
 use Rattle.having_filter.specs.Meaning.{meaning}
 use Rattle.hash_agg.specs.Counting.{setting_by}
-use Rattle.query_grammar.proofs.OneText.{one_text}
+use Rattle.query_grammar.specs.Lemmas.OneText.{one_text}
 use Rattle.replica_merge.specs.Counting.{JoinsInOrder}
 use Rattle.replica_merge.specs.Replicas.{Held, Fits, AreHeldParts, DisagreeSomewhere, MergeTells}
 use Rattle.origin_prefix.specs.declared.error.JoinError.TheVariants.{OriginDisagrees}

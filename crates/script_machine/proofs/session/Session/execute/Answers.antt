@@ -6,7 +6,7 @@ use Rattle.script_commands.specs.Commands as ask
 use Rattle.script_commands.specs.Commands.{owned_by, request_of}
 use Rattle.script_commands.specs.Views.{request_view}
 use Rattle.script_commands.specs.declared.request.Request.{Request}
-use Rattle.script_commands.proofs.CommandLaws.{owned_told}
+use Rattle.script_commands.specs.Lemmas.CommandLaws.{owned_told}
 use Rattle.tape_disks.specs.Disk.{Leaves}
 use Rattle.tape_disks.specs.DiskLaws.{leaves_none}
 use Rattle.script_machine.specs.Limits.{WorksAtLimit}

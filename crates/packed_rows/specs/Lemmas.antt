@@ -1,0 +1,5 @@
+-- Lemmas that other crates cite, with their proofs. What is defined here serves them, and no public contract names it.
+pub mod FieldLaws
+pub mod PackingOrder
+pub mod RowLaws
+pub mod PrintedColumns

@@ -1,0 +1,19 @@
+-- Lemmas that other crates cite, with their proofs. What is defined here serves them, and no public contract names it.
+pub mod Marks
+pub mod Steps
+pub mod Sound
+pub mod Alike
+pub mod Locality
+pub mod Terms
+pub mod Whole_sound
+pub mod Complete
+pub mod Whole_complete
+pub mod Whole_locality
+pub mod Faults
+pub mod FirstFaults
+pub mod Chains
+pub mod Writables
+pub mod Texts
+pub mod Printed
+pub mod PrintedQuery
+pub mod OneText

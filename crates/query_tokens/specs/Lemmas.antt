@@ -1,0 +1,6 @@
+-- Lemmas that other crates cite, with their proofs. What is defined here serves them, and no public contract names it.
+pub mod Numerals
+pub mod Steps
+pub mod Respelled
+pub mod Pieces
+pub mod Legal

@@ -1,0 +1,15 @@
+-- How many records a pass spilled.
+use Rattle.std.specs.Prelude.{◌≡◌, ℕ, ◌<◌, ◌≤◌, ◌==◌, ◌-◌, true, false}
+use Rattle.std.proofs.Common.{arith}
+use Rattle.std.proofs.lemmas.Bool.Decides.{nat_tests}
+use Rattle.spill_lists.specs.Lists.{lists}
+
+-- places of lists, as tests tell them
+pub is_not : (n i : ℕ) → n < i → (n == i) ≡ false
+is_not n i less = grind (arith, nat_tests)
+
+pub is_it : (n i : ℕ) → (n == i) ≡ true → n ≡ i
+is_it n i e = grind (arith, nat_tests)
+
+pub is_past : (n i : ℕ) → (n == i) ≡ false → i ≤ n → i < n
+is_past n i e low = grind (arith, nat_tests)
