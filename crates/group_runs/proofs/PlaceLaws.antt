@@ -17,7 +17,7 @@ use Rattle.list_laws.specs.Each.{each_append, each_weaker}
 use Rattle.group_runs.specs.Runs.{Entry, packed_keys, Rises}
 use Rattle.group_runs.specs.Places.{IsBelow, IsNotBelow, AllBelow, AllAbove, AreUpTo, HasKey, HasKeyAt, IsBetween, IsPlaceOf}
 use Rattle.group_runs.specs.PlaceLaws.{drop_at, key_total}
-use Rattle.group_runs.specs.Lemmas.PlaceLaws.{KeyStands, is, left, long, low, states, Moves, below, front, low, states, whole, Passes, above, below, whole}
+use Rattle.group_runs.specs.Lemmas.PlaceLaws.{KeyStands, Moves, Passes}
 
 -- ---- parts of lists
 pub rises_drop : (n : ℕ) (run : List Entry) → Rises run → Rises (drop n run)

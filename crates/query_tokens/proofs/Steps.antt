@@ -9,7 +9,7 @@ use Rattle.query_tokens.specs.Bytes.{is_space}
 use Rattle.query_tokens.specs.Tokens.{◌>>=◌, Fails, word_at, tokens_at}
 use Rattle.std.proofs.lemmas.Bool.Decides.{nat_tests}
 use Rattle.std.proofs.lemmas.Grind.{common_steps}
-use Rattle.query_tokens.specs.Lemmas.Steps.{passes, len, rest_is, within, word_end}
+use Rattle.query_tokens.specs.Lemmas.Steps.{passes, word_end}
 
 -- what was read before, and what is still read
 abbrev pub with_front : List Placed → Result (List Placed) Fault → Result (List Placed) Fault

@@ -1,4 +1,3 @@
-pub mod ShownLaws
 pub mod ToldLaws
 pub mod AnswerLaws
 pub mod DeliveredLaws

@@ -7,7 +7,6 @@ mod laws;
 mod merging;
 mod replica;
 mod saving;
-mod showing;
 mod uniting;
 
 pub use error::MergeError;

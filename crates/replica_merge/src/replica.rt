@@ -20,9 +20,9 @@ ghost use Rattle.spill_lists.specs.declared.error.SpillError.TheVariants.{TapeDa
 ghost use Rattle.replica_merge.specs.Replicas.{part_at, part_of, told, Fits, AreHeldParts, DeliversAt, IsDelivery, known_of, known_part};
 
 use crate::known_origin::KnownOrigin;
-use crate::showing::show;
 use crate::uniting::{listed, run_alone, united};
 use batch_reader::{Batch, PackedRows};
+use group_answers::show;
 use hash_agg::{KeyHash, Means, SpillError, TapeDisk, Work};
 use having_filter::{Answer, Query};
 use origin_prefix::{Delivered, JoinError, OriginPart, RefusedBatch};

@@ -7,8 +7,8 @@ use Rattle.grouping_model.specs.Parts.{functions}
 use Rattle.having_filter.specs.Meaning.{meaning}
 use Rattle.group_runs.specs.Standing.{AreStates}
 use Rattle.grouping_model.specs.Answer.{rows_of, answered_of_none}
-use Rattle.replica_merge.proofs.ShownLaws.{empty_stands, answered_none}
-use Rattle.replica_merge.proofs.showing.rows_of_none.Goals as goal
+use Rattle.group_answers.proofs.ShownLaws.{empty_stands, answered_none}
+use Rattle.group_answers.proofs.showing.rows_of_none.Goals as goal
 
 pub push_group-requires : goal.push_group-requires
 push_group-requires c =

@@ -7,8 +7,8 @@ use Rattle.grouping_model.specs.Order.{ordered}
 use Rattle.grouping_model.specs.Answer.{answered, rows_of}
 use Rattle.having_filter.specs.Meaning.{meaning, order_term}
 use Rattle.group_runs.specs.StandingLaws.{groups_long}
-use Rattle.replica_merge.proofs.ShownLaws.{answered_some}
-use Rattle.replica_merge.proofs.showing.show.Goals as goal
+use Rattle.group_answers.proofs.ShownLaws.{answered_some}
+use Rattle.group_answers.proofs.showing.show.Goals as goal
 
 pub returns-then-is_empty : goal.returns-then-is_empty
 returns-then-is_empty c =

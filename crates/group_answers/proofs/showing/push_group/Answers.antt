@@ -10,8 +10,8 @@ use Rattle.packed_rows.specs.View.{row_of}
 use Rattle.agg_protocol.specs.Results.{outcome_of}
 use Rattle.having_filter.specs.Meaning.{meaning}
 use Rattle.group_runs.specs.StandingLaws.{states_by}
-use Rattle.replica_merge.proofs.ShownLaws.{sources_are, key_is, shown, not_shown}
-use Rattle.replica_merge.proofs.showing.push_group.Goals as goal
+use Rattle.group_answers.proofs.ShownLaws.{sources_are, key_is, shown, not_shown}
+use Rattle.group_answers.proofs.showing.push_group.Goals as goal
 
 pub unpack-requires : goal.unpack-requires
 unpack-requires c = let r = c.requires in (r.1.0, r.2.of_kinds, r.2.key)

@@ -17,7 +17,7 @@ ghost use Rattle.group_runs.specs.Standing.{StandsFor, AreGroups};
 
 use agg_library::{AggKind, StateRow};
 use agg_protocol::ResultValue;
-use hash_agg::{Run, first_states};
+use group_runs::{Run, first_states};
 use having_filter::{Answer, AnswerRows, Query, Source};
 use packed_rows::{RowError, Value, unpack_into};
 use std::alloc::{AllocError, Global};
@@ -165,8 +165,9 @@ fn rows_of_run(alloc: Global, query: &Query, run: &Run) -> Result<AnswerRows, Al
     Ok(rows)
 }
 
-/// The answer that the groups of a run give, in the order of the query. Without GROUP BY there is one group, over no rows too.
-pub(crate) fn show(alloc: Global, query: &Query, run: &Run) -> Result<Answer, AllocError>
+/// The answer that the groups of a run give, in the order of the query: a row of its items for each group of which HAVING is true. Without
+/// GROUP BY there is one group, over no rows too. The only error is a failed allocation.
+pub fn show(alloc: Global, query: &Query, run: &Run) -> Result<Answer, AllocError>
     requires { (most : ℕ) × (groups : List Group)
         × AreGroups (meaning query.now) most run.now groups × (most ≤ most_rows) }
     ensures { IfOk result (λ answer. (most : ℕ) (groups : List Group) → most ≤ most_rows →

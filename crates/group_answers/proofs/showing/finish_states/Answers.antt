@@ -10,8 +10,8 @@ use Rattle.agg_protocol.specs.Kinds.{kind_shape}
 use Rattle.agg_library.specs.StateRows.{DenotesAll}
 use Rattle.agg_library.specs.StateRowLaws.{raised}
 use Rattle.group_runs.specs.PlaceLaws.{take_found}
-use Rattle.replica_merge.proofs.ShownLaws.{partials_long, next_state}
-use Rattle.replica_merge.proofs.showing.finish_states.Goals as goal
+use Rattle.group_answers.proofs.ShownLaws.{partials_long, next_state}
+use Rattle.group_answers.proofs.showing.finish_states.Goals as goal
 
 pub finish-requires : goal.finish-requires
 finish-requires c =

@@ -5,8 +5,8 @@ use Rattle.grouping_model.specs.Query.{Query}
 use Rattle.having_filter.specs.Meaning.{meaning}
 use Rattle.group_runs.specs.Runs.{Entry}
 use Rattle.group_runs.specs.PlaceLaws.{drop_at}
-use Rattle.replica_merge.proofs.ShownLaws.{LeftOver, first_left, none_left, all_left}
-use Rattle.replica_merge.proofs.showing.rows_of_run.Goals as goal
+use Rattle.group_answers.proofs.ShownLaws.{LeftOver, first_left, none_left, all_left}
+use Rattle.group_answers.proofs.showing.rows_of_run.Goals as goal
 
 pub loop-place-init : goal.loop-place-init
 loop-place-init c = λ most groups low are. all_left (meaning c.args.query.now) most c.args.run.now c.new-rows.result groups c.new-rows.ensures are

@@ -3,7 +3,7 @@ use Rattle.grouping_model.specs.Aggregates.{Partial, outcome}
 use Rattle.agg_protocol.specs.Results.{outcome_of}
 use Rattle.agg_protocol.specs.States.{most_rows}
 use Rattle.agg_library.specs.StateRows.{DenotesAll}
-use Rattle.replica_merge.proofs.showing.finish_states.Given as goal
+use Rattle.group_answers.proofs.showing.finish_states.Given as goal
 
 abbrev pub invariant-loop-kind : goal.invariant-loop-kind
 invariant-loop-kind l =

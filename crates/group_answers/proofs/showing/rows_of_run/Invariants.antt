@@ -3,8 +3,8 @@ use Rattle.grouping_model.specs.Grouping.{Group}
 use Rattle.agg_protocol.specs.States.{most_rows}
 use Rattle.having_filter.specs.Meaning.{meaning}
 use Rattle.group_runs.specs.Standing.{AreGroups}
-use Rattle.replica_merge.proofs.ShownLaws.{LeftOver}
-use Rattle.replica_merge.proofs.showing.rows_of_run.Given as goal
+use Rattle.group_answers.proofs.ShownLaws.{LeftOver}
+use Rattle.group_answers.proofs.showing.rows_of_run.Given as goal
 
 abbrev pub invariant-loop-place : goal.invariant-loop-place
 invariant-loop-place l =
