@@ -41,9 +41,17 @@ one_value Boolean_kind field Null (Boolean b) p q = absurd (null_no_boolean fiel
 one_value Boolean_kind field (Boolean b) Null p q = absurd (null_no_boolean field b q p)
 one_value Text_kind field Null (Text y) p q = absurd (q.0.3 p)
 one_value Text_kind field (Text x) Null p q = absurd (p.0.3 q)
-one_value kind field d e p q = cc
+one_value Bigint_kind field (Boolean b) e p q = absurd p
+one_value Bigint_kind field (Text x) e p q = absurd p
+one_value Boolean_kind field (Bigint x) e p q = absurd p
+one_value Boolean_kind field (Text x) e p q = absurd p
+one_value Text_kind field (Bigint x) e p q = absurd p
+one_value Text_kind field (Boolean b) e p q = absurd p
+one_value kind field d e p q = absurd q
 
 pub one_row : (kinds : List Kind) (fields : List (List ℕ)) (x y : Row) → ReadsRow kinds fields x → ReadsRow kinds fields y → x ≡ y
 one_row [] [] [] [] p q = refl
 one_row (kind ∷ kinds) (field ∷ fields) (d ∷ x) (e ∷ y) p q = λ i. one_value kind field d e p.0 q.0 i ∷ one_row kinds fields x y p.1 q.1 i
-one_row kinds fields x y p q = cc
+one_row [] [] [] (e ∷ y) p q = absurd q
+one_row (kind ∷ kinds) (field ∷ fields) (d ∷ x) [] p q = absurd q
+one_row kinds fields x y p q = absurd p

@@ -17,7 +17,7 @@ PackedSoFar kinds fields i bytes = (row : Row) × ReadsRow (take i kinds) (take 
 reads_push : (kinds : List Kind) (fields : List (List ℕ)) (row : Row) (kind : Kind) (field : List ℕ) (value : Datum) → ReadsRow kinds fields row → Reads kind field value → ReadsRow (kinds ++ kind ∷ []) (fields ++ field ∷ []) (row ++ value ∷ [])
 reads_push [] [] [] kind field value p q = (q, tt)
 reads_push (k ∷ kinds) (f ∷ fields) (v ∷ row) kind field value p q = (p.0, reads_push kinds fields row kind field value p.1 q)
-reads_push kinds fields row kind field value p q = cc
+reads_push kinds fields row kind field value p q = absurd p
 
 pub packed_more : (kinds : List Kind) (fields : List (List ℕ)) (i : ℕ) (bytes : List ℕ) (kind : Kind) (field : List ℕ) (value : Datum) → i < length kinds → i < length fields → Reads (slice_index_or kinds i kind) (slice_index_or fields i field) value → PackedSoFar kinds fields i bytes → PackedSoFar kinds fields (i + 1) (bytes ++ value_packing value)
 packed_more kinds fields i bytes kind field value h h' r s =
