@@ -1,12 +1,9 @@
 -- Classes and their rooms.
-use Rattle.std.proofs.Common.{◌≡◌, ℕ, ◌<◌, ◌≤◌, get_or, inl, inr, sym, arith, true, List, [], ◌∷◌, suc, length, ap, ◌∙◌, refl}
-use Rattle.std.specs.Prelude.{nat_le, ◌==◌, ◌-◌}
-use Rattle.std.proofs.lemmas.Bool.{le-leb, lt-leb, agree_below_at, eqb-true, cases_Bool, cond-false, false≢true}
+use Rattle.std.proofs.Common.{◌≡◌, ℕ, ◌<◌, ◌≤◌, get_or, inl, inr, sym, arith, true, List, [], ◌∷◌, suc, length, ap, ◌∙◌, refl, ◌-◌}
+use Rattle.chunk_contexts.proofs.Words.{nat_le, ◌==◌, is_in}
+use Rattle.chunk_contexts.proofs.Laws.{le-leb, lt-leb, agree_below_at, eqb-true, cases_Bool, cond-false, false≢true, nat_tests, common_steps}
 use Rattle.std.proofs.lemmas.List.Sums.{position_or_len_is}
 use Rattle.chunk_contexts.specs.Rooms.{rooms, rooms_down, class_of, room_of}
-use Rattle.chunk_contexts.specs.Free.{is_in}
-use Rattle.std.proofs.lemmas.Bool.Decides.{nat_tests}
-use Rattle.std.proofs.lemmas.Grind.{common_steps}
 
 pub room-is : (i : ℕ) → room_of i ≡ get_or rooms i 0
 unfolding room_of rooms

@@ -1,18 +1,7 @@
 -- What a change of the chunks says of their names.
-use Rattle.std.proofs.Common.{◌≡◌, ℕ, inl, inr, Bool, true, false, List, Option, [], ◌∷◌, length, drop, cond, refl, sym, ap, ◌∙◌, arith}
-use Rattle.std.specs.Prelude.{IsTrue, ◌==◌, ◌&&◌, ◌||◌}
-use Rattle.std.specs.List.{refill, length_refill}
-use Rattle.std.proofs.lemmas.Bool.{cases_Bool, cond-true, cond-false, and_parts, eqb-true, true≢false, false_from_ne_true}
-use Rattle.std.proofs.Math.Seq.{take-append_seam}
-use Rattle.chunk_layout.specs.Pieces.{Piece, same_place, is_at, place_of, has, piece_at, without, rewritten, with_bytes_of, AreApart, IsInside, AreLaid}
-use Rattle.chunk_layout.specs.declared.place.Place.{Place}
-use Rattle.chunk_layout.specs.declared.place.ChunkName.{ChunkName}
-use Rattle.chunk_layout.specs.ListLaws.{every_filter, pairwise_filter}
-use Rattle.chunk_layout.specs.FindingLaws.{same-place, place-same}
-use Rattle.chunk_layout.specs.PieceLaws.{other-place, piece_at-first, piece_at-later, has-without, piece_at-without}
-use Rattle.chunk_contexts.specs.Chunks.{live, is_live, bytes_of, chunk_of, Adds, Keeps, KeepsOthers, IsResized}
-use Rattle.std.proofs.lemmas.Bool.Decides.{nat_tests}
-use Rattle.std.proofs.lemmas.Grind.{common_steps}
+use Rattle.std.proofs.Common.{◌≡◌, ℕ, true, false, List, Option, [], ◌∷◌, length, refl, sym, ap, ◌∙◌, arith}
+use Rattle.chunk_contexts.proofs.Words.{IsTrue, ◌==◌, ◌&&◌, Piece, same_place, is_at, place_of, has, piece_at, without, rewritten, with_bytes_of, AreApart, IsInside, AreLaid, Place, ChunkName, live, is_live, bytes_of, chunk_of, Adds, Keeps, KeepsOthers, IsResized}
+use Rattle.chunk_contexts.proofs.Laws.{and_parts, eqb-true, true≢false, false_from_ne_true, every_filter, pairwise_filter, same-place, place-same, piece_at-first, has-without, piece_at-without, nat_tests, common_steps}
 
 -- ---- what a live name says
 pub name-there : (chunks : List Piece) (name : ChunkName) → IsTrue (is_live chunks name) → IsTrue (has chunks (place_of name))
@@ -52,9 +41,7 @@ module _ (before after : List Piece) (name : ChunkName) (room : ℕ) (bytes : Li
 
 -- ---- a chunk less
 pub without-keeps : (before after : List Piece) (name : ChunkName) → after ≡ without before (place_of name) → KeepsOthers before after name name
-without-keeps before after name gone = λ other apart lives.
-    kept before after name other apart (ap (λ (ps : List Piece). has ps (place_of other)) gone ∙ has-without before (place_of name) (place_of other) apart)
-    (ap (λ (ps : List Piece). piece_at ps (place_of other)) gone ∙ piece_at-without before (place_of name) (place_of other) apart) lives
+without-keeps before after name gone = grind (arith, nat_tests, common_steps, has-without before (place_of name), piece_at-without before (place_of name))
 
 -- ---- a chunk of another length
 pub resized-keeps : (before after : List Piece) (name new : ChunkName) (n : ℕ) → IsResized before after name new n → KeepsOthers before after name new
@@ -64,46 +51,25 @@ resized-keeps before after name new n resized = grind (arith, nat_tests, common_
 module _ (place : Place) (ws : List ℕ) where
   has-rewritten : (ps : List Piece) (q : Place) → has (rewritten ps place ws) q ≡ has ps q
   has-rewritten [] q = refl
-  has-rewritten (p ∷ ps) q = elim (cases_Bool (is_at place p)) [
-    | inl here ↦ ap (λ (t : List Piece). has t q) (cond-true (is_at place p) (with_bytes_of p ws ∷ ps) (p ∷ rewritten ps place ws) here)
-    | inr away ↦ ap (λ (t : List Piece). has t q) (cond-false (is_at place p) (with_bytes_of p ws ∷ ps) (p ∷ rewritten ps place ws) away) ∙ ap (λ (b : Bool). is_at q p || b) (has-rewritten ps q)
-  ]
+  has-rewritten (p ∷ ps) q = grind (arith, nat_tests, common_steps, has-rewritten ps q)
 
   piece_at-rewritten : (ps : List Piece) → piece_at (rewritten ps place ws) place ≡ with_bytes_of (piece_at ps place) ws
   piece_at-rewritten [] = refl
-  piece_at-rewritten (p ∷ ps) = elim (cases_Bool (is_at place p)) [
-    | inl here ↦
-        ap (λ (t : List Piece). piece_at t place) (cond-true (is_at place p) (with_bytes_of p ws ∷ ps) (p ∷ rewritten ps place ws) here)
-        ∙ piece_at-first (with_bytes_of p ws) ps place here ∙ ap (λ (q : Piece). with_bytes_of q ws) (sym (piece_at-first p ps place here))
-    | inr away ↦
-        ap (λ (t : List Piece). piece_at t place) (cond-false (is_at place p) (with_bytes_of p ws ∷ ps) (p ∷ rewritten ps place ws) away)
-        ∙ piece_at-later p (rewritten ps place ws) place away ∙ piece_at-rewritten ps ∙ ap (λ (q : Piece). with_bytes_of q ws) (sym (piece_at-later p ps place away))
-  ]
+  piece_at-rewritten (p ∷ ps) = grind (arith, nat_tests, common_steps, piece_at-rewritten ps)
 
   piece_at-rewritten_other : (ps : List Piece) (other : Place) → same_place place other ≡ false → piece_at (rewritten ps place ws) other ≡ piece_at ps other
   piece_at-rewritten_other [] other apart = refl
-  piece_at-rewritten_other (p ∷ ps) other apart = elim (cases_Bool (is_at place p)) [
-    | inl here ↦
-        ap (λ (t : List Piece). piece_at t other) (cond-true (is_at place p) (with_bytes_of p ws ∷ ps) (p ∷ rewritten ps place ws) here)
-        ∙ piece_at-later (with_bytes_of p ws) ps other (other-place p place other here apart) ∙ sym (piece_at-later p ps other (other-place p place other here apart))
-    | inr away ↦
-        ap (λ (t : List Piece). piece_at t other) (cond-false (is_at place p) (with_bytes_of p ws ∷ ps) (p ∷ rewritten ps place ws) away)
-        ∙ ap (λ (q : Piece). cond (is_at other p) p q) (piece_at-rewritten_other ps other apart)
-  ]
+  piece_at-rewritten_other (p ∷ ps) other apart = grind (arith, nat_tests, common_steps, piece_at-rewritten_other ps other apart)
 
 module _ (ps : List Piece) (name : ChunkName) (lives : IsTrue (is_live ps name)) (ws : List ℕ) where
   abbrev old : List ℕ
   old = (piece_at ps (place_of name)).bytes
 
   pub rewritten-lives : IsTrue (is_live (rewritten ps (place_of name) ws) name)
-  rewritten-lives =
-      name-lives (rewritten ps (place_of name) ws) name (has-rewritten (place_of name) ws ps (place_of name) ∙ name-there ps name lives)
-      (ap (λ (p : Piece). length p.bytes) (piece_at-rewritten (place_of name) ws ps) ∙ sym (length_refill (length old) old ws refl) ∙ name-len ps name lives)
+  rewritten-lives = grind (arith, nat_tests, common_steps, name-lives (rewritten ps (place_of name) ws) name (has-rewritten (place_of name) ws ps (place_of name) ∙ name-there ps name lives), has-rewritten (place_of name) ws ps (place_of name), piece_at-rewritten (place_of name) ws ps)
 
   pub rewritten-holds : length ws ≡ name.len → bytes_of (rewritten ps (place_of name) ws) name ≡ ws
-  rewritten-holds long =
-      ap (λ (p : Piece). p.bytes) (piece_at-rewritten (place_of name) ws ps) ∙ ap (λ (n : ℕ). refill n old ws) (name-len ps name lives ∙ sym long)
-      ∙ take-append_seam ws (drop (length ws) old)
+  rewritten-holds long = grind (arith, nat_tests, common_steps, piece_at-rewritten (place_of name) ws ps)
 
   pub rewritten-keeps : KeepsOthers ps (rewritten ps (place_of name) ws) name name
   rewritten-keeps = λ other apart there.

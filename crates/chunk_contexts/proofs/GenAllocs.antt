@@ -1,21 +1,11 @@
 -- A `Generation` after a request was served, or refused.
 use Rattle.std.proofs.Common.{◌≡◌, ℕ, ◌+◌, ◌-◌, ◌<◌, ◌≤◌, Bool, false, List, Option, None, Result, Ok, Err, length, get_or, set, sym, ap, ◌∙◌, subst, arith}
-use Rattle.std.specs.Prelude.{is_some, nat_le, IsTrue, IsErrAnd, IfErr}
-use Rattle.std.proofs.lemmas.Bool.{leb-true}
-use Rattle.chunk_layout.specs.Every.{Every}
-use Rattle.chunk_layout.specs.Pieces.{Piece}
-use Rattle.chunk_layout.specs.declared.place.ChunkName.{ChunkName}
-use Rattle.chunk_contexts.specs.declared.error.ContextError.{ContextError}
-use Rattle.chunk_contexts.specs.declared.error.ContextError.TheVariants.{NoMemory}
+use Rattle.chunk_contexts.proofs.Words.{is_some, nat_le, IsErrAnd, IfErr, Piece, ChunkName, ContextError, NoMemory, Adds, IsRefused, chunk_of, rounded, over_most, BLOCK}
+use Rattle.chunk_contexts.proofs.Laws.{leb-true, nat_tests, common_steps}
 use Rattle.chunk_contexts.specs.declared.runs.Runs.{Runs}
-use Rattle.chunk_contexts.specs.Chunks.{Adds, IsRefused, chunk_of}
-use Rattle.chunk_contexts.specs.Rooms.{rounded, over_most}
 use Rattle.chunk_contexts.specs.Run.{run_of, run_growth, run_growth_by, run_taken, RunState, IsBlockOf, IsRun}
 use Rattle.chunk_contexts.specs.Generation.{IsCounted}
 use Rattle.chunk_contexts.proofs.GenLaws.{made-low, counted-made}
-use Rattle.chunk_contexts.specs.declared.rooms.TheConstants.{BLOCK}
-use Rattle.std.proofs.lemmas.Bool.Decides.{nat_tests}
-use Rattle.std.proofs.lemmas.Grind.{common_steps}
 
 module _ (r t : Runs) (cs ds : List ℕ) (is : IsCounted r cs) (run : IsRun 8 t) (n : ℕ) (bytes : List ℕ) (name : ChunkName) (admitted : over_most n ≡ None) (space : run_of t ≡ run_taken 8 (run_of r) (chunk_of name (rounded n) bytes))
     (added : Adds r.layout.pieces t.layout.pieces name (rounded n) bytes) (block : IsBlockOf (run_of r) (run_growth 8 (run_of r) n) name.block)
@@ -43,10 +33,6 @@ module _ (r t : Runs) (cs ds : List ℕ) (is : IsCounted r cs) (run : IsRun 8 t)
   pub made-counted : IsCounted t (set ds name.block (get_or ds name.block 0 + 1))
   made-counted = counted-made r t cs ds is run p a b (8 + rounded n) some space added.fresh (λ _ fits. leb-true (8 + rounded n) (r.active.size - r.active.used) fits) (λ small. leb-true (8 + rounded n) BLOCK small)
       (λ none. block.0 (grows ∙ none)) (λ more. block.1 (subst (λ (g : ℕ). 0 < g) (sym grows) more)) same longer (λ more. enough (subst (λ (g : ℕ). 0 < g) (sym grows) more))
-
--- the block of a chunk that was made is there
-pub made-block : (width : ℕ) (t : Runs) (before : List Piece) (name : ChunkName) (room : ℕ) (bytes : List ℕ) → IsRun width t → Adds before t.layout.pieces name room bytes → IsTrue (is_some (get_or t.layout.blocks name.block None))
-made-block width t before name room bytes run added = (subst (Every (λ (p : Piece). IsTrue (is_some (get_or t.layout.blocks p.place.block None)))) added.chunks run.there).0
 
 -- room for more counts changes none
 pub counted-longer : (r : Runs) (cs ds : List ℕ) → IsCounted r cs → ((block : ℕ) → get_or ds block 0 ≡ get_or cs block 0) → length cs ≤ length ds → IsCounted r ds

@@ -1,3 +1,5 @@
+pub mod Words
+pub mod Laws
 pub mod ClassLaws
 pub mod FreeLaws
 pub mod LinkLaws

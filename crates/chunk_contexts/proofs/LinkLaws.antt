@@ -1,24 +1,12 @@
 -- What the free lists of a layout are after a chunk is made, written, freed or taken again, whatever the lists go by.
-use Rattle.std.proofs.Common.{◌≡◌, ◌≢◌, ℕ, inl, inr, Bool, true, false, not, List, [], ◌∷◌, ◌++◌, Some, take, sym, ap, ◌∙◌, subst}
-use Rattle.std.specs.Prelude.{◌==◌, ◌&&◌}
-use Rattle.std.proofs.lemmas.Bool.{cond-true, cond-false, true≢false, eq-eqb, ne_eqb, cases_Bool}
-use Rattle.chunk_layout.specs.Every.{Every}
-use Rattle.chunk_layout.specs.Pieces.{Layout, Piece, is_at, has, piece_at, no_piece, without, put_at, with_piece}
-use Rattle.chunk_layout.specs.declared.place.Place.{Place}
-use Rattle.chunk_layout.specs.ListLaws.{every_filter, pairwise_filter, first_has, first_passes}
-use Rattle.chunk_layout.specs.FindingLaws.{same-place}
-use Rattle.chunk_layout.specs.PieceLaws.{without-none, has_not-without}
-use Rattle.chunk_contexts.specs.Chunks.{live}
-use Rattle.chunk_contexts.specs.Free.{is_free, first_free, Linked, Elsewhere, AreLinked}
-use Rattle.chunk_layout.specs.Links.{link_bytes, IsLinkable, IsLink}
+use Rattle.std.proofs.Common.{◌≡◌, ◌≢◌, ℕ, true, false, List, [], ◌∷◌, ◌++◌, Some, take, sym, ap, ◌∙◌, subst, arith}
+use Rattle.chunk_contexts.proofs.Words.{◌==◌, Every, Layout, Piece, is_at, has, piece_at, no_piece, without, put_at, with_piece, Place, live, first_free, Elsewhere, AreLinked, link_bytes, IsLinkable, IsLink}
+use Rattle.chunk_contexts.proofs.Laws.{cond-true, true≢false, eq-eqb, every_filter, pairwise_filter, first_has, first_passes, same-place, without-none, has_not-without, common_steps, nat_tests}
 use Rattle.chunk_contexts.proofs.FreeLaws.{IsLiveAt, live-found, Popped, popped, without-elsewhere, first_free-kept, linked-kept, live-without, live-first, live-none}
 
 pub link-first : (key : Place → ℕ → ℕ) (k : ℕ) (ps : List Piece) → Every (λ (p : Piece). IsLinkable p.place) ps → IsLink (first_free key k ps)
 link-first key k [] every = tt
-link-first key k (p ∷ ps) every = elim (cases_Bool (is_free key k p)) [
-  | inl yes' ↦ subst IsLink (sym (cond-true (is_free key k p) (Some p.place) (first_free key k ps) yes')) every.0
-  | inr no' ↦ subst IsLink (sym (cond-false (is_free key k p) (Some p.place) (first_free key k ps) no')) (link-first key k ps every.1)
-]
+link-first key k (p ∷ ps) every = grind (arith, nat_tests, common_steps, link-first key k ps every.1)
 
 module _ (key : Place → ℕ → ℕ) (l : Layout) (are : AreLinked key l) where
   abbrev ps : List Piece
@@ -49,17 +37,10 @@ module _ (key : Place → ℕ → ℕ) (l : Layout) (are : AreLinked key l) wher
   -- a live chunk is made where none was
   module _ (p : Piece) (lives : p.is_live ≡ true) (none : has ps p.place ≡ false) (links : IsLinkable p.place) where
     pub links-new : AreLinked key (with_piece l p)
-    links-new = record {
-      head = are.head;
-      places = (without-elsewhere p ps, pairwise_filter Elsewhere _ ps are.places);
-      ranges = (links, every_filter _ _ ps are.ranges);
-      linked = (λ dead. absurd (true≢false (sym lives ∙ dead)), subst (Linked key) (sym (without-none ps p.place none)) are.linked);
-    }
+    links-new = grind (arith, nat_tests, common_steps, without-elsewhere p ps, without-none ps p.place none)
 
     pub first-new : (k : ℕ) → first_free key k (with_piece l p).pieces ≡ first_free key k ps
-    first-new k =
-        cond-false (is_free key k p) (Some p.place) (first_free key k (without ps p.place)) (ap (λ (b : Bool). not b && (key p.place p.room == k)) lives)
-        ∙ ap (first_free key k) (without-none ps p.place none)
+    first-new k = grind (arith, nat_tests, common_steps, without-none ps p.place none)
 
     pub live-new : live (with_piece l p).pieces ≡ p ∷ live ps
     live-new = live-first p (without ps p.place) lives ∙ ap (λ (t : List Piece). p ∷ live t) (without-none ps p.place none)
@@ -101,9 +82,7 @@ module _ (key : Place → ℕ → ℕ) (l : Layout) (are : AreLinked key l) wher
     first-freed = cond-true (key place q.room == k) (Some place) (first_free key k (without ps place)) (eq-eqb (key place q.room) k listed)
 
     pub first-freed_other : (other : ℕ) → other ≢ k → first_free key other freed.pieces ≡ first_free key other ps
-    first-freed_other other ne =
-        cond-false (key place q.room == other) (Some place) (first_free key other (without ps place)) (ne_eqb (key place q.room) other (λ e. ne (sym e ∙ listed)))
-        ∙ first_free-kept key other ps place was_live.only
+    first-freed_other other ne = grind (arith, nat_tests, common_steps, first_free-kept key other ps place was_live.only)
 
     pub links-released : AreLinked key freed
     links-released = record {

@@ -1,14 +1,7 @@
 -- What the free lists of the classes are after a chunk is made, written, freed or taken again.
-use Rattle.std.proofs.Common.{◌≡◌, ℕ, ◌<◌, inl, inr, true, false, List, [], ◌∷◌, ◌++◌, Option, Some, None, get_or, set, take, sym, ap, ◌∙◌, arith}
-use Rattle.std.proofs.lemmas.Bool.{cases_eq, cond-true}
-use Rattle.std.proofs.lemmas.List.{get_or-set_same, get_or-set_other, length-set}
-use Rattle.chunk_layout.specs.Pieces.{Layout, Piece, has, piece_at, without, put_at, with_piece}
-use Rattle.chunk_layout.specs.declared.place.Place.{Place}
-use Rattle.chunk_layout.specs.PieceLaws.{without-none}
-use Rattle.chunk_contexts.specs.Chunks.{live}
-use Rattle.chunk_contexts.specs.Rooms.{rooms, room_of, class_of}
-use Rattle.chunk_contexts.specs.Free.{by_room, is_in, minus, free_rooms, first_free, AreLists}
-use Rattle.chunk_layout.specs.Links.{link_bytes, IsLinkable, IsLink}
+use Rattle.std.proofs.Common.{◌≡◌, ℕ, ◌<◌, true, false, List, [], ◌∷◌, ◌++◌, Option, Some, None, get_or, set, take, ap, ◌∙◌, arith}
+use Rattle.chunk_contexts.proofs.Words.{Layout, Piece, has, piece_at, without, put_at, with_piece, Place, live, rooms, room_of, class_of, by_room, is_in, minus, free_rooms, first_free, AreLists, link_bytes, IsLinkable, IsLink}
+use Rattle.chunk_contexts.proofs.Laws.{get_or-set_same, get_or-set_other, length-set, common_steps, nat_tests}
 use Rattle.chunk_contexts.proofs.ClassLaws.{room-inj, class-of_room}
 use Rattle.chunk_contexts.proofs.FreeLaws.{IsLiveAt, Popped, live-found, rooms-popped, free_rooms-kept, live-without}
 use Rattle.chunk_contexts.proofs.LinkLaws as Link
@@ -23,11 +16,7 @@ module _ (l : Layout) (heads : List (Option Place)) (are : AreLists l heads) whe
     p = record { place = place; room = (piece_at ps place).room; is_live = true; bytes = take kept (piece_at ps place).bytes ++ bytes }
 
     pub lists-put : AreLists (put_at l place kept bytes true) heads
-    lists-put = record {
-      links = Link.links-put by_room l are.links place there kept bytes;
-      count = are.count;
-      firsts = λ class low. are.firsts class low ∙ sym (Link.first-put by_room l are.links place there kept bytes (room_of class));
-    }
+    lists-put = grind (arith, nat_tests, Link.links-put by_room l are.links place there kept bytes, Link.first-put by_room l are.links place there kept bytes)
 
     pub live-put : live (put_at l place kept bytes true).pieces ≡ p ∷ without (live ps) place
     live-put = ap (λ (t : List Piece). p ∷ t) (live-without ps place)
@@ -38,17 +27,10 @@ module _ (l : Layout) (heads : List (Option Place)) (are : AreLists l heads) whe
   -- a live chunk is made where none was
   module _ (p : Piece) (lives : p.is_live ≡ true) (none : has ps p.place ≡ false) (links : IsLinkable p.place) where
     pub lists-new : AreLists (with_piece l p) heads
-    lists-new = record {
-      links = Link.links-new by_room l are.links p lives none links;
-      count = are.count;
-      firsts = λ class low. are.firsts class low ∙ sym (Link.first-new by_room l are.links p lives none links (room_of class));
-    }
+    lists-new = grind (arith, nat_tests, common_steps, Link.links-new by_room l are.links p lives none links, Link.first-new by_room l are.links p lives none links)
 
     pub live-new : live (with_piece l p).pieces ≡ p ∷ live ps
     live-new = Link.live-new by_room l are.links p lives none links
-
-    pub rooms-new : free_rooms (with_piece l p).pieces ≡ free_rooms ps
-    rooms-new = cond-true p.is_live (free_rooms (without ps p.place)) (p.room ∷ free_rooms (without ps p.place)) lives ∙ ap free_rooms (without-none ps p.place none)
 
   -- the first free chunk of a class is taken
   module _ (class : ℕ) (place : Place) (low : class < 11) (first : first_free by_room (room_of class) ps ≡ Some place) where
@@ -60,14 +42,7 @@ module _ (l : Layout) (heads : List (Option Place)) (are : AreLists l heads) whe
 
     module _ (next : Option Place) (is : next ≡ first_free by_room (room_of class) (without ps place)) where
       pub lists-reused : AreLists (put_at l place 0 [] true) (set heads class next)
-      lists-reused = record {
-        links = Link.links-reused by_room l are.links (room_of class) place first;
-        count = length-set heads class next ∙ are.count;
-        firsts = λ other lower. elim (cases_eq other class) [
-          | inl same ↦ ap (λ (k : ℕ). get_or (set heads class next) k None) same ∙ get_or-set_same heads class next None (omega (arith, are.count, low)) ∙ is ∙ ap (λ (k : ℕ). first_free by_room (room_of k) (without ps place)) (sym same)
-          | inr ne ↦ get_or-set_other heads class other next None ne ∙ are.firsts other lower ∙ sym (was.others (room_of other) (λ e. ne (room-inj other class lower low e)))
-        ];
-      }
+      lists-reused = grind (arith, nat_tests, Link.links-reused by_room l are.links (room_of class) place first, length-set heads class next, get_or-set_same heads class next None, get_or-set_other heads class, was.others, room-inj, are.firsts)
 
     pub live-reused : live (put_at l place 0 [] true).pieces ≡ (record { place = place; room = room_of class; is_live = true; bytes = [] }) ∷ live ps
     live-reused = λ i. (record { place = place; room = was.listed i; is_live = true; bytes = [] }) ∷ was.lives i
@@ -96,21 +71,10 @@ module _ (l : Layout) (heads : List (Option Place)) (are : AreLists l heads) whe
     freed = put_at l place 0 (link_bytes (first_free by_room room ps)) false
 
     firsts-freed : (other : ℕ) → other < 11 → get_or (set heads class (Some place)) other None ≡ first_free by_room (room_of other) freed.pieces
-    firsts-freed other lower = elim (cases_eq other class) [
-      | inl same ↦
-          ap (λ (k : ℕ). get_or (set heads class (Some place)) k None) same ∙ get_or-set_same heads class (Some place) None (omega (arith, are.count, class-low))
-          ∙ sym (Link.first-freed by_room l are.links place there room size) ∙ ap (λ (r : ℕ). first_free by_room r freed.pieces) (sym class-room ∙ ap room_of (sym same))
-      | inr ne ↦
-          get_or-set_other heads class other (Some place) None ne ∙ are.firsts other lower
-          ∙ sym (Link.first-freed_other by_room l are.links place there room size (room_of other) (λ e. ne (room-inj other class lower class-low (e ∙ sym class-room))))
-    ]
+    firsts-freed other lower = grind (arith, nat_tests, common_steps, class-room, Link.first-freed_other by_room l are.links place there room size (room_of other), room-inj other class lower class-low)
 
     pub lists-released : AreLists freed (set heads class (Some place))
-    lists-released = record {
-      links = Link.links-released by_room l are.links place there room size;
-      count = length-set heads class (Some place) ∙ are.count;
-      firsts = firsts-freed;
-    }
+    lists-released = grind (arith, nat_tests, common_steps, Link.links-released by_room l are.links place there room size, firsts-freed)
 
     pub live-released : live freed.pieces ≡ without (live ps) place
     live-released = live-without ps place

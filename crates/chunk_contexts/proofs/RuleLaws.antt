@@ -1,18 +1,12 @@
 -- What an `AllocSet` computes is what its rules say.
-use Rattle.std.proofs.Common.{◌≡◌, ℕ, zero, suc, ◌+◌, ◌-◌, ◌*◌, ◌^◌, ◌<◌, ◌≤◌, inl, inr, Bool, true, false, List, [], ◌∷◌, ◌++◌, get_or, cond, refl, sym, ap, ◌∙◌, subst, arith, append_assoc}
-use Rattle.std.specs.Prelude.{◌||◌, min, nat_le, is_some, reverse}
-use Rattle.std.proofs.lemmas.Bool.{agree_below, agree_below_at, leb-true, leb-false, cases_lt, cases_Bool, or_cases, cond-true, cond-false, le-leb}
-use Rattle.std.proofs.lemmas.List.{reverse-append}
-use Rattle.chunk_layout.specs.Pieces.{Piece}
-use Rattle.chunk_contexts.specs.Rooms.{rooms, rooms_down, over_most, class_of, room_of}
-use Rattle.chunk_contexts.specs.Free.{is_in}
-use Rattle.chunk_contexts.specs.Set.{SetState, cut_up, block_size, set_growth, growth_by, set_room, set_taken, taken_by}
+use Rattle.std.proofs.Common.{◌≡◌, ℕ, ◌+◌, ◌-◌, ◌*◌, ◌<◌, ◌≤◌, inl, inr, Bool, true, false, List, [], ◌∷◌, ◌++◌, get_or, cond, refl, sym, ap, ◌∙◌, subst, arith, append_assoc}
+use Rattle.chunk_contexts.proofs.Words.{◌||◌, nat_le, reverse, Piece, class_of, is_in, LARGEST}
+use Rattle.chunk_contexts.proofs.Laws.{agree_below, agree_below_at, leb-true, leb-false, cases_Bool, le-leb, reverse-append, nat_tests, common_steps}
+use Rattle.chunk_contexts.specs.Rooms.{rooms, rooms_down, room_of}
+use Rattle.chunk_contexts.specs.Set.{SetState, cut_up, block_size, set_growth, set_room, set_taken, taken_by}
 use Rattle.chunk_contexts.specs.SetRules.{IsCutUp, IsDoubled}
 use Rattle.chunk_contexts.proofs.ClassLaws.{in-at, in-some}
 use Rattle.chunk_contexts.proofs.Growth.{room-classed}
-use Rattle.chunk_contexts.specs.declared.rooms.TheConstants.{LARGEST}
-use Rattle.std.proofs.lemmas.Bool.Decides.{nat_tests}
-use Rattle.std.proofs.lemmas.Grind.{common_steps}
 
 -- no class lies between this room and its double
 abbrev IsStep : ℕ → Type 0
@@ -24,12 +18,7 @@ is_apart room i = nat_le (get_or rooms i 0) room || nat_le (2 * room) (get_or ro
 
 step : (room : ℕ) → agree_below (is_apart room) (λ _. true) 11 ≡ true → IsStep room
 unfolding rooms
-step room tested other is less =
-    let at = in-at other rooms is in
-    elim (or_cases (nat_le (get_or rooms at.0 0) room) (nat_le (2 * room) (get_or rooms at.0 0)) (agree_below_at (is_apart room) (λ _. true) 11 at.0 tested at.1)) [
-      | inl low ↦ omega (arith, leb-true (get_or rooms at.0 0) room low, at.2)
-      | inr high ↦ absurd (omega (arith, leb-true (2 * room) (get_or rooms at.0 0) high, at.2, less))
-    ]
+step room tested other is less = grind (arith, nat_tests, common_steps, in-at other rooms is, agree_below_at (is_apart room) (λ _. true) 11, leb-true, leb-true (2 * room))
 
 -- these classes halve the room above them, down to the smallest one
 abbrev Halves : ℕ → List ℕ → Type 0
@@ -72,18 +61,9 @@ room-top : (class : ℕ) → room_of class ≤ 8192
 unfolding room_of rooms
 room-top class = grind (arith, nat_tests, common_steps)
 
-grows : (over free fits : Bool) (s : SetState) (room : ℕ) → 0 < growth_by over true free fits s room → (free ≡ false) × (fits ≡ false) × (growth_by over true free fits s room ≡ block_size s.next room)
-grows true free fits s room some = absurd (omega (arith, some))
-grows false true fits s room some = absurd (omega (arith, some))
-grows false false true s room some = absurd (omega (arith, some))
-grows false false false s room some = (refl, refl, refl)
-
 module _ (s : SetState) (n : ℕ) (small : n ≤ LARGEST) (some : 0 < set_growth s n) where
   classed : nat_le n LARGEST ≡ true
   classed = le-leb n LARGEST small
-
-  by-class : set_growth s n ≡ growth_by (is_some (over_most n)) true (is_in (set_room n) s.free) (nat_le (set_room n + 8) s.left) s (set_room n)
-  by-class = λ i. growth_by (is_some (over_most n)) (classed i) (is_in (set_room n) s.free) (nat_le (set_room n + 8) s.left) s (set_room n)
 
   new-block : (is_in (set_room n) s.free ≡ false) × (nat_le (set_room n + 8) s.left ≡ false) × (set_growth s n ≡ block_size s.next (set_room n))
   new-block = grind (arith, nat_tests, common_steps)
@@ -98,39 +78,8 @@ module _ (s : SetState) (n : ℕ) (small : n ≤ LARGEST) (some : 0 < set_growth
       let after : (set_taken s n p).free ≡ cut_up rooms_down s.left s.free = λ i. (taken_by (classed i) (none i) (full i) s p).free in
       subst (IsCutUp s.left s.free) (sym after) (cut-rule rooms_down 16384 s.left s.free down-halves (omega (arith, leb-false (set_room n + 8) s.left new-block.1, room-small)))
 
-  pub rest-by_rule : (p : Piece) → p.room ≡ set_room n → (set_taken s n p).left ≡ set_growth s n - (set_room n + 8)
-  rest-by_rule p room = grind (arith, nat_tests, common_steps)
-
-  pub doubles-by_rule : (p : Piece) → p.room ≡ set_room n → (set_taken s n p).next ≡ min (2 * s.next) 1048576
-  doubles-by_rule p room = grind (arith, nat_tests, common_steps)
-
   pub size-by_rule : 8192 ≤ s.next → IsDoubled s.next (set_room n + 8) (set_growth s n)
-  size-by_rule least = elim (cases_Bool (nat_le (set_room n + 8) s.next)) [
-    | inl fits ↦
-        record {
-          times = 0;
-          doubled = new-block.2 ∙ cond-true _ s.next (2 * s.next) fits ∙ (omega arith);
-          holds = omega (arith, new-block.2, cond-true _ s.next (2 * s.next) fits, leb-true (set_room n + 8) s.next fits);
-          least = λ fewer less. absurd (omega (arith, less));
-        }
-    | inr over ↦
-        record {
-          times = 1;
-          doubled = new-block.2 ∙ cond-false _ s.next (2 * s.next) over ∙ (omega arith);
-          holds = omega (arith, new-block.2, cond-false _ s.next (2 * s.next) over, least, room-small);
-          least = not_before (leb-false (set_room n + 8) s.next over);
-        }
-  ]
-    where
-      not_before : s.next < set_room n + 8 → (fewer : ℕ) → fewer < 1 → s.next * 2 ^ fewer < set_room n + 8
-      not_before less zero low = omega (arith, less)
-      not_before less (suc fewer) low = absurd (omega (arith, low))
+  size-by_rule least = grind (arith, nat_tests, common_steps, room-small)
 
 pub size-most : (s : SetState) (n : ℕ) → n ≤ LARGEST → s.next ≤ 1048576 → set_growth s n ≤ 1048576
-size-most s n small most = elim (cases_lt 0 (set_growth s n)) [
-  | inl some ↦ elim (cases_Bool (nat_le (set_room n + 8) s.next)) [
-    | inl fits ↦ omega (arith, (new-block s n small some).2, cond-true _ s.next (2 * s.next) fits, most)
-    | inr over ↦ omega (arith, (new-block s n small some).2, cond-false _ s.next (2 * s.next) over, leb-false (set_room n + 8) s.next over, room-small s n small some)
-  ]
-  | inr none ↦ omega (arith, none)
-]
+size-most s n small most = grind (arith, nat_tests, common_steps, room-small s n small)

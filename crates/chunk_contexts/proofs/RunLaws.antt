@@ -1,12 +1,7 @@
 -- Blocks that are taken for chunks which lie one after the other.
 use Rattle.std.proofs.Common.{◌≡◌, ◌≢◌, ℕ, ◌+◌, ◌<◌, ◌≤◌, inl, true, false, List, [], ◌∷◌, Option, None, length, get_or, sym, ap, ◌∙◌, subst, arith}
-use Rattle.std.specs.Prelude.{IsTrue, is_some, unwrap_or}
-use Rattle.chunk_layout.specs.Every.{Every}
-use Rattle.chunk_layout.specs.Pieces.{Layout, Piece, has, with_piece, with_block, size_at, total, IsClear}
-use Rattle.chunk_layout.specs.declared.place.Place.{Place}
-use Rattle.chunk_layout.specs.ListLaws.{every_weaker}
-use Rattle.chunk_layout.specs.NumberLaws.{with_block-here, total-with_block}
-use Rattle.chunk_layout.specs.PieceLaws.{without-none}
+use Rattle.chunk_contexts.proofs.Words.{IsTrue, is_some, unwrap_or, Every, Layout, Piece, has, with_piece, with_block, size_at, total, IsClear, Place}
+use Rattle.chunk_contexts.proofs.Laws.{every_weaker, with_block-here, total-with_block, without-none}
 use Rattle.chunk_contexts.specs.declared.runs.Runs.{Runs}
 use Rattle.chunk_contexts.specs.Run.{IsRun}
 use Rattle.chunk_contexts.proofs.CutLaws.{none-at}

@@ -1,18 +1,9 @@
 -- Chunks that lie one after the other are written.
-use Rattle.std.proofs.Common.{◌≡◌, ℕ, ◌+◌, ◌<◌, ◌≤◌, inl, inr, Bool, true, false, List, [], ◌∷◌, ◌++◌, None, get_or, take, refl, sym, ap, ◌∙◌, subst, arith}
-use Rattle.std.specs.Prelude.{IsTrue, is_some}
-use Rattle.std.proofs.lemmas.Bool.{cases_Bool, cond-true, cond-false}
-use Rattle.chunk_layout.specs.Every.{Every}
-use Rattle.chunk_layout.specs.Pieces.{Layout, Piece, is_at, has, piece_at, no_piece, without, put_at, rewritten, with_bytes_of}
-use Rattle.chunk_layout.specs.Lends.{layout_with}
-use Rattle.chunk_layout.specs.declared.place.Place.{Place}
-use Rattle.chunk_layout.specs.ListLaws.{every_filter, first_has, first_passes}
-use Rattle.chunk_layout.specs.FindingLaws.{same-place, place-same}
-use Rattle.chunk_layout.specs.PieceLaws.{has-first, piece_at-first, without-first, without-none}
+use Rattle.std.proofs.Common.{◌≡◌, ℕ, Bool, true, false, List, [], ◌∷◌, ◌++◌, take, refl, sym, ap, ◌∙◌, subst, arith}
+use Rattle.chunk_contexts.proofs.Words.{Every, Layout, Piece, is_at, has, piece_at, no_piece, without, put_at, rewritten, layout_with, Place}
+use Rattle.chunk_contexts.proofs.Laws.{every_filter, first_has, first_passes, same-place, place-same, has-first, piece_at-first, without-first, without-none, nat_tests, common_steps}
 use Rattle.chunk_contexts.specs.declared.runs.Runs.{Runs}
 use Rattle.chunk_contexts.specs.Run.{RunState, run_of, run_taken, run_taken_by, run_put, run_wrote, IsRun}
-use Rattle.std.proofs.lemmas.Bool.Decides.{nat_tests}
-use Rattle.std.proofs.lemmas.Grind.{common_steps}
 
 -- what holds of a chunk by its place and room
 pub every-put : (P : Piece → Type 0) → ((p q : Piece) → p.place ≡ q.place → p.room ≡ q.room → P p → P q) → (ps : List Piece) (place : Place) → has ps place ≡ true → (q : Piece) → place ≡ q.place → (piece_at ps place).room ≡ q.room
@@ -23,21 +14,9 @@ every-put P by ps place there q at room every =
 
 pub every-rewritten : (P : Piece → Type 0) → ((p q : Piece) → p.place ≡ q.place → p.room ≡ q.room → P p → P q) → (ps : List Piece) (place : Place) (ws : List ℕ) → Every P ps → Every P (rewritten ps place ws)
 every-rewritten P by [] place ws every = tt
-every-rewritten P by (p ∷ ps) place ws every = elim (cases_Bool (is_at place p)) [
-  | inl here ↦ subst (Every P) (sym (cond-true (is_at place p) (with_bytes_of p ws ∷ ps) (p ∷ rewritten ps place ws) here)) (by p (with_bytes_of p ws) refl refl every.0, every.1)
-  | inr away ↦ subst (Every P) (sym (cond-false (is_at place p) (with_bytes_of p ws ∷ ps) (p ∷ rewritten ps place ws) away)) (every.0, every-rewritten P by ps place ws every.1)
-]
+every-rewritten P by (p ∷ ps) place ws every = grind (arith, nat_tests, common_steps, every-rewritten P by ps place ws every.1)
 
 module _ (head : ℕ) (r : Runs) (is : IsRun head r) where
-  clear-by : (p q : Piece) → p.place ≡ q.place → p.room ≡ q.room → (0 < r.active.size → p.place.block ≡ r.active.block → p.place.offset + p.room ≤ r.active.used) → 0 < r.active.size → q.place.block ≡ r.active.block → q.place.offset + q.room ≤ r.active.used
-  clear-by p q at room h some e = let o = ap (λ (x : Place). x.offset) at in omega (arith, h some (ap (λ (x : Place). x.block) at ∙ e), room, o)
-
-  rooms-by : (p q : Piece) → p.place ≡ q.place → p.room ≡ q.room → 1 ≤ p.room → 1 ≤ q.room
-  rooms-by p q at room h = omega (arith, room, h)
-
-  there-by : (p q : Piece) → p.place ≡ q.place → p.room ≡ q.room → IsTrue (is_some (get_or r.layout.blocks p.place.block None)) → IsTrue (is_some (get_or r.layout.blocks q.place.block None))
-  there-by p q at room h = subst (λ (x : Place). IsTrue (is_some (get_or r.layout.blocks x.block None))) at h
-
   -- pieces with the same places and rooms
   with-pieces : (ps : List Piece) → ((P : Piece → Type 0) → ((p q : Piece) → p.place ≡ q.place → p.room ≡ q.room → P p → P q) → Every P r.layout.pieces → Every P ps)
       → IsRun head (record { layout = record { head = r.layout.head; blocks = r.layout.blocks; pieces = ps }; active = r.active })
@@ -61,13 +40,8 @@ module _ (r : Runs) (s : RunState) (view : run_of r ≡ s) (place at : Place) (i
   run-wrote w = ap (λ (p : Place). run_wrote (run_of r) p w) is ∙ ap (λ (z : RunState). run_wrote z place w) view
 
 -- ---- a request is served, and other bytes are written to its chunk
-chunks-by : (a b : Bool) (size : ℕ) (s : RunState) (p : Piece) → (run_taken_by a b size s p).chunks ≡ p ∷ s.chunks
-chunks-by false b size s p = refl
-chunks-by true true size s p = refl
-chunks-by true false size s p = refl
-
 pub run-chunks : (head : ℕ) (s : RunState) (p : Piece) → (run_taken head s p).chunks ≡ p ∷ s.chunks
-run-chunks head s p = chunks-by _ _ _ s p
+run-chunks head s p = grind (arith, nat_tests, common_steps)
 
 other-bytes : (a b : Bool) (size : ℕ) (s : RunState) (place : Place) (room : ℕ) (xs ys : List ℕ)
     → let t = run_taken_by a b size s (record { place = place; room = room; is_live = true; bytes = xs }) in

@@ -1,29 +1,14 @@
 -- What holds of the fields of an `AllocSet` after its chunks and blocks changed.
 use Rattle.std.proofs.Common.{◌≡◌, ◌≢◌, ℕ, ◌+◌, ◌<◌, ◌≤◌, ◌⊎◌, inl, inr, Bool, true, false, not, List, [], ◌∷◌, ◌++◌, Option, Some, None, length, get_or, set, take, cond, refl, sym, ap, ◌∙◌, subst, arith}
-use Rattle.std.specs.Prelude.{IsTrue, is_some, unwrap_or, ◌==◌}
+use Rattle.chunk_contexts.proofs.Words.{IsTrue, is_some, unwrap_or, ◌==◌, Every, Pairwise, Layout, Piece, is_at, has, piece_at, no_piece, without, outside, put_at, with_block, size_at, Place, Active, rooms, rooms_down, room_of, by_room, is_in, first_free, Linked, Elsewhere, AreLists, IsRest, cut_pieces, IsLinkable, LARGEST}
+use Rattle.chunk_contexts.proofs.Laws.{false≢true, eq-eqb, ne_eqb, not-true, get_or-set_other, every_passes, every_filter, every_weaker, every_both, pairwise_filter, first_has, first_passes, same-place, with_block-here, with_block-other, without-none, nat_tests, common_steps}
 use Rattle.std.specs.List.{filter}
-use Rattle.std.proofs.lemmas.Bool.{cases_lt, cases_Bool, false≢true, eq-eqb, ne_eqb, not-true}
-use Rattle.std.proofs.lemmas.List.{get_or-set_other}
-use Rattle.chunk_layout.specs.Every.{Every, Pairwise}
-use Rattle.chunk_layout.specs.Pieces.{Layout, Piece, is_at, has, piece_at, no_piece, without, outside, put_at, with_block, size_at}
-use Rattle.chunk_layout.specs.declared.place.Place.{Place}
-use Rattle.chunk_layout.specs.ListLaws.{every_passes, every_filter, every_weaker, every_both, pairwise_filter, first_has, first_passes}
-use Rattle.chunk_layout.specs.FindingLaws.{same-place}
-use Rattle.chunk_layout.specs.NumberLaws.{with_block-here, with_block-other}
-use Rattle.chunk_layout.specs.PieceLaws.{without-none, without-first, without-later}
-use Rattle.chunk_contexts.specs.declared.active.Active.{Active}
-use Rattle.chunk_contexts.specs.Rooms.{rooms, rooms_down, room_of}
-use Rattle.chunk_contexts.specs.Free.{by_room, is_in, first_free, Linked, Elsewhere, AreLists, IsRest, cut_pieces}
-use Rattle.chunk_layout.specs.Links.{IsLinkable}
 use Rattle.chunk_contexts.specs.Set.{or_first}
 use Rattle.chunk_contexts.specs.SetFields.{IsSet, IsSetPiece, Alone}
 use Rattle.chunk_contexts.proofs.ClassLaws.{in-small, in-some}
 use Rattle.chunk_contexts.proofs.FreeLaws.{IsLiveAt, pairwise-found, linked-kept, first_free-kept}
 use Rattle.chunk_contexts.proofs.ListLaws.{lists-new}
 use Rattle.chunk_contexts.proofs.CutLaws.{rest-none, none-at, cut-every, cut-alone, down-known}
-use Rattle.chunk_contexts.specs.declared.rooms.TheConstants.{LARGEST}
-use Rattle.std.proofs.lemmas.Bool.Decides.{nat_tests}
-use Rattle.std.proofs.lemmas.Grind.{common_steps}
 
 pub some-block : (blocks : List (Option ℕ)) (b : ℕ) → 0 < size_at blocks b → IsTrue (is_some (get_or blocks b None))
 some-block blocks b big = grind (arith, nat_tests, common_steps)
@@ -41,10 +26,7 @@ alone-sym p q a h e = a (elim h [ inl x ↦ inr x | inr y ↦ inl y ]) (sym e)
 -- what holds of the chunk at a place and of all others holds of all
 pub every-join : (P : Piece → Type 0) (place : Place) (ps : List Piece) → Every (λ (p : Piece). is_at place p ≡ true → P p) ps → Every P (without ps place) → Every P ps
 every-join P place [] at others = tt
-every-join P place (p ∷ ps) at others = elim (cases_Bool (is_at place p)) [
-  | inl here ↦ (at.0 here, every-join P place ps at.1 (subst (Every P) (without-first p ps place here) others))
-  | inr there ↦ let rest = subst (Every P) (without-later p ps place there) others in (rest.0, every-join P place ps at.1 rest.1)
-]
+every-join P place (p ∷ ps) at others = grind (arith, nat_tests, common_steps, every-join P place ps at.1)
 
 pub every-always : {X : Type 0} (P : X → Type 0) → ((x : X) → P x) → (xs : List X) → Every P xs
 every-always P h [] = tt
@@ -60,20 +42,13 @@ module _ (l : Layout) (heads : List (Option Place)) (active : Active) (first : O
   ps = l.pieces
 
   one-room : (p : Piece) → IsSetPiece l.blocks active first p → 1 ≤ p.room
-  one-room p g = elim (cases_lt LARGEST p.room) [
-    | inl large ↦ omega (arith, large)
-    | inr small ↦ omega (arith, in-some p.room (g.small small))
-  ]
+  one-room p g = grind (arith, nat_tests, common_steps, in-some p.room)
 
   pub set-rest : IsRest l active
-  set-rest = record {
-    size = is.size;
-    used = is.used;
-    bound = is.bound;
-    block = is.block;
-    clear = every_weaker (IsSetPiece l.blocks active first) (λ (p : Piece). 0 < active.size → p.place.block ≡ active.block → p.place.offset + p.room ≤ active.used) (λ p g. g.used) ps is.good;
-    rooms = every_weaker (IsSetPiece l.blocks active first) (λ (p : Piece). 1 ≤ p.room) one-room ps is.good;
-  }
+  set-rest =
+      let rooms : Every (λ (p : Piece). 1 ≤ p.room) ps = every_weaker (IsSetPiece l.blocks active first) (λ (p : Piece). 1 ≤ p.room) one-room ps is.good in
+      let clear : Every (λ (p : Piece). 0 < active.size → p.place.block ≡ active.block → p.place.offset + p.room ≤ active.used) ps = every_weaker (IsSetPiece l.blocks active first) _ (λ p g. g.used) ps is.good in
+      assumption (rooms, clear)
 
   -- ---- a chunk is cut from the block in use
   module _ (room : ℕ) (known : is_in room rooms ≡ true) (fits : active.used + 8 + room ≤ active.size) where
@@ -96,29 +71,11 @@ module _ (l : Layout) (heads : List (Option Place)) (active : Active) (first : O
     links = record { block = is.block; some = omega arith; offset = omega (arith, fits, is.bound) }
 
     pub set-carved : IsSet carved heads more first
-    set-carved = record {
-      lists = subst (λ (z : Layout). AreLists z heads) (λ i. record { head = is.lists.links.head i; blocks = l.blocks; pieces = p ∷ without-none ps p.place fresh i }) (lists-new l heads is.lists p refl fresh links);
-      alone = (every_weaker (IsSetPiece l.blocks active first) (Alone p) alone-new ps is.good, is.alone);
-      good = (
-        record {
-          there = some-block l.blocks active.block (omega (arith, is.size not_empty, not_empty));
-          used = λ _ _. omega arith;
-          small = λ _. known;
-          large = λ big. absurd (omega (arith, big, in-small room known));
-        },
-        every_weaker (IsSetPiece l.blocks active first) (IsSetPiece l.blocks more first)
-            (λ q g. record { there = g.there; used = λ some same. omega (arith, g.used some same); small = g.small; large = g.large }) ps is.good,
-      );
-      size = is.size;
-      used = fits;
-      bound = is.bound;
-      block = is.block;
-      start = is.start;
-    }
-      where
-        alone-new : (q : Piece) → IsSetPiece l.blocks active first q → Alone p q
-        alone-new q g (inl big) e = absurd (omega (arith, big, in-small room known))
-        alone-new q g (inr big) e = (g.large big).1.0 not_empty (sym e)
+    set-carved =
+        let lists : AreLists carved heads = subst (λ (z : Layout). AreLists z heads) (λ i. record { head = is.lists.links.head i; blocks = l.blocks; pieces = p ∷ without-none ps p.place fresh i }) (lists-new l heads is.lists p refl fresh links) in
+        let alone : Every (Alone p) ps = every_weaker (IsSetPiece l.blocks active first) (Alone p) (λ q g. grind (arith, nat_tests, in-small room known, not_empty)) ps is.good in
+        let good : Every (IsSetPiece l.blocks more first) ps = every_weaker (IsSetPiece l.blocks active first) (IsSetPiece l.blocks more first) (λ q g. grind (arith, nat_tests)) ps is.good in
+        grind (arith, nat_tests, lists, alone, good, some-block l.blocks active.block, not_empty, in-small room known)
 
   -- ---- a chunk is written, freed or taken again
   module _ (place : Place) (there : has ps place ≡ true) where
@@ -138,28 +95,9 @@ module _ (l : Layout) (heads : List (Option Place)) (active : Active) (first : O
         → AreLists (put_at l place kept bytes lives) heads' → IsSet (put_at l place kept bytes lives) heads' active first
     set-put kept bytes lives heads' ok lists =
         let q : Piece = record { place = place; room = t.room; is_live = lives; bytes = take kept t.bytes ++ bytes } in
-        let block : t.place.block ≡ place.block = ap (λ (x : Place). x.block) at in let offset : t.place.offset ≡ place.offset = ap (λ (x : Place). x.offset) at in
-        record {
-          lists = lists;
-          alone = (every_weaker (Alone t) (Alone q) (λ x a h e. a h (block ∙ e)) (without ps place) alone-t, pairwise_filter Alone _ ps is.alone);
-          good = (
-            record {
-              there = subst (λ (b : ℕ). IsTrue (is_some (get_or l.blocks b None))) block good-t.there;
-              used = λ some same. omega (arith, good-t.used some (block ∙ same), offset);
-              small = good-t.small;
-              large = λ big. elim ok [
-                | inl yes' ↦ let h = good-t.large big in (yes', (λ some e. h.1.0 some (block ∙ e), λ e. h.1.1 (e ∙ ap Some (sym block))))
-                | inr small ↦ absurd (omega (arith, big, small))
-              ];
-            },
-            every_filter (IsSetPiece l.blocks active first) _ ps is.good,
-          );
-          size = is.size;
-          used = is.used;
-          bound = is.bound;
-          block = is.block;
-          start = is.start;
-        }
+        let alone : Every (Alone q) (without ps place) = every_weaker (Alone t) (Alone q) (λ x a h e. a h (ap (λ (y : Place). y.block) at ∙ e)) (without ps place) alone-t in
+        let good : IsSetPiece l.blocks active first q = grind (arith, nat_tests, good-t, at) in
+        grind (arith, nat_tests, alone, good, pairwise_filter Alone (λ (p : Piece). not (is_at place p)) ps is.alone, every_filter (IsSetPiece l.blocks active first) (λ (p : Piece). not (is_at place p)) ps is.good)
 
     -- ---- a large chunk's block goes back
     module _ (was : IsLiveAt ps place) (big : LARGEST < t.room) where
@@ -222,14 +160,7 @@ module _ (l : Layout) (heads : List (Option Place)) (active : Active) (first : O
     size-here = ap (λ (o : Option ℕ). unwrap_or o 0) (with_block-here l.blocks b size low)
 
     pub rest-taken : IsRest (record { head = l.head; blocks = blocks'; pieces = ps }) active
-    rest-taken = let r = set-rest in record {
-      size = λ some. is.size some ∙ ap (λ (o : Option ℕ). unwrap_or o 0) (sym (same-others l.blocks b size none low active.block (active-some some)));
-      used = r.used;
-      bound = r.bound;
-      block = r.block;
-      clear = r.clear;
-      rooms = r.rooms;
-    }
+    rest-taken = grind (arith, nat_tests, common_steps, set-rest, same-others l.blocks b size none low active.block)
 
     start-kept : (f : ℕ) → first ≡ Some f → IsTrue (is_some (get_or blocks' f None)) × (size_at blocks' f ≤ 1048576)
     start-kept f e = let h = is.start f e in let other = same-others l.blocks b size none low f h.0 in (subst (λ (o : Option ℕ). IsTrue (is_some o)) (sym other) h.0, subst (λ (o : Option ℕ). unwrap_or o 0 ≤ 1048576) (sym other) h.1)
@@ -249,38 +180,7 @@ module _ (l : Layout) (heads : List (Option Place)) (active : Active) (first : O
       set-dedicated =
           let lists = lists-new l heads is.lists own refl own-fresh (record { block = name; some = omega arith; offset = omega arith }) in
           let rest = without-none ps own.place own-fresh in
-          record {
-            lists = record {
-              links = record {
-                head = refl;
-                places = subst (λ (xs : List Piece). Pairwise Elsewhere (own ∷ xs)) rest lists.links.places;
-                ranges = subst (λ (xs : List Piece). Every (λ (q : Piece). IsLinkable q.place) (own ∷ xs)) rest lists.links.ranges;
-                linked = subst (λ (xs : List Piece). Linked by_room (own ∷ xs)) rest lists.links.linked;
-              };
-              count = lists.count;
-              firsts = λ class less. is.lists.firsts class less;
-            };
-            alone = (every_weaker (λ (q : Piece). q.place.block ≢ b) (Alone own) (λ q ne h e. ne (sym e)) ps elsewhere-all, is.alone);
-            good = (
-              record {
-                there = ap is_some (with_block-here l.blocks b size low);
-                used = λ some e. absurd (not-new l.blocks b none active.block (active-some some) (sym e));
-                small = λ small. absurd (omega (arith, small, big));
-                large = λ _. (refl, (λ some e. not-new l.blocks b none active.block (active-some some) (sym e), λ e. not-new l.blocks b none b (is.start b e).0 refl));
-              },
-              every_weaker (IsSetPiece l.blocks active first) (IsSetPiece blocks' active first) (λ q g. record {
-                there = subst (λ (o : Option ℕ). IsTrue (is_some o)) (sym (same-others l.blocks b size none low q.place.block g.there)) g.there;
-                used = g.used;
-                small = g.small;
-                large = g.large;
-              }) ps is.good,
-            );
-            size = λ some. is.size some ∙ ap (λ (o : Option ℕ). unwrap_or o 0) (sym (same-others l.blocks b size none low active.block (active-some some)));
-            used = is.used;
-            bound = is.bound;
-            block = is.block;
-            start = start-kept;
-          }
+          grind (arith, nat_tests, common_steps, every_weaker (λ (q : Piece). q.place.block ≢ b) (Alone own) (λ q ne h e. ne (sym e)) ps elsewhere-all, elsewhere-all, with_block-here l.blocks b size low, not-new l.blocks b none active.block, active-some, not-new l.blocks b none b, every_weaker (IsSetPiece l.blocks active first) (IsSetPiece blocks' active first), same-others l.blocks b size none low, same-others l.blocks b size none low active.block, start-kept)
 
     -- to be the block in use
     module _ (fits : size ≤ 1048576) (heads' : List (Option Place)) where
@@ -294,19 +194,7 @@ module _ (l : Layout) (heads : List (Option Place)) (active : Active) (first : O
       cut = cut_pieces rooms_down active.block active.used active.size ps
 
       good-next : (q : Piece) → IsTrue (is_some (get_or l.blocks q.place.block None)) → (q.room ≤ LARGEST → IsTrue (is_in q.room rooms)) → (LARGEST < q.room → (q.is_live ≡ true) × (first ≢ Some q.place.block)) → IsSetPiece blocks' next first' q
-      good-next q there small large = record {
-        there = subst (λ (o : Option ℕ). IsTrue (is_some o)) (sym (same-others l.blocks b size none low q.place.block there)) there;
-        used = λ _ e. absurd (not-new l.blocks b none q.place.block there e);
-        small = small;
-        large = λ big. ((large big).0, (λ _. not-new l.blocks b none q.place.block there, not-first first (large big).1));
-      }
-        where
-          not-first : (f : Option ℕ) → f ≢ Some q.place.block → or_first f b ≢ Some q.place.block
-          not-first None ne e = not-new l.blocks b none q.place.block there (some-eq b q.place.block e)
-            where
-              some-eq : (x y : ℕ) → Some x ≡ Some y → y ≡ x
-              some-eq x y same = cc
-          not-first (Some f) ne e = ne e
+      good-next q there small large = grind (arith, nat_tests, common_steps, same-others l.blocks b size none low q.place.block there)
 
       good-cut : Every (IsSetPiece blocks' next first') cut
       good-cut = cut-every (IsSetPiece blocks' next first') active.block active.size

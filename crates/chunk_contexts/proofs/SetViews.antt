@@ -1,28 +1,15 @@
 -- What the state of an `AllocSet` says of its fields at a live chunk, and what it is after they changed.
 use Rattle.std.proofs.Common.{◌≡◌, ℕ, ◌+◌, ◌-◌, ◌<◌, ◌≤◌, inl, inr, true, false, List, ◌∷◌, ◌++◌, Option, None, length, get_or, set, take, refl, sym, ap, ◌∙◌, subst, arith}
-use Rattle.std.specs.Prelude.{IsTrue, is_some, nat_lt}
-use Rattle.std.proofs.lemmas.Bool.{lt-ltb, le-ltb, cond-true, cond-false, cases_lt, false≢true}
-use Rattle.std.proofs.lemmas.List.{get_or_past}
-use Rattle.chunk_layout.specs.Pieces.{Layout, Piece, has, is_at, piece_at, place_of, no_piece, without, outside, put_at, resized, total, with_block}
-use Rattle.chunk_layout.specs.declared.place.Place.{Place}
-use Rattle.chunk_layout.specs.declared.place.ChunkName.{ChunkName}
-use Rattle.chunk_layout.specs.ListLaws.{first_has, first_passes}
-use Rattle.chunk_layout.specs.FindingLaws.{same-place}
-use Rattle.chunk_layout.specs.NumberLaws.{total-with_block}
-use Rattle.chunk_layout.specs.Every.{Every}
-use Rattle.chunk_contexts.specs.Chunks.{live, is_live, bytes_of}
-use Rattle.chunk_contexts.specs.Rooms.{rooms}
-use Rattle.chunk_contexts.specs.Free.{by_room, is_in, free_rooms, first_free, AreLists}
-use Rattle.chunk_layout.specs.Links.{link_bytes}
+use Rattle.chunk_contexts.proofs.Words.{IsTrue, is_some, nat_lt, Layout, Piece, has, is_at, piece_at, place_of, no_piece, without, outside, put_at, resized, total, with_block, Place, ChunkName, Every, live, is_live, bytes_of, rooms, by_room, is_in, free_rooms, first_free, AreLists, link_bytes, LARGEST}
+use Rattle.chunk_contexts.proofs.Laws.{lt-ltb, le-ltb, cond-true, cond-false, first_has, first_passes, same-place, total-with_block, common_steps, nat_tests}
 use Rattle.chunk_contexts.specs.Set.{SetState, set_put, set_freed}
-use Rattle.chunk_contexts.specs.SetFields.{set_of, IsSet, IsSetPiece, AreFields}
+use Rattle.chunk_contexts.specs.SetFields.{set_of, IsSetPiece, AreFields}
 use Rattle.chunk_contexts.specs.declared.free_lists.FreeLists.{FreeLists}
 use Rattle.chunk_contexts.specs.declared.alloc_set.AllocSet.TheInside.{Inside}
 use Rattle.chunk_contexts.proofs.Content.{name-there, name-len}
 use Rattle.chunk_contexts.proofs.FreeLaws.{IsLiveAt, LiveAt, live-found, live-without, free_rooms-kept}
 use Rattle.chunk_contexts.proofs.ListLaws.{lists-put, live-put, rooms-put, live-released, rooms-released}
 use Rattle.chunk_contexts.proofs.SetLaws.{set-put, set-back, outside-is}
-use Rattle.chunk_contexts.specs.declared.rooms.TheConstants.{LARGEST}
 
 module _ (x : Inside) (ok : AreFields x) (s : SetState) (e : set_of x ≡ s) (place : Place) (there : IsTrue (has s.chunks place)) where
   abbrev l : Layout
@@ -43,9 +30,6 @@ module _ (x : Inside) (ok : AreFields x) (s : SetState) (e : set_of x ≡ s) (pl
   pub seen-only : Every (LiveAt place) ps
   seen-only = was.only
 
-  pub seen-live : IsTrue (has (live ps) place)
-  seen-live = here
-
   pub seen : piece_at ps place ≡ piece_at s.chunks place
   seen = was.same ∙ ap (λ (z : SetState). piece_at z.chunks place) e
 
@@ -59,10 +43,7 @@ module _ (x : Inside) (ok : AreFields x) (s : SetState) (e : set_of x ≡ s) (pl
   seen-housed = subst (λ (q : Place). IsTrue (is_some (get_or l.blocks q.block None))) at good.there
 
   pub seen-block : place.block < length l.blocks
-  seen-block = elim (cases_lt place.block (length l.blocks)) [
-    | inl low ↦ low
-    | inr past ↦ absurd (false≢true (ap is_some (sym (get_or_past l.blocks place.block None past)) ∙ seen-housed))
-  ]
+  seen-block = grind (arith, nat_tests, common_steps, seen-housed)
 
   pub seen-known : (room : ℕ) → room ≡ (piece_at ps place).room → room ≤ LARGEST → IsTrue (is_in room rooms)
   seen-known room is low = subst (λ (r : ℕ). IsTrue (is_in r rooms)) (sym is) (good.small (omega (arith, is, low)))
@@ -73,11 +54,7 @@ module _ (x : Inside) (ok : AreFields x) (s : SetState) (e : set_of x ≡ s) (pl
     y = record { lists = record { layout = m; heads = x.lists.heads }; active = x.active; next = x.next; first = x.first }
 
     pub fields-put : AreFields y
-    fields-put = record {
-      set = subst (λ (z : Layout). IsSet z x.lists.heads x.active x.first) (sym is)
-          (set-put l x.lists.heads x.active x.first ok.set place was.there kept bytes true x.lists.heads (inl refl) (lists-put l x.lists.heads ok.set.lists place here kept bytes));
-      next = ok.next;
-    }
+    fields-put = grind (arith, nat_tests, set-put l x.lists.heads x.active x.first ok.set place was.there kept bytes true x.lists.heads (inl refl) (lists-put l x.lists.heads ok.set.lists place here kept bytes))
 
     pub state-put : set_of y ≡ set_put s place (take kept (piece_at s.chunks place).bytes ++ bytes)
     state-put =
@@ -98,11 +75,7 @@ module _ (x : Inside) (ok : AreFields x) (s : SetState) (e : set_of x ≡ s) (pl
   module _ (low : (piece_at ps place).room ≤ LARGEST) (room : ℕ) (size : (piece_at ps place).room ≡ room) (known : is_in room rooms ≡ true)
       (n : FreeLists) (is : n.layout ≡ put_at l place 0 (link_bytes (first_free by_room room ps)) false) (lists : AreLists n.layout n.heads) where
     pub fields-released : AreFields (record { lists = n; active = x.active; next = x.next; first = x.first })
-    fields-released = record {
-      set = subst (λ (z : Layout). IsSet z n.heads x.active x.first) (sym is)
-          (set-put l x.lists.heads x.active x.first ok.set place was.there 0 (link_bytes (first_free by_room room ps)) false n.heads (inr low) (subst (λ (z : Layout). AreLists z n.heads) is lists));
-      next = ok.next;
-    }
+    fields-released = grind (arith, nat_tests, common_steps, set-put l x.lists.heads x.active x.first ok.set place was.there 0 (link_bytes (first_free by_room room ps)) false n.heads (inr low))
 
     pub state-released : set_of (record { lists = n; active = x.active; next = x.next; first = x.first }) ≡ set_freed s place
     state-released =
@@ -121,10 +94,7 @@ module _ (x : Inside) (ok : AreFields x) (s : SetState) (e : set_of x ≡ s) (pl
     w = record { lists = record { layout = m; heads = x.lists.heads }; active = x.active; next = x.next; first = x.first }
 
     pub fields-back : AreFields w
-    fields-back = record {
-      set = subst (λ (z : Layout). IsSet z x.lists.heads x.active x.first) (sym is) (set-back l x.lists.heads x.active x.first ok.set place was.there was big);
-      next = ok.next;
-    }
+    fields-back = grind (arith, nat_tests, common_steps, set-back l x.lists.heads x.active x.first ok.set place was.there was big)
 
     pub state-back : set_of w ≡ set_freed s place
     state-back =

@@ -1,14 +1,10 @@
 -- Whether a block of a slab has a free chunk, by how many chunks and blocks there are.
 use Rattle.std.proofs.Common.{◌≡◌, ◌≢◌, ℕ, suc, ◌+◌, ◌*◌, ◌<◌, ◌≤◌, inl, inr, Bool, true, false, List, [], ◌∷◌, Option, Some, None, length, get_or, refl, sym, ap, ◌∙◌, subst, arith}
-use Rattle.std.specs.Prelude.{IsTrue, is_some, nat_lt, ◌||◌}
-use Rattle.std.proofs.lemmas.Bool.{cases_Bool, cases_eq, cases_lt, lt-ltb, le-ltb, true≢false, false≢true}
-use Rattle.std.proofs.lemmas.List.{get_or_past}
-use Rattle.chunk_layout.specs.Every.{Every}
-use Rattle.chunk_layout.specs.Pieces.{Piece}
-use Rattle.chunk_layout.specs.ListLaws.{every_weaker}
+use Rattle.chunk_contexts.proofs.Words.{IsTrue, is_some, nat_lt, ◌||◌, Every, Piece}
+use Rattle.chunk_contexts.proofs.Laws.{cases_Bool, cases_lt, lt-ltb, le-ltb, true≢false, false≢true, every_weaker, common_steps, nat_tests}
 use Rattle.chunk_contexts.specs.Generation.{in_block}
 use Rattle.chunk_contexts.specs.Slab.{spare_from, block_count}
-use Rattle.chunk_contexts.proofs.GenLaws.{in-none, in-here, in-other}
+use Rattle.chunk_contexts.proofs.GenLaws.{in-none}
 
 -- how many of the chunks are in blocks from a number on
 unfoldable pub in-blocks : List Piece → ℕ → List (Option ℕ) → ℕ
@@ -24,30 +20,16 @@ none-in k (b ∷ bs) = omega (arith, none-in (k + 1) bs)
 more-before : (p : Piece) (ps : List Piece) (k : ℕ) (bs : List (Option ℕ)) → p.place.block < k → in-blocks (p ∷ ps) k bs ≡ in-blocks ps k bs
 unfolding in-blocks
 more-before p ps k [] low = refl
-more-before p ps k (b ∷ bs) low =
-    let here : in_block (p ∷ ps) k ≡ in_block ps k = in-other p ps k (λ e. omega (arith, e, low)) in
-    omega (arith, here, more-before p ps (k + 1) bs (omega (arith, low)))
+more-before p ps k (b ∷ bs) low = grind (arith, nat_tests, common_steps, more-before p ps (k + 1) bs (omega (arith, low)))
 
 more-in : (p : Piece) (ps : List Piece) (k : ℕ) (bs : List (Option ℕ)) → k ≤ p.place.block → p.place.block < k + length bs → in-blocks (p ∷ ps) k bs ≡ in-blocks ps k bs + 1
 unfolding in-blocks
 more-in p ps k [] from to = absurd (omega (arith, from, to))
-more-in p ps k (b ∷ bs) from to = elim (cases_eq p.place.block k) [
-  | inl same ↦
-      let here : in_block (p ∷ ps) k ≡ in_block ps k + 1 = in-here p ps k same in
-      omega (arith, here, more-before p ps (k + 1) bs (omega (arith, same)))
-  | inr ne ↦
-      let here : in_block (p ∷ ps) k ≡ in_block ps k = in-other p ps k ne in
-      omega (arith, here, more-in p ps (k + 1) bs (omega (arith, from, ne)) (omega (arith, to)))
-]
+more-in p ps k (b ∷ bs) from to = grind (arith, nat_tests, common_steps, more-before p ps (k + 1) bs, more-in p ps (k + 1) bs)
 
 pub all-in : (ps : List Piece) (bs : List (Option ℕ)) → Every (λ (p : Piece). IsTrue (is_some (get_or bs p.place.block None))) ps → in-blocks ps 0 bs ≡ length ps
 all-in [] bs every = none-in 0 bs
-all-in (p ∷ ps) bs every =
-    let low : p.place.block < length bs = elim (cases_lt p.place.block (length bs)) [
-      | inl less ↦ less
-      | inr past ↦ absurd (false≢true (sym (ap is_some (get_or_past bs p.place.block None past)) ∙ every.0))
-    ] in
-    omega (arith, more-in p ps 0 bs (omega arith) (omega (arith, low)), all-in ps bs every.1)
+all-in (p ∷ ps) bs every = grind (arith, nat_tests, common_steps, more-in p ps 0 bs (omega arith), all-in ps bs every.1)
 
 module _ (per : ℕ) (ps : List Piece) (few : (k : ℕ) → in_block ps k ≤ per) where
   -- nothing is in a number without a block

@@ -1,30 +1,17 @@
 -- Chunks of one size, after one is made, written, freed or taken again.
-use Rattle.std.proofs.Common.{◌≡◌, ◌≢◌, ℕ, ◌+◌, ◌*◌, ◌<◌, ◌≤◌, inl, inr, Bool, true, false, not, List, [], ◌∷◌, ◌++◌, Option, Some, None, get_or, take, cond, refl, sym, ap, ◌∙◌, subst, arith}
-use Rattle.std.specs.Prelude.{IsTrue, is_some, ◌==◌, ◌&&◌}
+use Rattle.std.proofs.Common.{◌≡◌, ◌≢◌, ℕ, ◌+◌, ◌*◌, ◌<◌, ◌≤◌, inl, inr, Bool, true, false, List, [], ◌∷◌, ◌++◌, Option, Some, None, get_or, take, refl, sym, ap, ◌∙◌, subst, arith}
+use Rattle.chunk_contexts.proofs.Words.{IsTrue, is_some, Every, Pairwise, Layout, Piece, is_at, has, piece_at, no_piece, without, put_at, with_piece, size_at, IsClear, Place, live, rounded, by_block, first_free, Elsewhere, AreLinked, IsLinkable, MOST}
+use Rattle.chunk_contexts.proofs.Laws.{cases_eq, every_weaker, first_has, first_passes, same-place, without-none, nat_tests, common_steps}
 use Rattle.std.proofs.Math.Nat.{mul-le-mul_right, div-le_of_le-mul}
-use Rattle.std.proofs.lemmas.Bool.{cases_Bool, cases_eq, cond-true, cond-false, eq-eqb, ne_eqb}
-use Rattle.chunk_layout.specs.Every.{Every, Pairwise}
-use Rattle.chunk_layout.specs.Pieces.{Layout, Piece, is_at, has, piece_at, no_piece, without, put_at, with_piece, size_at, IsClear}
-use Rattle.chunk_layout.specs.declared.place.Place.{Place}
-use Rattle.chunk_layout.specs.ListLaws.{every_weaker, first_has, first_passes}
-use Rattle.chunk_layout.specs.FindingLaws.{same-place}
-use Rattle.chunk_layout.specs.PieceLaws.{without-none}
-use Rattle.chunk_contexts.specs.Chunks.{live}
-use Rattle.chunk_contexts.specs.Rooms.{rounded}
-use Rattle.chunk_contexts.specs.Free.{by_block, is_free, first_free, Elsewhere, AreLinked}
-use Rattle.chunk_layout.specs.Links.{IsLinkable}
 use Rattle.chunk_contexts.specs.Generation.{in_block}
 use Rattle.chunk_contexts.specs.Slab.{slab_block, per_block, IsSlabLayout, IsEntry}
 use Rattle.chunk_contexts.specs.declared.slab_chunks.SlabBlock.{SlabBlock}
 use Rattle.chunk_contexts.proofs.FreeLaws.{Popped, live-first, live-later}
 use Rattle.chunk_contexts.proofs.CutLaws.{none-at}
 use Rattle.chunk_contexts.proofs.RunMoves.{every-put}
-use Rattle.chunk_contexts.proofs.GenLaws.{in-here, in-other}
+use Rattle.chunk_contexts.proofs.GenLaws.{in-here}
 use Rattle.chunk_contexts.proofs.GenMoves.{in-put}
 use Rattle.chunk_contexts.proofs.LinkLaws as Link
-use Rattle.chunk_contexts.specs.declared.rooms.TheConstants.{MOST}
-use Rattle.std.proofs.lemmas.Bool.Decides.{nat_tests}
-use Rattle.std.proofs.lemmas.Grind.{common_steps}
 
 -- so many chunks have room in a block
 pub chunk-fits : (room n : ℕ) → n < per_block room → n * (8 + room) + (8 + room) ≤ slab_block room
@@ -34,21 +21,7 @@ chunk-fits room n few = grind (arith, nat_tests, common_steps)
 -- where no chunk of a block is free, all of them are live
 pub none-free : (ps : List Piece) (k : ℕ) → first_free by_block k ps ≡ None → in_block ps k ≡ in_block (live ps) k
 none-free [] k none = refl
-none-free (p ∷ ps) k none = elim (cases_Bool p.is_live) [
-  | inl lives ↦
-      let rest = none-free ps k (sym (cond-false (is_free by_block k p) (Some p.place) (first_free by_block k ps) (ap (λ (b : Bool). not b && (p.place.block == k)) lives)) ∙ none) in
-      ap (λ (n : ℕ). cond (p.place.block == k) (n + 1) n) rest ∙ ap (λ (t : List Piece). in_block t k) (sym (live-first p ps lives))
-  | inr dead ↦ elim (cases_eq p.place.block k) [
-    | inl same ↦ absurd (some-none p.place (first_free by_block k ps) (sym (cond-true (is_free by_block k p) (Some p.place) (first_free by_block k ps) (ap (λ (b : Bool). not b && (p.place.block == k)) dead ∙ eq-eqb p.place.block k same)) ∙ none))
-    | inr ne ↦
-        let other : is_free by_block k p ≡ false = ap (λ (b : Bool). not p.is_live && b) (ne_eqb p.place.block k ne) ∙ ap (λ (b : Bool). not b && false) dead in
-        let rest = none-free ps k (sym (cond-false (is_free by_block k p) (Some p.place) (first_free by_block k ps) other) ∙ none) in
-        in-other p ps k ne ∙ rest ∙ ap (λ (t : List Piece). in_block t k) (sym (live-later p ps dead))
-  ]
-]
-  where
-    some-none : (q : Place) (o : Option Place) → Some q ≡ None → ⊥
-    some-none q o e = absurd (cc)
+none-free (p ∷ ps) k none = grind (arith, nat_tests, common_steps, none-free ps k)
 
 module _ (size : ℕ) (l : Layout) (is : IsSlabLayout size l) where
   abbrev ps : List Piece
@@ -109,18 +82,10 @@ module _ (size : ℕ) (l : Layout) (is : IsSlabLayout size l) where
     p = record { place = place; room = (piece_at ps place).room; is_live = true; bytes = [] }
 
     pub reused-entry : (e : SlabBlock) → IsEntry ps k e → (next : Option Place) → next ≡ first_free by_block k (without ps place) → IsEntry again.pieces k (record { free = next; cut = e.cut; live = e.live + 1 })
-    reused-entry e entry next is-next = record {
-      free = is-next;
-      cut = entry.cut ∙ sym (in-put ps place p k was.there places refl);
-      live = ap (λ (n : ℕ). n + 1) entry.live ∙ sym (ap (λ (t : List Piece). in_block t k) reused-live ∙ in-here (record { place = place; room = room; is_live = true; bytes = [] }) (live ps) k reused-block);
-    }
+    reused-entry e entry next is-next = grind (arith, nat_tests, common_steps, in-put ps place p k was.there places refl, reused-live, in-here (record { place = place; room = room; is_live = true; bytes = [] }) (live ps) k reused-block)
 
     pub reused-other : (j : ℕ) → j ≢ k → (e : SlabBlock) → IsEntry ps j e → IsEntry again.pieces j e
-    reused-other j ne e entry = record {
-      free = entry.free ∙ sym (was.others j ne);
-      cut = entry.cut ∙ sym (in-put ps place p j was.there places refl);
-      live = entry.live ∙ sym (ap (λ (t : List Piece). in_block t j) reused-live ∙ in-other (record { place = place; room = room; is_live = true; bytes = [] }) (live ps) j (λ e. ne (sym e ∙ reused-block)));
-    }
+    reused-other j ne e entry = grind (arith, nat_tests, was.others j ne, in-put ps place p j was.there places refl, reused-live, reused-block)
 
   -- ---- the next chunk is cut from a block
   module _ (k : ℕ) (name : k < 4294967296) (some : IsTrue (is_some (get_or l.blocks k None))) (small : size ≤ MOST) (none : first_free by_block k ps ≡ None) (few : in_block (live ps) k < per_block room) where
@@ -186,18 +151,10 @@ module _ (size : ℕ) (l : Layout) (is : IsSlabLayout size l) where
     cut-fresh = Rattle.chunk_contexts.proofs.FreeLaws.live-none ps spot fresh
 
     pub cut-entry : (e : SlabBlock) → IsEntry ps k e → IsEntry cut'.pieces k (record { free = e.free; cut = e.cut + 1; live = e.live + 1 })
-    cut-entry e entry = record {
-      free = entry.free ∙ sym (Link.first-new by_block l is.links piece refl fresh linkable k);
-      cut = ap (λ (n : ℕ). n + 1) entry.cut ∙ sym (ap (λ (t : List Piece). in_block t k) pieces ∙ in-here piece ps k refl);
-      live = ap (λ (n : ℕ). n + 1) entry.live ∙ sym (ap (λ (t : List Piece). in_block t k) cut-live ∙ in-here piece (live ps) k refl);
-    }
+    cut-entry e entry = grind (arith, nat_tests, Link.first-new by_block l is.links piece refl fresh linkable k, pieces, cut-live)
 
     pub cut-other : (j : ℕ) → j ≢ k → (e : SlabBlock) → IsEntry ps j e → IsEntry cut'.pieces j e
-    cut-other j ne e entry = record {
-      free = entry.free ∙ sym (Link.first-new by_block l is.links piece refl fresh linkable j);
-      cut = entry.cut ∙ sym (ap (λ (t : List Piece). in_block t j) pieces ∙ in-other piece ps j (λ e. ne (sym e)));
-      live = entry.live ∙ sym (ap (λ (t : List Piece). in_block t j) cut-live ∙ in-other piece (live ps) j (λ e. ne (sym e)));
-    }
+    cut-other j ne e entry = grind (arith, nat_tests, Link.first-new by_block l is.links piece refl fresh linkable j, pieces, cut-live)
 
 -- how many chunks a block has
 pub per-small : (room : ℕ) → room ≤ 1073741832 → per_block room ≤ 1073741840

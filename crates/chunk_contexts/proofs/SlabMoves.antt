@@ -1,113 +1,53 @@
 -- The account of a slab's blocks, after a chunk is taken or given up, or a block.
-use Rattle.std.proofs.Common.{◌≡◌, ◌≢◌, ℕ, zero, suc, ◌+◌, ◌*◌, ◌-◌, ◌<◌, ◌≤◌, inl, inr, Bool, true, false, not, List, [], ◌∷◌, ◌++◌, Option, Some, None, length, get_or, set, take, replicate, cond, refl, sym, ap, ◌∙◌, subst, arith}
-use Rattle.std.specs.Prelude.{IsTrue, is_some, unwrap_or, nat_lt, ◌==◌, ◌&&◌, ◌||◌}
-use Rattle.std.proofs.lemmas.Bool.{cases_Bool, cases_eq, cond-true, cond-false, eq-eqb, ne_eqb, lt-ltb, and_parts, ltb-true, false≢true, eqb-false, not-true}
-use Rattle.std.proofs.lemmas.List.{get_or-set_same, get_or-set_other, length-set}
-use Rattle.chunk_layout.specs.Every.{Every, Pairwise}
-use Rattle.chunk_layout.specs.Pieces.{Layout, Piece, is_at, has, piece_at, no_piece, without, outside, put_at, rewritten, size_at, with_block}
-use Rattle.chunk_layout.specs.Lends.{layout_with}
-use Rattle.chunk_layout.specs.declared.place.Place.{Place}
-use Rattle.chunk_layout.specs.ListLaws.{every_weaker, every_both, every_filter, every_passes, first_has, first_passes, pairwise_filter}
-use Rattle.chunk_layout.specs.FindingLaws.{same-place}
-use Rattle.chunk_layout.specs.NumberLaws.{with_block-here, with_block-other, length-with_block}
-use Rattle.chunk_layout.specs.PieceLaws.{without-first, without-later}
-use Rattle.chunk_contexts.specs.Chunks.{live}
-use Rattle.chunk_contexts.specs.Rooms.{rounded}
-use Rattle.chunk_contexts.specs.Free.{by_block, is_free, first_free, Linked, Elsewhere, AreLinked}
-use Rattle.chunk_layout.specs.Links.{link_bytes}
+use Rattle.std.proofs.Common.{◌≡◌, ◌≢◌, ℕ, zero, suc, ◌+◌, ◌*◌, ◌-◌, ◌<◌, ◌≤◌, inl, inr, Bool, true, false, not, List, [], ◌∷◌, ◌++◌, Option, Some, None, length, get_or, set, take, cond, refl, sym, ap, ◌∙◌, subst, arith}
+use Rattle.chunk_contexts.proofs.Words.{IsTrue, is_some, unwrap_or, nat_lt, ◌==◌, ◌&&◌, Every, Pairwise, Layout, Piece, is_at, has, piece_at, no_piece, without, outside, put_at, rewritten, size_at, with_block, layout_with, Place, live, rounded, by_block, first_free, Linked, Elsewhere, AreLinked, link_bytes}
+use Rattle.chunk_contexts.proofs.Laws.{cases_eq, cond-true, cond-false, eq-eqb, ne_eqb, lt-ltb, and_parts, ltb-true, false≢true, eqb-false, not-true, get_or-set_same, get_or-set_other, length-set, every_weaker, every_both, every_filter, every_passes, first_has, first_passes, pairwise_filter, same-place, with_block-here, with_block-other, length-with_block, nat_tests, common_steps}
 use Rattle.chunk_contexts.specs.Generation.{in_block}
 use Rattle.chunk_contexts.specs.Slab.{slab_block, per_block, spare_from, no_block, IsSlabLayout, IsEntry, IsSlab}
 use Rattle.chunk_contexts.specs.declared.slab_chunks.SlabBlock.{SlabBlock}
 use Rattle.chunk_contexts.proofs.FreeLaws.{IsLiveAt, live-found, live-outside, live-without}
 use Rattle.chunk_contexts.proofs.RunMoves.{every-rewritten}
-use Rattle.chunk_contexts.proofs.GenLaws.{in-none, in-other, in-without_here, in-without_other, outside-none}
+use Rattle.chunk_contexts.proofs.GenLaws.{in-none, in-without_here, in-without_other, outside-none}
 use Rattle.chunk_contexts.proofs.GenMoves.{in-put, in-rewritten}
 use Rattle.chunk_contexts.proofs.OverLaws.{rewritten-map, links-over, first_free-over, live-over}
 use Rattle.chunk_contexts.proofs.SlabLaws.{slab-put, per-some}
 use Rattle.chunk_contexts.proofs.LinkLaws as Link
-use Rattle.std.proofs.lemmas.Bool.Decides.{nat_tests}
-use Rattle.std.proofs.lemmas.Grind.{common_steps}
 
 pub spare-none : (per : ℕ) (chunks : List Piece) (block : ℕ) (bs : List (Option ℕ)) → ((j : ℕ) → (is_some (get_or bs j None) && nat_lt (in_block chunks (block + j)) per) ≡ false) → spare_from per chunks block bs ≡ false
 spare-none per chunks block [] none = refl
 spare-none per chunks block (b ∷ bs) none =
-    let at : block + 0 ≡ block = omega arith in
-    let first : (is_some b && nat_lt (in_block chunks block) per) ≡ false = ap (λ (k : ℕ). is_some b && nat_lt (in_block chunks k) per) (sym at) ∙ none 0 in
-    let rest = spare-none per chunks (block + 1) bs (λ j. let next : block + 1 + j ≡ block + (j + 1) = omega arith in
-    ap (λ (k : ℕ). is_some (get_or bs j None) && nat_lt (in_block chunks k) per) next ∙ later j) in
-    (λ i. first i || rest i)
-  where
-    later : (j : ℕ) → (is_some (get_or bs j None) && nat_lt (in_block chunks (block + (j + 1))) per) ≡ false
-    later j = let e : suc j ≡ j + 1 = omega arith in ap (λ (k : ℕ). is_some (get_or bs j None) && nat_lt (in_block chunks (block + k)) per) (sym e) ∙ none (suc j)
+    let rest = spare-none per chunks (block + 1) bs (λ j. grind (arith, nat_tests, none (suc j))) in
+    grind (arith, nat_tests, none 0, rest)
 
 pub spare-some : (per : ℕ) (chunks : List Piece) (block : ℕ) (bs : List (Option ℕ)) (j : ℕ) → (is_some (get_or bs j None) && nat_lt (in_block chunks (block + j)) per) ≡ true → spare_from per chunks block bs ≡ true
 spare-some per chunks block [] j some = absurd (false≢true some)
-spare-some per chunks block (b ∷ bs) zero some =
-    let at : block + 0 ≡ block = omega arith in
-    ap (λ (x : Bool). x || spare_from per chunks (block + 1) bs) (ap (λ (k : ℕ). is_some b && nat_lt (in_block chunks k) per) (sym at) ∙ some)
-spare-some per chunks block (b ∷ bs) (suc j) some =
-    let next : block + 1 + j ≡ block + suc j = omega arith in
-    let rest = spare-some per chunks (block + 1) bs j (ap (λ (k : ℕ). is_some (get_or bs j None) && nat_lt (in_block chunks k) per) next ∙ some) in
-    or-true (is_some b && nat_lt (in_block chunks block) per) rest
-  where
-    or-true : (x : Bool) → spare_from per chunks (block + 1) bs ≡ true → (x || spare_from per chunks (block + 1) bs) ≡ true
-    or-true true e = refl
-    or-true false e = e
+spare-some per chunks block (b ∷ bs) zero some = grind (arith, nat_tests, common_steps)
+spare-some per chunks block (b ∷ bs) (suc j) some = grind (arith, nat_tests, common_steps, spare-some per chunks (block + 1) bs j)
 
 -- ---- a block whose chunks are left out
 in-outside_here : (ps : List Piece) (k : ℕ) → in_block (outside ps k) k ≡ 0
-in-outside_here ps k = in-none (outside ps k) k (every_weaker (λ (p : Piece). not (p.place.block == k) ≡ true) (λ (p : Piece). p.place.block ≢ k) (λ p away. eqb-false p.place.block k (not-true (p.place.block == k) away)) (outside ps k) (every_passes (λ (p : Piece). not (p.place.block == k)) ps))
+in-outside_here [] k = refl
+in-outside_here (p ∷ ps) k = grind (arith, nat_tests, common_steps, in-outside_here ps k)
 
 in-outside_other : (ps : List Piece) (k j : ℕ) → j ≢ k → in_block (outside ps k) j ≡ in_block ps j
 in-outside_other [] k j ne = refl
-in-outside_other (p ∷ ps) k j ne = elim (cases_eq p.place.block k) [
-  | inl same ↦ ap (λ (t : List Piece). in_block t j) (cond-false (not (p.place.block == k)) (p ∷ outside ps k) (outside ps k) (ap not (eq-eqb p.place.block k same)))
-      ∙ in-outside_other ps k j ne ∙ sym (in-other p ps j (λ e. ne (sym e ∙ same)))
-  | inr away ↦ ap (λ (t : List Piece). in_block t j) (cond-true (not (p.place.block == k)) (p ∷ outside ps k) (outside ps k) (ap not (ne_eqb p.place.block k away)))
-      ∙ ap (λ (n : ℕ). cond (p.place.block == j) (n + 1) n) (in-outside_other ps k j ne)
-]
+in-outside_other (p ∷ ps) k j ne = grind (arith, nat_tests, common_steps, in-outside_other ps k j ne)
 
 first-outside_here : (ps : List Piece) (k : ℕ) → first_free by_block k (outside ps k) ≡ None
 first-outside_here [] k = refl
-first-outside_here (p ∷ ps) k = elim (cases_eq p.place.block k) [
-  | inl same ↦ ap (first_free by_block k) (cond-false (not (p.place.block == k)) (p ∷ outside ps k) (outside ps k) (ap not (eq-eqb p.place.block k same))) ∙ first-outside_here ps k
-  | inr away ↦ ap (first_free by_block k) (cond-true (not (p.place.block == k)) (p ∷ outside ps k) (outside ps k) (ap not (ne_eqb p.place.block k away)))
-      ∙ cond-false (is_free by_block k p) (Some p.place) (first_free by_block k (outside ps k)) (and-not p.is_live (ne_eqb p.place.block k away)) ∙ first-outside_here ps k
-]
-  where
-    and-not : (b : Bool) → (p.place.block == k) ≡ false → (not b && (p.place.block == k)) ≡ false
-    and-not true e = refl
-    and-not false e = e
+first-outside_here (p ∷ ps) k = grind (arith, nat_tests, common_steps, first-outside_here ps k)
 
 first-outside_other : (ps : List Piece) (k j : ℕ) → j ≢ k → first_free by_block j (outside ps k) ≡ first_free by_block j ps
 first-outside_other [] k j ne = refl
-first-outside_other (p ∷ ps) k j ne = elim (cases_eq p.place.block k) [
-  | inl same ↦ ap (first_free by_block j) (cond-false (not (p.place.block == k)) (p ∷ outside ps k) (outside ps k) (ap not (eq-eqb p.place.block k same)))
-      ∙ first-outside_other ps k j ne ∙ sym (cond-false (is_free by_block j p) (Some p.place) (first_free by_block j ps) (and-not p.is_live (ne_eqb p.place.block j (λ e. ne (sym e ∙ same)))))
-  | inr away ↦ ap (first_free by_block j) (cond-true (not (p.place.block == k)) (p ∷ outside ps k) (outside ps k) (ap not (ne_eqb p.place.block k away)))
-      ∙ ap (λ (o : Option Place). cond (is_free by_block j p) (Some p.place) o) (first-outside_other ps k j ne)
-]
-  where
-    and-not : (b : Bool) → (p.place.block == j) ≡ false → (not b && (p.place.block == j)) ≡ false
-    and-not true e = refl
-    and-not false e = e
+first-outside_other (p ∷ ps) k j ne = grind (arith, nat_tests, common_steps, first-outside_other ps k j ne)
 
 linked-outside : (ps : List Piece) (k : ℕ) → Linked by_block ps → Linked by_block (outside ps k)
 linked-outside [] k linked = tt
-linked-outside (p ∷ ps) k linked = elim (cases_eq p.place.block k) [
-  | inl same ↦ subst (Linked by_block) (sym (cond-false (not (p.place.block == k)) (p ∷ outside ps k) (outside ps k) (ap not (eq-eqb p.place.block k same)))) (linked-outside ps k linked.1)
-  | inr away ↦ subst (Linked by_block) (sym (cond-true (not (p.place.block == k)) (p ∷ outside ps k) (outside ps k) (ap not (ne_eqb p.place.block k away))))
-      (λ dead. linked.0 dead ∙ ap link_bytes (sym (first-outside_other ps k p.place.block away)), linked-outside ps k linked.1)
-]
+linked-outside (p ∷ ps) k linked = grind (arith, nat_tests, common_steps, linked-outside ps k linked.1, first-outside_other ps k p.place.block)
 
 outside-without : (ps : List Piece) (place : Place) → outside (without ps place) place.block ≡ outside ps place.block
 outside-without [] place = refl
-outside-without (p ∷ ps) place = elim (cases_Bool (is_at place p)) [
-  | inl here ↦ ap (λ (t : List Piece). outside t place.block) (without-first p ps place here) ∙ outside-without ps place
-      ∙ sym (cond-false (not (p.place.block == place.block)) (p ∷ outside ps place.block) (outside ps place.block) (ap not (eq-eqb p.place.block place.block (ap (λ (q : Place). q.block) (same-place p.place place here)))))
-  | inr away ↦ ap (λ (t : List Piece). outside t place.block) (without-later p ps place away)
-      ∙ ap (λ (t : List Piece). cond (not (p.place.block == place.block)) (p ∷ t) t) (outside-without ps place)
-]
+outside-without (p ∷ ps) place = grind (arith, nat_tests, common_steps, outside-without ps place)
 
 module _ (size count : ℕ) (l : Layout) (kept : List SlabBlock) (marked : List Bool) (is : IsSlab size count l kept marked) where
   abbrev ps : List Piece
@@ -137,16 +77,9 @@ module _ (size count : ℕ) (l : Layout) (kept : List SlabBlock) (marked : List 
 
   -- other bytes, or other chunks that are counted the same
   pub slab-same : (m : Layout) → IsSlabLayout size m → ((j : ℕ) (e : SlabBlock) → IsEntry ps j e → IsEntry m.pieces j e) → m.blocks ≡ l.blocks → IsSlab size count m kept marked
-  slab-same m layout same blocks = record {
-    small = is.small;
-    per = is.per;
-    layout = layout;
-    entries = λ k. same k (get_or kept k no_block) (is.entries k);
-    few = is.few;
-    long = subst (λ (bs : List (Option ℕ)). length bs ≤ length kept) (sym blocks) is.long;
-    long_marks = subst (λ (bs : List (Option ℕ)). length bs ≤ length marked) (sym blocks) is.long_marks;
-    marks = λ k. is.marks k ∙ ap (λ (bs : List (Option ℕ)). is_some (get_or bs k None) && nat_lt (get_or kept k no_block).live count) (sym blocks);
-  }
+  slab-same m layout same blocks =
+      let entries : (k : ℕ) → IsEntry m.pieces k (get_or kept k no_block) = λ k. same k (get_or kept k no_block) (is.entries k) in
+      grind (arith, nat_tests, entries)
 
   -- longer lists
   pub slab-longer : (kept' : List SlabBlock) (marked' : List Bool) → ((k : ℕ) → get_or kept' k no_block ≡ get_or kept k no_block) → length kept ≤ length kept' → ((k : ℕ) → get_or marked' k false ≡ get_or marked k false) → length marked ≤ length marked'
@@ -219,37 +152,10 @@ module _ (size count : ℕ) (l : Layout) (kept : List SlabBlock) (marked : List 
     none-live = (is.entries b).live ∙ in-none (live ps) b (every_filter (λ (q : Piece). q.place.block ≢ b) (λ (q : Piece). q.is_live) ps elsewhere)
 
     grown-mark : (j : ℕ) → get_or marked' j false ≡ (is_some (get_or blocks' j None) && nat_lt (get_or kept j no_block).live count)
-    grown-mark j = marks' j ∙ elim (cases_eq j b) [
-      | inl same ↦
-          cond-true (j == b) true (get_or marked j false) (eq-eqb j b same)
-          ∙ sym (subst (λ (k : ℕ). (is_some (get_or blocks' k None) && nat_lt (get_or kept k no_block).live count) ≡ true) (sym same)
-          ((λ i. is_some (this-block i) && nat_lt (none-live i) count) ∙ lt-ltb 0 count (omega (arith, is.per, per-some room))))
-      | inr ne ↦
-          cond-false (j == b) true (get_or marked j false) (ne_eqb j b ne) ∙ is.marks j ∙ ap (λ (o : Option ℕ). is_some o && nat_lt (get_or kept j no_block).live count) (sym (other-block j ne))
-    ]
+    grown-mark j = grind (arith, nat_tests, marks' j, is.marks j, this-block, other-block j, none-live, per-some room)
 
     pub slab-grown : IsSlab size count m kept marked'
-    slab-grown = subst (λ (z : Layout). IsSlab size count z kept marked') (sym made) (record {
-      small = is.small;
-      per = is.per;
-      layout = grown-layout;
-      entries = is.entries;
-      few = is.few;
-      long = omega (arith, kept-low, length-with_block l.blocks b (slab_block room));
-      long_marks = omega (arith, marked-low, long, length-with_block l.blocks b (slab_block room));
-      marks = grown-mark;
-    })
-
-    pub grown-marked : get_or marked' b false ≡ true
-    grown-marked = marks' b ∙ cond-true (b == b) true (get_or marked b false) (eq-eqb b b refl)
-
-  -- ---- all is given up
-  abbrev nones : List (Option ℕ)
-  nones = replicate (length l.blocks) None
-
-  pub slab-cleared : (m : Layout) → m ≡ record { head = l.head; blocks = nones; pieces = [] } → (kept' : List SlabBlock) → length kept' ≡ length kept → ((k : ℕ) → get_or kept' k no_block ≡ no_block)
-      → (marked' : List Bool) → length marked' ≡ length marked → ((k : ℕ) → get_or marked' k false ≡ false) → IsSlab size count m kept' marked'
-  slab-cleared m made kept' long none marked' long' unmarked = grind (arith, nat_tests, common_steps)
+    slab-grown = grind (arith, nat_tests, grown-layout, grown-mark, length-with_block l.blocks b (slab_block room))
 
   -- ---- a live chunk
   module _ (place : Place) (there : has (live ps) place ≡ true) where
@@ -311,18 +217,10 @@ module _ (size count : ℕ) (l : Layout) (kept : List SlabBlock) (marked : List 
       live-freed = live-without ps place
 
       freed-here : IsEntry freed.pieces k e'
-      freed-here = record {
-        free = sym (Link.first-freed by_block l is.layout.links place there k refl);
-        cut = (is.entries k).cut ∙ sym (in-put ps place dead k was.there is.layout.links.places refl);
-        live = omega (arith, fewer, ap (λ (t : List Piece). in_block t k) live-freed);
-      }
+      freed-here = grind (arith, nat_tests, Link.first-freed by_block l is.layout.links place there k refl, in-put ps place dead k was.there is.layout.links.places refl, is.entries k, fewer, live-freed)
 
       freed-other : (j : ℕ) → j ≢ k → (b : SlabBlock) → IsEntry ps j b → IsEntry freed.pieces j b
-      freed-other j ne b entry = record {
-        free = entry.free ∙ sym (Link.first-freed_other by_block l is.layout.links place there k refl j ne);
-        cut = entry.cut ∙ sym (in-put ps place dead j was.there is.layout.links.places refl);
-        live = entry.live ∙ sym (ap (λ (t : List Piece). in_block t j) live-freed ∙ in-without_other (live ps) place j (λ x. ne (sym x)));
-      }
+      freed-other j ne b entry = grind (arith, nat_tests, common_steps, Link.first-freed_other by_block l is.layout.links place there k refl j ne, in-put ps place dead j was.there is.layout.links.places refl, live-freed, in-without_other (live ps) place j)
 
       kept-low : k < length kept
       kept-low = omega (arith, there-low k live-block, is.long)

@@ -1,20 +1,11 @@
 -- The state of a slab after a chunk is taken.
-use Rattle.std.proofs.Common.{◌≡◌, ℕ, ◌+◌, true, false, List, [], ◌∷◌, None, length, get_or, cond, refl, sym, ap, ◌∙◌, arith}
-use Rattle.std.proofs.lemmas.Bool.{cond-true, cond-false}
-use Rattle.chunk_layout.specs.Pieces.{Layout, Piece, has, piece_at, place_of, without, put_at, total, with_block}
-use Rattle.chunk_layout.specs.declared.place.Place.{Place}
-use Rattle.chunk_layout.specs.declared.place.ChunkName.{ChunkName}
-use Rattle.chunk_layout.specs.FindingLaws.{place-same}
-use Rattle.chunk_layout.specs.NumberLaws.{total-with_block}
-use Rattle.chunk_layout.specs.PieceLaws.{has-first, without-first, without-none}
-use Rattle.chunk_contexts.specs.Chunks.{live, chunk_of, Adds}
-use Rattle.chunk_contexts.specs.Rooms.{rounded}
+use Rattle.std.proofs.Common.{◌≡◌, ℕ, ◌+◌, true, false, List, [], ◌∷◌, None, length, get_or, refl, sym, ap, ◌∙◌, arith}
+use Rattle.chunk_contexts.proofs.Words.{Layout, Piece, has, piece_at, put_at, total, with_block, Place, ChunkName, live, chunk_of, Adds, rounded}
+use Rattle.chunk_contexts.proofs.Laws.{cond-true, cond-false, place-same, total-with_block, has-first, without-none, nat_tests, common_steps}
 use Rattle.chunk_contexts.specs.Slab.{SlabState, slab_block, has_spare, slab_grows, slab_taken, slab_of, AreChunks, IsSlab}
 use Rattle.chunk_contexts.specs.declared.slab_chunks.SlabChunks.{SlabChunks}
 use Rattle.chunk_contexts.proofs.FreeLaws.{live-without}
 use Rattle.chunk_contexts.proofs.SlabMoves.{live-there, live-room, slab-written}
-use Rattle.std.proofs.lemmas.Bool.Decides.{nat_tests}
-use Rattle.std.proofs.lemmas.Grind.{common_steps}
 
 -- a chunk comes from a block that has a free one
 module _ (s : SlabState) (p : Piece) (spare : has_spare s ≡ true) where
@@ -38,12 +29,7 @@ module _ (s : SlabState) (spare : has_spare s ≡ false) where
     taken-new = grind (arith, nat_tests, common_steps)
 
     pub grown-total : get_or s.blocks b None ≡ None → total t.blocks ≡ total s.blocks + slab_grows s
-    grown-total none =
-        ap (λ (z : SlabState). total z.blocks) made ∙ ap (λ (z : SlabState). total z.blocks) grown ∙ total-with_block s.blocks b (slab_block (rounded s.size)) none
-        ∙ ap (λ (n : ℕ). total s.blocks + n) (sym grows-block)
-
-    pub grown-fresh : has g.chunks place ≡ false → has s.chunks place ≡ false
-    grown-fresh none = ap (λ (z : SlabState). has z.chunks place) (sym grown) ∙ none
+    grown-total none = grind (arith, nat_tests, common_steps, total-with_block s.blocks b (slab_block (rounded s.size)) none)
 
 -- a slab with one chunk more, which holds these bytes
 pub record Written (s : SlabState) (t : SlabChunks) (name : ChunkName) (bytes : List ℕ) : Type 0 where
@@ -77,22 +63,13 @@ module _ (s : SlabState) (t : SlabChunks) (is : IsSlab t.size t.per t.layout t.b
     q = chunk_of name (rounded s.size) bytes
 
     written-chunks : live m.pieces ≡ q ∷ s.chunks
-    written-chunks =
-        ap (λ (z : Layout). live z.pieces) put
-        ∙ (λ i. (record { place = place; room = made-room i; is_live = true; bytes = bytes }) ∷ (live-without t.layout.pieces place ∙ ap (λ (cs : List Piece). without cs place) chunks ∙ without-first p s.chunks place (place-same place) ∙ without-none s.chunks place fresh) i)
-        ∙ (λ i. (record { place = place_of (sym named i); room = rounded s.size; is_live = true; bytes = bytes }) ∷ s.chunks)
+    written-chunks = grind (arith, nat_tests, common_steps, made-room, live-without t.layout.pieces place, without-none s.chunks place fresh)
 
     written-state : (u : SlabState) → u ≡ record { size = t.size; chunks = live m.pieces; blocks = m.blocks } → u ≡ slab_taken s q
-    written-state u is-u =
-        is-u ∙ (λ i. record { size = made-size i; chunks = written-chunks i; blocks = (ap (λ (z : Layout). z.blocks) put ∙ ap (λ (z : SlabState). z.blocks) taken) i })
-        ∙ (λ i. record { size = s.size; chunks = q ∷ s.chunks; blocks = cond (has_spare s) s.blocks (with_block s.blocks (sym named i).block (slab_block (rounded s.size))) })
+    written-state u is-u = grind (arith, nat_tests, common_steps, written-chunks)
 
     written-added : Adds s.chunks (live m.pieces) name (rounded s.size) bytes
-    written-added = record {
-      len = ap (λ (z : ChunkName). z.len) named;
-      fresh = ap (λ (z : ChunkName). has s.chunks (place_of z)) named ∙ fresh;
-      chunks = written-chunks;
-    }
+    written-added = grind (arith, nat_tests, common_steps, written-chunks)
 
     -- all of it
     pub written : Written s (record { layout = m; blocks = t.blocks; spare = t.spare; size = t.size; per = t.per }) name bytes

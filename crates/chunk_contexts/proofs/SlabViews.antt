@@ -1,29 +1,17 @@
 -- What the state of a `Slab` says of its fields at a live chunk.
 use Rattle.std.proofs.Common.{◌≡◌, ℕ, ◌+◌, ◌<◌, true, List, [], ◌∷◌, Option, Some, None, Result, cond, length, get_or, refl, sym, ap, ◌∙◌, subst, arith}
-use Rattle.std.specs.Prelude.{IsTrue, IsErrAnd, IfErr, ◌==◌, is_some}
-use Rattle.std.proofs.lemmas.Bool.{true≢false}
+use Rattle.chunk_contexts.proofs.Words.{IsTrue, IsErrAnd, IfErr, ◌==◌, is_some, Every, Piece, is_at, has, piece_at, no_piece, place_of, resized, rewritten, total, with_bytes_of, Place, ChunkName, live, is_live, bytes_of, chunk_of, Adds, IsNewBlock, IsRefused, IsResized, rounded, ContextError, NoMemory}
+use Rattle.chunk_contexts.proofs.Laws.{by_cond, first_has, every_filter, nat_tests, common_steps}
 use Rattle.std.specs.List.{length_refill}
 use Rattle.block_memory.specs.Cells.{zeros}
-use Rattle.chunk_layout.specs.Every.{Every}
-use Rattle.chunk_layout.specs.Pieces.{Piece, is_at, has, piece_at, no_piece, place_of, resized, rewritten, total, with_bytes_of}
-use Rattle.chunk_layout.specs.declared.place.Place.{Place}
-use Rattle.chunk_layout.specs.declared.place.ChunkName.{ChunkName}
-use Rattle.chunk_layout.specs.ListLaws.{by_cond, first_has, every_filter}
-use Rattle.chunk_layout.specs.FindingLaws.{place-same}
-use Rattle.chunk_contexts.specs.Chunks.{live, is_live, bytes_of, chunk_of, Adds, IsNewBlock, IsRefused, IsResized}
-use Rattle.chunk_contexts.specs.Rooms.{rounded}
 use Rattle.chunk_contexts.specs.Slab.{SlabState, slab_refusal, slab_refusal_by, slab_grows, slab_growth, slab_taken, slab_of, AreChunks}
 use Rattle.chunk_contexts.specs.SlabFields.{slab_state, AreFields}
-use Rattle.chunk_contexts.specs.declared.error.ContextError.{ContextError}
-use Rattle.chunk_contexts.specs.declared.error.ContextError.TheVariants.{NoMemory}
 use Rattle.chunk_contexts.specs.declared.slab_chunks.SlabChunks.{SlabChunks}
 use Rattle.chunk_contexts.specs.declared.slab.Slab.TheInside.{Inside}
 use Rattle.chunk_contexts.proofs.Growth.{refused-some}
 use Rattle.chunk_contexts.proofs.FreeLaws.{live-found}
 use Rattle.chunk_contexts.proofs.SlabMoves.{live-there, live-room}
 use Rattle.chunk_contexts.proofs.Content.{name-there, name-len}
-use Rattle.std.proofs.lemmas.Bool.Decides.{nat_tests}
-use Rattle.std.proofs.lemmas.Grind.{common_steps}
 
 -- a request that is not refused has the size
 pub admitted-size : (o : Option ContextError) (n size : ℕ) → slab_refusal_by o (n == size) ≡ None → n ≡ size
@@ -46,9 +34,7 @@ sizes-rewritten size (p ∷ ps) place ws every = by_cond (Every (λ (q : Piece).
 
 -- the block of a new chunk
 pub added-housed : (t : SlabChunks) (are : AreChunks t) (before : List Piece) (name : ChunkName) (room : ℕ) (bytes : List ℕ) → Adds before (slab_of t).chunks name room bytes → IsTrue (is_some (get_or t.layout.blocks name.block None))
-added-housed t are before name room bytes adds =
-    let there : Piece → Type 0 = λ p. IsTrue (is_some (get_or t.layout.blocks p.place.block None)) in
-    (subst (Every there) adds.chunks (every_filter there (λ p. p.is_live) t.layout.pieces are.layout.there)).0
+added-housed t are before name room bytes adds = grind (arith, nat_tests, common_steps, every_filter)
 
 -- why it refuses
 module _ {X : Type 0} (result : Result X ContextError) (s now : SlabState) (view : s ≡ now) (n : ℕ) where
@@ -71,16 +57,8 @@ pub served : (s now : SlabState) (view : s ≡ now) (after : SlabChunks) (are : 
     → IsNewBlock (slab_grows s) s.blocks name.block → slab_of after ≡ slab_taken s (chunk_of name (rounded s.size) bytes) → total (slab_of after).blocks ≡ total s.blocks + slab_grows s → Served now after n name bytes
 served s now view after are n name bytes none same added lies space grown =
     let admitted : slab_refusal now n ≡ None = ap (λ (z : SlabState). slab_refusal z n) (sym view) ∙ none in
-    let adds : Adds now.chunks (slab_of after).chunks name (rounded n) bytes =
-    subst (λ (z : SlabState). Adds z.chunks (slab_of after).chunks name (rounded n) bytes) view (subst (λ m. Adds s.chunks (slab_of after).chunks name (rounded m) bytes) (sym same) added) in
-    record {
-      admitted = admitted;
-      added = adds;
-      block = added-housed after are _ name (rounded n) bytes adds;
-      lies = subst (λ (z : SlabState). IsNewBlock (slab_grows z) z.blocks name.block) view lies;
-      space = space ∙ ap (λ m. slab_taken s (chunk_of name (rounded m) bytes)) (sym same) ∙ ap (λ (z : SlabState). slab_taken z (chunk_of name (rounded n) bytes)) view;
-      grown = grown ∙ ap (λ (z : SlabState). total z.blocks + slab_grows z) view ∙ ap (λ g. total now.blocks + g) (sym (slab-grown now n admitted));
-    }
+    let adds : Adds now.chunks (slab_of after).chunks name (rounded n) bytes = subst (λ (z : SlabState). Adds z.chunks (slab_of after).chunks name (rounded n) bytes) view (subst (λ m. Adds s.chunks (slab_of after).chunks name (rounded m) bytes) (sym same) added) in
+    grind (arith, nat_tests, common_steps, added-housed after are _ name (rounded n) bytes adds, slab-grown now n admitted)
 
 module _ (x : Inside) (ok : AreFields x) (s : SlabState) (e : slab_state x ≡ s) (name : ChunkName) (lives : IsTrue (is_live s.chunks name)) where
   abbrev t : SlabChunks
@@ -113,13 +91,7 @@ module _ (x : Inside) (ok : AreFields x) (s : SlabState) (e : slab_state x ≡ s
 
   -- the size that it has
   pub view-resized : (n : ℕ) → n ≡ t.size → IsResized s.chunks s.chunks name name n
-  view-resized n same = record {
-    len = view-size ∙ sym same;
-    lives = lives;
-    bytes = resized-same (bytes_of s.chunks name) n (name-len s.chunks name lives ∙ view-size ∙ sym same);
-    others = λ q ne ne'. (refl, refl);
-    gone = λ ne. absurd (true≢false (sym (place-same place) ∙ ne));
-  }
+  view-resized n same = grind (arith, nat_tests, common_steps, view-size, resized-same (bytes_of s.chunks name) n (name-len s.chunks name lives ∙ view-size ∙ sym same))
 
   -- the same at the place that was asked of the name
   module _ (at : Place) (is : at ≡ place) where

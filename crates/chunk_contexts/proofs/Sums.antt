@@ -1,12 +1,7 @@
 -- What chunks that are apart take of their blocks together: each byte of a block is one of at most one chunk.
-use Rattle.std.proofs.Common.{◌≡◌, ℕ, zero, suc, ◌+◌, ◌<◌, ◌≤◌, inl, inr, ◌⊎◌, Bool, List, [], ◌∷◌, Option, cond, refl, arith}
-use Rattle.std.specs.Prelude.{◌==◌, ◌&&◌, nat_le, nat_lt, unwrap_or}
-use Rattle.std.proofs.lemmas.Bool.{cases_lt}
-use Rattle.chunk_layout.specs.Every.{Every, Pairwise}
-use Rattle.chunk_layout.specs.Pieces.{Piece, size_at, total, AreApart, IsInside, AreLaid}
-use Rattle.chunk_contexts.specs.Chunks.{lengths}
-use Rattle.std.proofs.lemmas.Bool.Decides.{nat_tests}
-use Rattle.std.proofs.lemmas.Grind.{common_steps}
+use Rattle.std.proofs.Common.{◌≡◌, ℕ, zero, suc, ◌+◌, ◌<◌, ◌≤◌, Bool, List, [], ◌∷◌, Option, cond, refl, arith}
+use Rattle.chunk_contexts.proofs.Words.{◌==◌, ◌&&◌, nat_le, nat_lt, unwrap_or, Every, Pairwise, Piece, size_at, total, AreApart, IsInside, AreLaid, lengths}
+use Rattle.chunk_contexts.proofs.Laws.{nat_tests, common_steps}
 
 -- a byte of a block is one of a chunk
 abbrev covers : Piece → ℕ → ℕ → Bool
@@ -24,31 +19,13 @@ record IsHit (p : Piece) (b o : ℕ) : Type 0 where
   after : p.place.offset ≤ o
   before : o < p.place.offset + p.room
 
-hit-is : (p : Piece) (b o : ℕ) → p.place.block ≡ b → p.place.offset ≤ o → o < p.place.offset + p.room → hit p b o ≡ 1
-hit-is p b o block after before = grind (arith, nat_tests, common_steps)
-
-hit-cases : (p : Piece) (b o : ℕ) → (hit p b o ≡ 0) ⊎ (IsHit p b o × (hit p b o ≡ 1))
-hit-cases p b o = grind (arith, nat_tests, common_steps)
-
--- what is apart from a chunk has none of its bytes
-none-apart : (p q : Piece) (b o : ℕ) → IsHit p b o → AreApart p q → IsHit q b o → ⊥
-none-apart p q b o is apart other = grind (arith, nat_tests, common_steps)
-
 none-hits : (p : Piece) (ps : List Piece) (b o : ℕ) → IsHit p b o → Every (AreApart p) ps → hits ps b o ≡ 0
 none-hits p [] b o is apart = refl
-none-hits p (q ∷ ps) b o is apart =
-    let rest = none-hits p ps b o is apart.1 in
-    elim (hit-cases q b o) [
-      | inl none ↦ omega (arith, none, rest)
-      | inr other ↦ absurd (none-apart p q b o is apart.0 other.0)
-    ]
+none-hits p (q ∷ ps) b o is apart = grind (arith, nat_tests, common_steps, none-hits p ps b o is apart.1)
 
 one-hit : (ps : List Piece) → Pairwise AreApart ps → (b o : ℕ) → hits ps b o ≤ 1
 one-hit [] apart b o = omega arith
-one-hit (p ∷ ps) apart b o = elim (hit-cases p b o) [
-  | inl none ↦ let rest = one-hit ps apart.1 b o in omega (arith, none, rest)
-  | inr is ↦ let rest = none-hits p ps b o is.0 apart.0 in let one = is.1 in omega (arith, one, rest)
-]
+one-hit (p ∷ ps) apart b o = grind (arith, nat_tests, common_steps, one-hit ps apart.1 b o, none-hits p ps b o)
 
 -- sums over the bytes of a block, and of all blocks
 abbrev along : (ℕ → ℕ) → ℕ → ℕ
@@ -79,33 +56,17 @@ over-most f most b (x ∷ xs) = let here = along-most (f b) (most b) (unwrap_or 
 along-room : (f : ℕ → ℕ) (start room n : ℕ) → start + room ≤ n → ((o : ℕ) → start ≤ o → o < start + room → f o ≡ 1) → room ≤ along f n
 along-room f start zero n low one = omega arith
 along-room f start (suc room) zero low one = omega (arith, low)
-along-room f start (suc room) (suc n) low one = elim (cases_lt n (start + suc room)) [
-  | inr less ↦ let rest = along-room f start (suc room) n less one in omega (arith, rest)
-  | inl last ↦
-      let rest = along-room f start room n (omega (arith, low)) (λ o after before. one o after (omega (arith, before))) in
-      let here = one n (omega (arith, last, low)) last in
-      omega (arith, rest, here)
-]
+along-room f start (suc room) (suc n) low one = grind (arith, nat_tests, common_steps, along-room f start (suc room) n, along-room f start room n (omega (arith, low)))
 
 over-room : (p : Piece) (b k : ℕ) (xs : List (Option ℕ)) → p.place.block ≡ b + k → p.place.offset + p.room ≤ size_at xs k → p.room ≤ over (hit p) b xs
 over-room p b k [] block inside = omega (arith, inside)
-over-room p b zero (x ∷ xs) block inside =
-    let here = along-room (hit p b) p.place.offset p.room (unwrap_or x 0) inside (λ o after before. hit-is p b o (omega (arith, block)) after before) in
-    omega (arith, here)
+over-room p b zero (x ∷ xs) block inside = grind (arith, nat_tests, common_steps, along-room (hit p b) p.place.offset p.room (unwrap_or x 0) inside)
 over-room p b (suc k) (x ∷ xs) block inside = let rest = over-room p (b + 1) k xs (omega (arith, block)) inside in omega (arith, rest)
 
 lengths-hits : (blocks : List (Option ℕ)) (ps : List Piece) → Every (IsInside blocks) ps → lengths ps ≤ over (hits ps) 0 blocks
 lengths-hits blocks [] inside = omega arith
-lengths-hits blocks (p ∷ ps) inside =
-    let rest = lengths-hits blocks ps inside.1 in
-    let here = over-room p 0 p.place.block blocks (omega arith) inside.0.1 in
-    let fits = inside.0.0 in
-    let sum = over-add (hit p) (hits ps) 0 blocks in
-    omega (arith, rest, here, fits, sum)
+lengths-hits blocks (p ∷ ps) inside = grind (arith, nat_tests, common_steps, lengths-hits blocks ps inside.1, over-room p 0 p.place.block blocks (omega arith) inside.0.1, over-add (hit p) (hits ps) 0 blocks)
 
 -- so they have no more bytes than the blocks
 pub laid-enough : (blocks : List (Option ℕ)) (ps : List Piece) → AreLaid blocks ps → lengths ps ≤ total blocks
-laid-enough blocks ps laid =
-    let less = lengths-hits blocks ps laid.inside in
-    let most = over-most (hits ps) (one-hit ps laid.apart) 0 blocks in
-    omega (arith, less, most)
+laid-enough blocks ps laid = grind (arith, nat_tests, common_steps, lengths-hits blocks ps laid.inside, over-most (hits ps) (one-hit ps laid.apart) 0 blocks)

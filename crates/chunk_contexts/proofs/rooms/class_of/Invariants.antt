@@ -1,5 +1,5 @@
 use Rattle.std.proofs.Common.{ℕ, ◌<◌}
-use Rattle.chunk_contexts.specs.Rooms.{room_of}
+use Rattle.chunk_contexts.proofs.Words.{room_of}
 use Rattle.chunk_contexts.proofs.rooms.class_of.Given as goal
 
 abbrev pub invariant-loop-class : goal.invariant-loop-class

@@ -1,11 +1,6 @@
+use Rattle.chunk_contexts.proofs.Laws.{common_steps, nat_tests}
 use Rattle.std.proofs.Common.{◌≡◌, ◌≢◌, ◌+◌, ◌*◌, ◌<◌, ◌≤◌, ℕ, None, [], ◌∷◌, true, false, length, sym, ap, ◌∙◌, subst, arith}
-use Rattle.std.specs.Prelude.{IsTrue, is_some}
-use Rattle.chunk_layout.specs.Every.{Every}
-use Rattle.chunk_layout.specs.Pieces.{Layout, has, without, with_piece, size_at, IsClear}
-use Rattle.chunk_layout.specs.declared.place.Place.{Place}
-use Rattle.chunk_contexts.specs.Chunks.{live}
-use Rattle.chunk_contexts.specs.Rooms.{rounded}
-use Rattle.chunk_contexts.specs.Free.{by_block, first_free}
+use Rattle.chunk_contexts.proofs.Words.{IsTrue, is_some, Every, Layout, has, without, with_piece, size_at, IsClear, Place, live, rounded, by_block, first_free, MOST}
 use Rattle.chunk_contexts.specs.Generation.{in_block}
 use Rattle.chunk_contexts.specs.Slab.{slab_block, per_block, IsSlabLayout, IsEntry}
 use Rattle.chunk_contexts.specs.declared.slab_chunks.SlabBlock.{SlabBlock}
@@ -13,7 +8,6 @@ use Rattle.chunk_contexts.proofs.FreeLaws.{length-link}
 use Rattle.chunk_contexts.proofs.SlabLaws.{was, reused-block, reused-layout, reused-live, reused-fresh, reused-entry, reused-other, cut-fits, cut-inside, cut-clear, cut-layout, cut-live, cut-fresh, cut-entry, cut-other, per-small}
 use Rattle.chunk_contexts.proofs.LinkLaws as Link
 use Rattle.chunk_contexts.proofs.slab_chunks.take_chunk.Goals as goal
-use Rattle.chunk_contexts.specs.declared.rooms.TheConstants.{MOST}
 
 pub take_first-requires : goal.take_first-requires
 take_first-requires c =
@@ -26,9 +20,7 @@ pub overflow_add-entry : goal.overflow_add-entry
 overflow_add-entry c = omega (arith, c.requires.spare, per-small (rounded c.args.size) (omega (arith, c.requires.small)))
 
 pub returns-in-Some-clause-layout : goal.returns-in-Some-clause-layout
-returns-in-Some-clause-layout c =
-    let l = c.args.layout.now in let r = c.requires in let place = c.in-Some.place in let e = c.in-Some.ensures in
-    subst (IsSlabLayout c.args.size) (sym e.some.1) (reused-layout c.args.size l r.layout c.args.block place (sym r.entry.free ∙ e.some.0))
+returns-in-Some-clause-layout c = grind (arith, nat_tests, common_steps, reused-layout c.args.size)
 
 pub returns-in-Some-clause-entry : goal.returns-in-Some-clause-entry
 returns-in-Some-clause-entry c =
@@ -44,14 +36,10 @@ returns-in-Some-clause-others c =
     λ j ne b entry. subst (λ (z : Layout). IsEntry z.pieces j b) (sym e.some.1) (reused-other c.args.size l r.layout c.args.block place (sym r.entry.free ∙ e.some.0) j ne b entry)
 
 pub returns-in-Some-clause-taken : goal.returns-in-Some-clause-taken
-returns-in-Some-clause-taken c =
-    let l = c.args.layout.now in let r = c.requires in let place = c.in-Some.place in let e = c.in-Some.ensures in
-    ap (λ (z : Layout). live z.pieces) e.some.1 ∙ reused-live c.args.size l r.layout c.args.block place (sym r.entry.free ∙ e.some.0)
+returns-in-Some-clause-taken c = grind (arith, nat_tests, common_steps, reused-live c.args.size)
 
 pub returns-in-Some-clause-fresh : goal.returns-in-Some-clause-fresh
-returns-in-Some-clause-fresh c =
-    let l = c.args.layout.now in let r = c.requires in let place = c.in-Some.place in let e = c.in-Some.ensures in
-    reused-fresh c.args.size l r.layout c.args.block place (sym r.entry.free ∙ e.some.0)
+returns-in-Some-clause-fresh c = grind (arith, nat_tests, common_steps, reused-fresh c.args.size)
 
 -- the next chunk is cut
 module _ (size : ℕ) (l t : Layout) (is : IsSlabLayout size l) (k : ℕ) (e : SlabBlock) (entry : IsEntry l.pieces k e) (name : k < 4294967296) (some : IsTrue (is_some (Rattle.std.specs.Prelude.get_or l.blocks k None))) (small : size ≤ MOST)
@@ -130,6 +118,4 @@ pub returns-clause-fresh : goal.returns-clause-fresh
 returns-clause-fresh c = unused c.args.size c.args.layout.now c.take_first.new.layout c.requires.layout c.args.block c.args.entry.now c.requires.entry (omega arith) c.requires.there c.requires.small c.requires.spare c.in_default.ensures.none.0 c.in_default.ensures.none.2 c.rounded-room.result c.rounded-room.ensures.value
 
 pub returns-in-Some-clause-block : goal.returns-in-Some-clause-block
-returns-in-Some-clause-block c =
-    let l = c.args.layout.now in let r = c.requires in let place = c.in-Some.place in let e = c.in-Some.ensures in
-    reused-block c.args.size l r.layout c.args.block place (sym r.entry.free ∙ e.some.0)
+returns-in-Some-clause-block c = grind (arith, nat_tests, common_steps, reused-block c.args.size)

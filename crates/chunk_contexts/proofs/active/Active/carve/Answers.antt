@@ -1,8 +1,6 @@
-use Rattle.std.proofs.Common.{add_assoc, ◌≡◌, ◌+◌, ◌∷◌, ℕ, [], true, refl, sym, ◌∙◌, subst}
-use Rattle.chunk_layout.specs.Pieces.{Layout, Piece}
-use Rattle.chunk_layout.specs.PieceLaws.{without-none}
-use Rattle.chunk_layout.specs.declared.place.Place.{Place}
-use Rattle.chunk_contexts.specs.Free.{IsRest}
+use Rattle.std.proofs.Common.{add_assoc, ◌≡◌, ◌+◌, ◌∷◌, ℕ, [], true, refl, sym, ◌∙◌, subst, arith}
+use Rattle.chunk_contexts.proofs.Words.{Layout, Piece, Place, IsRest}
+use Rattle.chunk_contexts.proofs.Laws.{without-none, common_steps, nat_tests}
 use Rattle.chunk_contexts.proofs.CutLaws.{rest-none, rest-more}
 use Rattle.chunk_contexts.proofs.active.Active.carve.Goals as goal
 
@@ -10,11 +8,7 @@ pub returns-clause-fresh : goal.returns-clause-fresh
 returns-clause-fresh c = let r = c.requires in rest-none c.args.layout.now c.args.self.now r.rest c.args.head c.args.room r.room r.fits
 
 pub returns-clause-carved : goal.returns-clause-carved
-returns-clause-carved c =
-    let r = c.requires in let l = c.args.layout.now in let a = c.args.self.now in
-    let place : Place = record { block = a.block; offset = a.used + c.args.head } in
-    let none = without-none l.pieces place (rest-none l a r.rest c.args.head c.args.room r.room r.fits) in
-    c.carve.ensures ∙ (λ i. record { head = r.head i; blocks = l.blocks; pieces = (record { place = place; room = c.args.room; is_live = true; bytes = [] }) ∷ none i })
+returns-clause-carved c = grind (arith, nat_tests, common_steps, without-none, rest-none)
 
 pub returns-clause-rest : goal.returns-clause-rest
 returns-clause-rest c =

@@ -1,8 +1,7 @@
-use Rattle.std.proofs.Common.{◌≡◌, ◌+◌, ◌-◌, ◌∷◌, ◌≤◌, [], true, sym, ap, ◌∙◌, subst, arith}
-use Rattle.chunk_layout.specs.Pieces.{Layout, has}
-use Rattle.chunk_contexts.specs.declared.active.Active.{Active}
+use Rattle.chunk_contexts.proofs.Laws.{common_steps, nat_tests}
+use Rattle.std.proofs.Common.{◌≡◌, ◌+◌, ◌-◌, ◌∷◌, ◌≤◌, [], true, sym, ap, ◌∙◌, arith}
+use Rattle.chunk_contexts.proofs.Words.{has}
 use Rattle.chunk_contexts.specs.Set.{SetState}
-use Rattle.chunk_contexts.specs.SetFields.{IsSet}
 use Rattle.chunk_contexts.proofs.ClassLaws.{in-some}
 use Rattle.chunk_contexts.proofs.FreeLaws.{live-none}
 use Rattle.chunk_contexts.proofs.SetLaws.{set-rest, set-carved}
@@ -16,15 +15,13 @@ carve-requires-clause-room c = omega (arith, in-some c.args.room c.requires.know
 
 pub invariant_of-self : goal.invariant_of-self
 invariant_of-self c =
-    let x = c.self.inside in let l = x.lists.layout in let a = x.active in
+    let x = c.self.inside in
+    let l = x.lists.layout in
+    let a = x.active in
     let left : a.size - a.used ≡ c.args.self.now.left = ap (λ (s : SetState). s.left) c.self.view_is in
     let fits : a.used + 8 + c.args.room ≤ a.size = omega (arith, left, c.requires.fits, in-some c.args.room c.requires.known) in
-    let made : c.carve.new.layout ≡ record { head = 8; blocks = l.blocks; pieces = (record { place = record { block = a.block; offset = a.used + 8 }; room = c.args.room; is_live = true; bytes = [] }) ∷ l.pieces } =
-    c.carve.ensures.carved ∙ (λ i. record { head = 8; blocks = l.blocks; pieces = (record { place = c.carve.ensures.place i; room = c.args.room; is_live = true; bytes = [] }) ∷ l.pieces }) in
-    record {
-      set = subst (λ (z : Layout × Active). IsSet z.0 x.lists.heads z.1 x.first) (λ i. (sym made i, sym c.carve.ensures.used i)) (set-carved l x.lists.heads a x.first c.self.invariant.set c.args.room c.requires.known fits);
-      next = c.self.invariant.next;
-    }
+    let made : c.carve.new.layout ≡ record { head = 8; blocks = l.blocks; pieces = (record { place = record { block = a.block; offset = a.used + 8 }; room = c.args.room; is_live = true; bytes = [] }) ∷ l.pieces } = c.carve.ensures.carved ∙ (λ i. record { head = 8; blocks = l.blocks; pieces = (record { place = c.carve.ensures.place i; room = c.args.room; is_live = true; bytes = [] }) ∷ l.pieces }) in
+    grind (arith, nat_tests, common_steps, set-carved l x.lists.heads a x.first c.self.invariant.set c.args.room c.requires.known fits)
 
 pub returns-clause-fresh : goal.returns-clause-fresh
 returns-clause-fresh c =

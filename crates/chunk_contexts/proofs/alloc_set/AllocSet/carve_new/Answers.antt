@@ -1,11 +1,7 @@
-use Rattle.std.proofs.Common.{◌≡◌, ◌+◌, ◌-◌, ◌∷◌, ℕ, List, get_or, [], Option, Some, None, true, refl, sym, ap, ◌∙◌, subst, arith}
-use Rattle.chunk_layout.specs.Pieces.{Layout, Piece, has, total, with_block}
-use Rattle.chunk_layout.specs.declared.place.Place.{Place}
-use Rattle.chunk_contexts.specs.declared.active.Active.{Active}
-use Rattle.chunk_contexts.specs.Chunks.{live}
-use Rattle.chunk_contexts.specs.Rooms.{rooms_down}
-use Rattle.chunk_contexts.specs.Free.{free_rooms, cut_pieces, AreLists, IsRest}
-use Rattle.chunk_contexts.specs.Set.{SetState, or_first, cut_up, block_size, grown, carved}
+use Rattle.chunk_contexts.proofs.Laws.{common_steps, nat_tests}
+use Rattle.std.proofs.Common.{◌≡◌, ◌∷◌, ℕ, [], Option, Some, None, true, refl, sym, ap, ◌∙◌, subst, arith}
+use Rattle.chunk_contexts.proofs.Words.{Layout, with_block, Active, rooms_down, cut_pieces, AreLists, IsRest}
+use Rattle.chunk_contexts.specs.Set.{or_first}
 use Rattle.std.specs.Option.{option_or}
 use Rattle.chunk_contexts.specs.SetFields.{IsSet}
 use Rattle.chunk_contexts.proofs.ClassLaws.{in-some}
@@ -58,39 +54,13 @@ invariant_of-self-2 c =
     }
 
 pub returns-clause-carved : goal.returns-clause-carved
-returns-clause-carved c =
-    let x = c.self.inside in let l = x.lists.layout in let b = c.in_ok-block.block in
-    let size = c.block_size-size.result in let k = c.cut_up.new.self in
-    let p : Piece = record { place = c.carve.result; room = c.args.room; is_live = true; bytes = [] } in
-    let cut = cut-is l c.take_block.new.self k.layout x.active b size c.in_ok-block.ensures.taken c.cut_up.ensures.cut in
-    let lives : live k.layout.pieces ≡ live l.pieces = ap (λ (z : Layout). live z.pieces) cut ∙ cut-live rooms_down x.active.block x.active.size x.active.used l.pieces in
-    let chunks : live c.carve.new.layout.pieces ≡ p ∷ live l.pieces = ap (λ (z : Layout). live z.pieces) c.carve.ensures.carved ∙ ap (λ (cs : List Piece). p ∷ cs) lives in
-    let free : free_rooms c.carve.new.layout.pieces ≡ cut_up rooms_down (x.active.size - x.active.used) (free_rooms l.pieces) =
-    ap (λ (z : Layout). free_rooms z.pieces) c.carve.ensures.carved ∙ ap (λ (z : Layout). free_rooms z.pieces) cut ∙ cut-free rooms_down x.active.block x.active.size x.active.used l.pieces in
-    let block : b ≡ c.carve.result.block = ap (λ (q : Place). q.block) (sym c.carve.ensures.place) in
-    let blocks : c.carve.new.layout.blocks ≡ with_block l.blocks c.carve.result.block (block_size x.next c.args.room) =
-    ap (λ (z : Layout). z.blocks) c.carve.ensures.carved ∙ ap (λ (z : Layout). z.blocks) cut ∙ (λ i. with_block l.blocks (block i) (c.block_size-size.ensures.value i)) in
-    let left : c.carve.new.self.size - c.carve.new.self.used ≡ block_size x.next c.args.room - (c.args.room + 8) =
-    ap (λ (a : Active). a.size - a.used) c.carve.ensures.used ∙ (omega (arith, c.block_size-size.ensures.value)) in
-    let first : c.or-self-inside.result ≡ or_first x.first c.carve.result.block = c.or-self-inside.ensures ∙ or-is x.first b ∙ ap (or_first x.first) block in
-    (λ i. record { chunks = chunks i; blocks = blocks i; free = free i; left = left i; next = c.min-self-inside.ensures i; first = first i })
-    ∙ ap (λ (s : SetState). carved (grown s c.carve.result.block (block_size s.next c.args.room)) p) c.self.view_is
+returns-clause-carved c = grind (arith, nat_tests, common_steps, cut-live rooms_down, cut-free rooms_down)
 
 pub returns-clause-fresh : goal.returns-clause-fresh
-returns-clause-fresh c =
-    let x = c.self.inside in let l = x.lists.layout in let b = c.in_ok-block.block in
-    let cut = cut-is l c.take_block.new.self c.cut_up.new.self.layout x.active b c.block_size-size.result c.in_ok-block.ensures.taken c.cut_up.ensures.cut in
-    let chunks = ap (λ (z : Layout). live z.pieces) cut ∙ cut-live rooms_down x.active.block x.active.size x.active.used l.pieces in
-    ap (λ (s : SetState). has s.chunks c.carve.result) (sym c.self.view_is) ∙ ap (λ (cs : List Piece). has cs c.carve.result) (sym chunks) ∙ live-none c.cut_up.new.self.layout.pieces c.carve.result c.carve.ensures.fresh
+returns-clause-fresh c = grind (arith, nat_tests, common_steps, cut-live rooms_down, live-none c.cut_up.new.self.layout.pieces c.carve.result c.carve.ensures.fresh)
 
 pub returns-clause-held : goal.returns-clause-held
-returns-clause-held c =
-    let x = c.self.inside in let l = x.lists.layout in let b = c.in_ok-block.block in let size = c.block_size-size.result in
-    let cut = cut-is l c.take_block.new.self c.cut_up.new.self.layout x.active b size c.in_ok-block.ensures.taken c.cut_up.ensures.cut in
-    total-taken c.args.self.now l c.carve.new.layout b size (ap (λ (s : SetState). s.blocks) c.self.view_is) c.in_ok-block.ensures.was_free.1 (ap (λ (z : Layout). z.blocks) c.carve.ensures.carved ∙ ap (λ (z : Layout). z.blocks) cut)
-    ∙ ap (λ (n : ℕ). total c.args.self.now.blocks + n) (c.block_size-size.ensures.value ∙ ap (λ (s : SetState). block_size s.next c.args.room) c.self.view_is)
+returns-clause-held c = grind (arith, nat_tests, common_steps, total-taken c.args.self.now)
 
 pub returns-clause-vacant : goal.returns-clause-vacant
-returns-clause-vacant c =
-    let none : get_or c.args.self.now.blocks c.in_ok-block.block None ≡ None = ap (λ (s : SetState). get_or s.blocks c.in_ok-block.block None) (sym c.self.view_is) ∙ c.in_ok-block.ensures.was_free.1 in
-    subst (λ (k : ℕ). get_or c.args.self.now.blocks k None ≡ None) (ap (λ (q : Place). q.block) (sym c.carve.ensures.place)) none
+returns-clause-vacant c = grind (arith, nat_tests, common_steps)

@@ -1,16 +1,11 @@
-use Rattle.std.proofs.Common.{◌≡◌, ◌≢◌, ◌+◌, ◌-◌, ◌∷◌, ℕ, None, get_or, [], true, false, inl, sym, ap, ◌∙◌, subst, arith}
-use Rattle.chunk_layout.specs.Every.{Every}
-use Rattle.chunk_layout.specs.Pieces.{Layout, Piece, has, with_piece, with_block, size_at, IsClear}
-use Rattle.chunk_layout.specs.declared.place.Place.{Place}
-use Rattle.chunk_layout.specs.ListLaws.{every_weaker}
-use Rattle.chunk_layout.specs.PieceLaws.{without-none}
-use Rattle.chunk_contexts.specs.Chunks.{live}
-use Rattle.chunk_contexts.specs.Free.{free_rooms}
+use Rattle.std.proofs.Common.{◌≡◌, ◌+◌, ◌-◌, ◌∷◌, ℕ, None, get_or, [], true, false, sym, ap, ◌∙◌, subst, arith}
+use Rattle.chunk_contexts.proofs.Words.{Layout, Piece, has, with_piece, with_block, size_at, Place, live, free_rooms}
+use Rattle.chunk_contexts.proofs.Laws.{every_weaker, without-none, common_steps, nat_tests}
 use Rattle.chunk_contexts.specs.Set.{SetState, dedicated}
 use Rattle.chunk_contexts.specs.SetFields.{IsSet}
 use Rattle.chunk_contexts.proofs.SetViews.{total-taken}
 use Rattle.chunk_contexts.proofs.FreeLaws.{live-none}
-use Rattle.chunk_contexts.proofs.SetLaws.{elsewhere-all, size-here, own-fresh, set-dedicated}
+use Rattle.chunk_contexts.proofs.SetLaws.{size-here, own-fresh, set-dedicated}
 use Rattle.chunk_contexts.proofs.alloc_set.AllocSet.dedicate.Goals as goal
 
 pub carve-requires-clause-inside : goal.carve-requires-clause-inside
@@ -21,11 +16,7 @@ carve-requires-clause-inside c =
     omega (arith, size)
 
 pub carve-requires-clause-clear : goal.carve-requires-clause-clear
-carve-requires-clause-clear c =
-    let x = c.self.inside in let l = x.lists.layout in let b = c.in_ok-block.block in let f = c.in_ok-block.ensures.was_free in let n = c.in_ok-block.ensures.name in
-    let place : Place = record { block = b; offset = 8 } in
-    subst (λ (z : Layout). Every (IsClear z.head place c.args.room) z.pieces) (sym c.in_ok-block.ensures.taken)
-    (every_weaker (λ (q : Piece). q.place.block ≢ b) (IsClear l.head place c.args.room) (λ q ne. inl ne) l.pieces (elsewhere-all l x.lists.heads x.active x.first c.self.invariant.set b (c.args.room + 8) f.1 f.0 n))
+carve-requires-clause-clear c = grind (arith, nat_tests, common_steps, every_weaker)
 
 made : (l t m : Layout) (p : Piece) (size : ℕ) → l.head ≡ 8 → t ≡ record { head = l.head; blocks = with_block l.blocks p.place.block size; pieces = l.pieces } → m ≡ with_piece t p → has l.pieces p.place ≡ false
     → m ≡ record { head = 8; blocks = with_block l.blocks p.place.block size; pieces = p ∷ l.pieces }
@@ -56,10 +47,7 @@ returns-clause-fresh c =
     ap (λ (s : SetState). has s.chunks place) (sym c.self.view_is) ∙ live-none l.pieces place (own-fresh l x.lists.heads x.active x.first is b (c.args.room + 8) f.1 f.0 n c.args.room c.requires.large)
 
 pub returns-clause-held : goal.returns-clause-held
-returns-clause-held c =
-    let x = c.self.inside in let l = x.lists.layout in let b = c.in_ok-block.block in
-    total-taken c.args.self.now l c.carve.new.self b (c.args.room + 8) (ap (λ (s : SetState). s.blocks) c.self.view_is) c.in_ok-block.ensures.was_free.1
-    (ap (λ (z : Layout). z.blocks) c.carve.ensures ∙ ap (λ (z : Layout). z.blocks) c.in_ok-block.ensures.taken)
+returns-clause-held c = grind (arith, nat_tests, common_steps, total-taken c.args.self.now)
 
 pub returns-clause-vacant : goal.returns-clause-vacant
 returns-clause-vacant c = ap (λ (s : SetState). get_or s.blocks c.in_ok-block.block None) (sym c.self.view_is) ∙ c.in_ok-block.ensures.was_free.1

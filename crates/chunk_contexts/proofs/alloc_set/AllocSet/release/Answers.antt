@@ -1,3 +1,4 @@
+use Rattle.chunk_contexts.proofs.Laws.{common_steps, nat_tests}
 use Rattle.std.proofs.Common.{sym, arith}
 use Rattle.chunk_contexts.proofs.SetViews.{seen-there, seen-block, seen-known, fields-back, state-back, fields-released, state-released}
 use Rattle.chunk_contexts.proofs.alloc_set.AllocSet.release.Goals as goal
@@ -18,11 +19,7 @@ pub release-requires-clause-known : goal.release-requires-clause-known
 release-requires-clause-known c = seen-known c.self.inside c.self.invariant c.args.self.now c.self.view_is c.args.place c.requires c.room-room.result c.room-room.ensures c.if-room-gt-LARGEST.false
 
 pub invariant_of-self-2 : goal.invariant_of-self-2
-invariant_of-self-2 c =
-    fields-released c.self.inside c.self.invariant c.args.self.now c.self.view_is c.args.place c.requires (omega (arith, c.room-room.ensures, c.if-room-gt-LARGEST.false)) c.room-room.result (sym c.room-room.ensures)
-    (seen-known c.self.inside c.self.invariant c.args.self.now c.self.view_is c.args.place c.requires c.room-room.result c.room-room.ensures c.if-room-gt-LARGEST.false) c.release.new.self c.release.ensures.freed c.release.ensures.lists
+invariant_of-self-2 c = grind (arith, nat_tests, common_steps, fields-released c.self.inside c.self.invariant c.args.self.now c.self.view_is c.args.place c.requires (omega (arith, c.room-room.ensures, c.if-room-gt-LARGEST.false)) c.room-room.result (sym c.room-room.ensures) (seen-known c.self.inside c.self.invariant c.args.self.now c.self.view_is c.args.place c.requires c.room-room.result c.room-room.ensures c.if-room-gt-LARGEST.false) c.release.new.self c.release.ensures.freed c.release.ensures.lists)
 
 pub returns : goal.returns
-returns c =
-    state-released c.self.inside c.self.invariant c.args.self.now c.self.view_is c.args.place c.requires (omega (arith, c.room-room.ensures, c.if-room-gt-LARGEST.false)) c.room-room.result (sym c.room-room.ensures)
-    (seen-known c.self.inside c.self.invariant c.args.self.now c.self.view_is c.args.place c.requires c.room-room.result c.room-room.ensures c.if-room-gt-LARGEST.false) c.release.new.self c.release.ensures.freed c.release.ensures.lists
+returns c = grind (arith, nat_tests, common_steps, state-released c.self.inside c.self.invariant c.args.self.now c.self.view_is c.args.place c.requires (omega (arith, c.room-room.ensures, c.if-room-gt-LARGEST.false)) c.room-room.result (sym c.room-room.ensures) (seen-known c.self.inside c.self.invariant c.args.self.now c.self.view_is c.args.place c.requires c.room-room.result c.room-room.ensures c.if-room-gt-LARGEST.false) c.release.new.self c.release.ensures.freed c.release.ensures.lists)

@@ -1,5 +1,5 @@
 use Rattle.std.proofs.Common.{ap, ◌∙◌}
-use Rattle.chunk_layout.specs.Pieces.{Piece}
+use Rattle.chunk_contexts.proofs.Words.{Piece}
 use Rattle.chunk_contexts.proofs.SetViews.{seen, seen-there}
 use Rattle.chunk_contexts.proofs.alloc_set.AllocSet.room.Goals as goal
 

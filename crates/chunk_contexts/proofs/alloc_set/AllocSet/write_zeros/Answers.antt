@@ -1,7 +1,5 @@
 use Rattle.std.proofs.Common.{◌≤◌, None, length, get_or, sym, ap, subst, arith}
-use Rattle.std.specs.Prelude.{IsTrue, is_some}
-use Rattle.chunk_layout.specs.Pieces.{Layout, Piece}
-use Rattle.block_memory.specs.Cells.{zeros}
+use Rattle.chunk_contexts.proofs.Words.{IsTrue, is_some, Layout, Piece, zeros}
 use Rattle.chunk_contexts.proofs.SetViews.{seen, seen-there, seen-housed, fields-put, state-put}
 use Rattle.chunk_contexts.proofs.alloc_set.AllocSet.write_zeros.Goals as goal
 

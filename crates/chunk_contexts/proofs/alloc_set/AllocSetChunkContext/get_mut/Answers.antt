@@ -1,9 +1,6 @@
-use Rattle.std.proofs.Common.{◌-◌, refl, sym, ap, ◌∙◌, subst, rules}
-use Rattle.chunk_layout.specs.Pieces.{place_of, rewritten}
-use Rattle.chunk_layout.specs.Lends.{layout_with}
-use Rattle.chunk_layout.specs.declared.place.Place.{Place}
-use Rattle.chunk_contexts.specs.Chunks.{live}
-use Rattle.chunk_contexts.specs.Free.{free_rooms}
+use Rattle.chunk_contexts.proofs.Laws.{common_steps, nat_tests}
+use Rattle.std.proofs.Common.{◌-◌, refl, sym, ap, ◌∙◌, subst, rules, arith}
+use Rattle.chunk_contexts.proofs.Words.{place_of, rewritten, layout_with, Place, live, free_rooms}
 use Rattle.chunk_contexts.specs.Set.{SetState, set_wrote}
 use Rattle.chunk_contexts.specs.SetFields.{IsSet}
 use Rattle.chunk_contexts.proofs.OverLaws.{set-lent, live-over, rooms-over}
@@ -12,9 +9,7 @@ use Rattle.chunk_contexts.proofs.Content.{name-there, rewriting}
 use Rattle.chunk_contexts.proofs.alloc_set.AllocSetChunkContext.get_mut.Goals as goal
 
 pub get_mut-requires : goal.get_mut-requires
-get_mut-requires c =
-    let x = c.self.inside in let ok = c.self.invariant in let now = c.args.self.now in
-    record { there = asked-there x ok now c.self.view_is c.args.name c.requires _ c.place.ensures; len = asked-len x ok now c.self.view_is c.args.name c.requires _ c.place.ensures }
+get_mut-requires c = grind (arith, nat_tests, common_steps, asked-there, asked-len)
 
 pub invariant_of-self-lent : goal.invariant_of-self-lent
 invariant_of-self-lent c = λ w.

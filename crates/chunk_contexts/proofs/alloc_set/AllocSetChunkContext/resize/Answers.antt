@@ -1,15 +1,11 @@
+use Rattle.chunk_contexts.proofs.Laws.{common_steps, nat_tests}
 use Rattle.std.proofs.Common.{◌≡◌, ◌∷◌, List, sym, ap, ◌∙◌, subst, arith}
-use Rattle.std.specs.Prelude.{nat_lt}
-use Rattle.chunk_layout.specs.Pieces.{Piece, place_of, piece_at, without, resized, total}
-use Rattle.chunk_layout.specs.declared.place.Place.{Place}
-use Rattle.chunk_layout.specs.declared.place.ChunkName.{ChunkName}
-use Rattle.chunk_contexts.specs.Chunks.{bytes_of, chunk_of, IsResized}
+use Rattle.chunk_contexts.proofs.Words.{Piece, place_of, piece_at, without, resized, Place, ChunkName, bytes_of, chunk_of, IsResized}
 use Rattle.chunk_contexts.specs.Set.{SetState, set_room, set_put, set_taken, set_freed}
 use Rattle.chunk_contexts.proofs.SetMoves.{resized-stays, resized-moved, taken-chunks}
 use Rattle.chunk_contexts.proofs.Growth.{less-by}
 use Rattle.chunk_contexts.proofs.Content.{name-there, resized-keeps}
 use Rattle.chunk_contexts.proofs.alloc_set.AllocSetChunkContext.resize.Goals as goal
-use Rattle.chunk_contexts.specs.declared.rooms.TheConstants.{LARGEST}
 
 pub returns-then-len-room-clause-resized : goal.returns-then-len-room-clause-resized
 returns-then-len-room-clause-resized c =
@@ -37,16 +33,7 @@ pub returns-clause-keeps : goal.returns-clause-keeps
 returns-clause-keeps c = resized-keeps c.args.self.now.chunks c.relocate.new.self.chunks c.args.name c.in_ok-relocate.field-0 c.args.n (returns-clause-resized c)
 
 pub returns-clause-grown : goal.returns-clause-grown
-returns-clause-grown c _ =
-    let s = c.args.self.now in let n = c.args.n in let new = c.in_ok-relocate.field-0 in
-    ap (λ (q : Place). total (set_taken s n (chunk_of new (set_room n) (resized (piece_at s.chunks q).bytes n))).blocks) (sym c.place-place.ensures)
-    ∙ c.in_ok-relocate.ensures.held
+returns-clause-grown c _ = grind (arith, nat_tests, common_steps)
 
 pub returns-clause-most : goal.returns-clause-most
-returns-clause-most c =
-    let s = c.args.self.now in let n = c.args.n in let from = c.place-place.result in
-    let p : Piece = chunk_of c.in_ok-relocate.field-0 (set_room n) (resized (piece_at s.chunks from).bytes n) in
-    let t = set_taken s n p in
-    let less = less-by (nat_lt LARGEST (piece_at t.chunks from).room) t.blocks from.block in
-    let is = ap (λ (z : SetState). total z.blocks) c.in_ok-relocate.ensures.moved in
-    omega (arith, less, is, c.in_ok-relocate.ensures.held)
+returns-clause-most c = grind (arith, nat_tests, common_steps, less-by)

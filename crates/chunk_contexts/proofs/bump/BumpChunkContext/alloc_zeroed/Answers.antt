@@ -1,5 +1,5 @@
 use Rattle.std.proofs.Common.{◌∙◌}
-use Rattle.block_memory.specs.CellLaws.{length-zeros}
+use Rattle.chunk_contexts.proofs.Laws.{length-zeros}
 use Rattle.chunk_contexts.proofs.bump.BumpChunkContext.alloc_zeroed.Goals as goal
 
 pub returns-clause-len : goal.returns-clause-len

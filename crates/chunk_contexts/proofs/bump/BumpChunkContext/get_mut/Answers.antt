@@ -1,6 +1,6 @@
 use Rattle.chunk_contexts.proofs.RunMoves.{run-lent, run-bytes, run-wrote}
 use Rattle.std.proofs.Common.{refl, ◌∙◌, rules}
-use Rattle.chunk_layout.specs.Pieces.{place_of}
+use Rattle.chunk_contexts.proofs.Words.{place_of}
 use Rattle.chunk_contexts.proofs.Content.{rewriting}
 use Rattle.chunk_contexts.proofs.bump.BumpChunkContext.get_mut.Goals as goal
 

@@ -1,25 +1,18 @@
+use Rattle.chunk_contexts.proofs.Laws.{common_steps, nat_tests}
 use Rattle.std.proofs.Common.{add_assoc, ◌+◌, ◌∷◌, ◌≤◌, ℕ, false, refl, sym, subst, arith}
-use Rattle.chunk_layout.specs.Pieces.{Layout, Piece}
-use Rattle.chunk_contexts.specs.Free.{by_room, first_free, IsRest}
-use Rattle.chunk_layout.specs.Links.{link_bytes}
+use Rattle.chunk_contexts.proofs.Words.{Layout, Piece, by_room, first_free, IsRest, link_bytes}
 use Rattle.chunk_contexts.proofs.ClassLaws.{in-some}
-use Rattle.chunk_contexts.proofs.CutLaws.{rest-inside, rest-clear, rest-none, rest-more}
+use Rattle.chunk_contexts.proofs.CutLaws.{rest-clear, rest-none, rest-more}
 use Rattle.chunk_contexts.proofs.free_lists.FreeLists.cut_one.Goals as goal
 
 pub cut-requires-clause-none : goal.cut-requires-clause-none
-cut-requires-clause-none c =
-    let some : 1 ≤ c.args.room = omega (arith, in-some c.args.room c.requires.known) in
-    rest-none c.args.self.now.layout c.args.block.now c.requires.rest 8 c.args.room some (omega (arith, c.if-room-left.false, c.left.ensures))
+cut-requires-clause-none c = grind (arith, nat_tests, common_steps, in-some c.args.room c.requires.known, rest-none c.args.self.now.layout c.args.block.now c.requires.rest 8 c.args.room)
 
 pub cut-requires-clause-clear : goal.cut-requires-clause-clear
-cut-requires-clause-clear c =
-    let some : 1 ≤ c.args.room = omega (arith, in-some c.args.room c.requires.known) in
-    rest-clear c.args.self.now.layout c.args.block.now c.requires.rest 8 c.args.room some (omega (arith, c.if-room-left.false, c.left.ensures))
+cut-requires-clause-clear c = grind (arith, nat_tests, common_steps, in-some c.args.room c.requires.known, rest-clear c.args.self.now.layout c.args.block.now c.requires.rest 8 c.args.room)
 
 pub cut-requires-clause-inside : goal.cut-requires-clause-inside
-cut-requires-clause-inside c =
-    let some : 1 ≤ c.args.room = omega (arith, in-some c.args.room c.requires.known) in
-    rest-inside c.args.self.now.layout c.args.block.now c.requires.rest 8 c.args.room some (omega (arith, c.if-room-left.false, c.left.ensures))
+cut-requires-clause-inside c = grind (arith, nat_tests, common_steps)
 
 pub returns-clause-rest : goal.returns-clause-rest
 returns-clause-rest c =

@@ -1,6 +1,5 @@
 use Rattle.std.proofs.Common.{◌≡◌, drop}
-use Rattle.chunk_contexts.specs.Rooms.{rooms_down}
-use Rattle.chunk_contexts.specs.Free.{cut_pieces, AreLists, IsRest}
+use Rattle.chunk_contexts.proofs.Words.{rooms_down, cut_pieces, AreLists, IsRest}
 use Rattle.chunk_contexts.proofs.free_lists.FreeLists.cut_up.Given as goal
 
 abbrev pub invariant-loop-index : goal.invariant-loop-index

@@ -1,7 +1,5 @@
 use Rattle.std.proofs.Common.{length, set, sym, ap, ◌∙◌, subst}
-use Rattle.chunk_layout.specs.Pieces.{Layout, without}
-use Rattle.chunk_contexts.specs.Rooms.{room_of}
-use Rattle.chunk_contexts.specs.Free.{by_room, first_free, AreLists}
+use Rattle.chunk_contexts.proofs.Words.{Layout, without, room_of, by_room, first_free, AreLists}
 use Rattle.chunk_contexts.proofs.FreeLaws.{length-link}
 use Rattle.chunk_contexts.proofs.ListLaws.{was, link-next, lists-reused}
 use Rattle.chunk_contexts.proofs.free_lists.FreeLists.reuse.Goals as goal

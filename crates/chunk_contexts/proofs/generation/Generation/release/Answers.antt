@@ -1,5 +1,6 @@
+use Rattle.chunk_contexts.proofs.Laws.{common_steps, nat_tests}
 use Rattle.std.proofs.Common.{◌<◌, length, sym, ap, ◌∙◌, subst, arith}
-use Rattle.chunk_layout.specs.Pieces.{Layout, has}
+use Rattle.chunk_contexts.proofs.Words.{Layout, has}
 use Rattle.chunk_contexts.specs.Run.{RunState}
 use Rattle.chunk_contexts.specs.Generation.{IsCounted, gen_freed}
 use Rattle.chunk_contexts.proofs.GenMoves.{gone-some, gone-low, gone-block, counted-gone, state-gone, counted-back, state-back}
@@ -27,6 +28,4 @@ invariant_of-self-2 c =
     (counted-back c.self.inside.runs c.self.inside.counts.items c.self.invariant c.args.place (ap (λ (s : RunState). has s.chunks c.args.place) c.self.view_is ∙ c.requires) c.forget.new.self c.forget.ensures (omega (arith, c.if-uncount_one-gt0.false, c.uncount_one.ensures.left)) c.give_back.new.self c.give_back.ensures c.without-self-inside.result c.without-self-inside.ensures)
 
 pub returns : goal.returns
-returns c =
-    state-back c.self.inside.runs c.self.inside.counts.items c.self.invariant c.args.place (ap (λ (s : RunState). has s.chunks c.args.place) c.self.view_is ∙ c.requires) c.forget.new.self c.forget.ensures (omega (arith, c.if-uncount_one-gt0.false, c.uncount_one.ensures.left)) c.give_back.new.self c.give_back.ensures c.without-self-inside.result c.without-self-inside.ensures
-    ∙ ap (λ (s : RunState). gen_freed s c.args.place) c.self.view_is
+returns c = grind (arith, nat_tests, common_steps, state-back c.self.inside.runs c.self.inside.counts.items c.self.invariant c.args.place)

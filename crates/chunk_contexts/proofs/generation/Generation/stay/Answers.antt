@@ -1,6 +1,7 @@
-use Rattle.std.proofs.Common.{ap, ◌∙◌}
-use Rattle.chunk_layout.specs.Pieces.{Layout, piece_at, has, resized}
-use Rattle.chunk_contexts.specs.Run.{RunState, run_of, run_put}
+use Rattle.chunk_contexts.proofs.Laws.{common_steps, nat_tests}
+use Rattle.std.proofs.Common.{ap, ◌∙◌, arith}
+use Rattle.chunk_contexts.proofs.Words.{piece_at, has, resized}
+use Rattle.chunk_contexts.specs.Run.{RunState}
 use Rattle.chunk_contexts.proofs.GenMoves.{counted-put}
 use Rattle.chunk_contexts.proofs.generation.Generation.stay.Goals as goal
 
@@ -10,6 +11,4 @@ invariant_of-self c =
     counted-put r c.self.inside.counts.items c.self.invariant place (ap (λ (s : RunState). has s.chunks place) c.self.view_is ∙ c.requires.there) 0 (resized (piece_at r.layout.pieces place).bytes c.args.n) c.resize.new.self c.resize.ensures
 
 pub returns-clause-put : goal.returns-clause-put
-returns-clause-put c =
-    ap (λ (l : Layout). run_of (record { layout = l; active = c.self.inside.runs.active })) c.resize.ensures
-    ∙ ap (λ (s : RunState). run_put s c.args.place (resized (piece_at s.chunks c.args.place).bytes c.args.n)) c.self.view_is
+returns-clause-put c = grind (arith, nat_tests, common_steps)

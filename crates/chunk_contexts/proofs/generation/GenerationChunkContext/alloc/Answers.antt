@@ -1,24 +1,16 @@
-use Rattle.std.proofs.Common.{length, sym, ap, ◌∙◌, subst, arith, rules}
-use Rattle.list_laws.specs.Outcomes.{always_err}
+use Rattle.std.proofs.Common.{length, sym, ap, ◌∙◌, subst, arith}
+use Rattle.chunk_contexts.proofs.Laws.{always_err, common_steps, nat_tests}
 use Rattle.chunk_contexts.specs.declared.runs.Runs.{Runs}
-use Rattle.chunk_contexts.specs.Chunks.{Adds}
-use Rattle.chunk_contexts.specs.Rooms.{rounded}
-use Rattle.chunk_contexts.specs.Run.{RunState, run_of}
+use Rattle.chunk_contexts.specs.Run.{run_of}
 use Rattle.chunk_contexts.specs.Generation.{IsCounted}
-use Rattle.chunk_contexts.proofs.Content.{adding}
-use Rattle.chunk_contexts.proofs.GenAllocs.{made-there, made-counted, made-block, counted-longer, refused-count, refused-as}
+use Rattle.chunk_contexts.proofs.GenAllocs.{made-there, made-counted, counted-longer, refused-count, refused-as}
 use Rattle.chunk_contexts.proofs.generation.GenerationChunkContext.alloc.Goals as goal
 
 pub count_one-requires-clause-there : goal.count_one-requires-clause-there
-count_one-requires-clause-there c =
-    made-there c.self.inside.runs c.alloc.new.self c.self.inside.counts.items c.make_count.new.counts.items c.self.invariant c.in_ok-name.ensures.run (length c.args.bytes.now) (c.args.bytes.now) c.in_ok-name.name c.in_ok-name.ensures.admitted c.in_ok-name.ensures.space c.in_ok-name.ensures.added c.in_ok-name.ensures.block
-    c.in_ok-make_count.ensures.same c.in_ok-make_count.ensures.long (λ grows. omega (arith, c.in_ok-make_count.ensures.room (omega (arith, c.growth-growth.ensures, grows)), c.numbers.ensures))
+count_one-requires-clause-there c = grind (arith, nat_tests, common_steps, made-there c.self.inside.runs c.alloc.new.self c.self.inside.counts.items c.make_count.new.counts.items c.self.invariant c.in_ok-name.ensures.run (length c.args.bytes.now) (c.args.bytes.now) c.in_ok-name.name c.in_ok-name.ensures.admitted c.in_ok-name.ensures.space c.in_ok-name.ensures.added c.in_ok-name.ensures.block c.in_ok-make_count.ensures.same c.in_ok-make_count.ensures.long)
 
 pub invariant_of-self-2 : goal.invariant_of-self-2
-invariant_of-self-2 c =
-    subst (IsCounted c.alloc.new.self) (sym c.count_one.ensures)
-    (made-counted c.self.inside.runs c.alloc.new.self c.self.inside.counts.items c.make_count.new.counts.items c.self.invariant c.in_ok-name.ensures.run (length c.args.bytes.now) (c.args.bytes.now) c.in_ok-name.name c.in_ok-name.ensures.admitted c.in_ok-name.ensures.space c.in_ok-name.ensures.added c.in_ok-name.ensures.block
-    c.in_ok-make_count.ensures.same c.in_ok-make_count.ensures.long (λ grows. omega (arith, c.in_ok-make_count.ensures.room (omega (arith, c.growth-growth.ensures, grows)), c.numbers.ensures)))
+invariant_of-self-2 c = grind (arith, nat_tests, common_steps, made-counted c.self.inside.runs c.alloc.new.self c.self.inside.counts.items c.make_count.new.counts.items c.self.invariant c.in_ok-name.ensures.run (length c.args.bytes.now) (c.args.bytes.now) c.in_ok-name.name c.in_ok-name.ensures.admitted c.in_ok-name.ensures.space c.in_ok-name.ensures.added c.in_ok-name.ensures.block c.in_ok-make_count.ensures.same c.in_ok-make_count.ensures.long)
 
 pub returns-in_err-make_count-clause-refused : goal.returns-in_err-make_count-clause-refused
 returns-in_err-make_count-clause-refused c = refused-count _ _ _ (length c.args.bytes.now) c.from_residual.ensures.1 c.self.view_is (omega (arith, c.in_err-make_count.ensures.refused, c.growth-growth.ensures))
@@ -33,11 +25,7 @@ pub returns-in_err-name-clause-unchanged : goal.returns-in_err-name-clause-uncha
 returns-in_err-name-clause-unchanged c = always_err c.from_residual-in_err-name.result (ap run_of c.in_err-name.ensures.unchanged ∙ c.self.view_is)
 
 pub returns : goal.returns
-returns c =
-    let bytes = c.args.bytes.now in let after = c.alloc.new.self in let name = c.in_ok-name.name in let told = c.in_ok-name.ensures in
-    let added = subst (λ (s : RunState). Adds s.chunks after.layout.pieces name (rounded (length c.args.bytes.now)) bytes) c.self.view_is told.added in
-    let block = made-block 8 after _ name _ bytes told.run added in
-    search (rules, adding, added, block)
+returns c = grind (arith, nat_tests, common_steps)
 
 pub invariant_of-self : goal.invariant_of-self
 invariant_of-self c = counted-longer _ _ _ c.self.invariant c.in_err-make_count.ensures.same c.in_err-make_count.ensures.long

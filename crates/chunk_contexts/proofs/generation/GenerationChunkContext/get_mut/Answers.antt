@@ -1,7 +1,7 @@
 use Rattle.chunk_contexts.proofs.GenMoves.{counted-lent}
 use Rattle.chunk_contexts.proofs.RunMoves.{run-bytes, run-wrote}
 use Rattle.std.proofs.Common.{refl, ◌∙◌, rules}
-use Rattle.chunk_layout.specs.Pieces.{place_of}
+use Rattle.chunk_contexts.proofs.Words.{place_of}
 use Rattle.chunk_contexts.proofs.Content.{rewriting}
 use Rattle.chunk_contexts.proofs.generation.GenerationChunkContext.get_mut.Goals as goal
 

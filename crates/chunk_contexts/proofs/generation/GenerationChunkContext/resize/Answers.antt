@@ -1,17 +1,8 @@
-use Rattle.std.proofs.Common.{◌≡◌, ◌+◌, ◌∷◌, ℕ, List, true, false, refl, sym, ap, ◌∙◌, subst, arith}
-use Rattle.list_laws.specs.Outcomes.{always_err}
-use Rattle.std.proofs.lemmas.Result.{err_from_is_err_and}
-use Rattle.block_memory.specs.Cells.{zeros}
-use Rattle.block_memory.specs.CellLaws.{length-zeros}
-use Rattle.chunk_layout.specs.Pieces.{Piece, same_place, place_of, has, piece_at, without, resized, total}
-use Rattle.chunk_layout.specs.declared.place.Place.{Place}
-use Rattle.chunk_layout.specs.declared.place.ChunkName.{ChunkName}
-use Rattle.chunk_layout.specs.PieceLaws.{same_place-sym, has-later, piece_at-later}
-use Rattle.chunk_contexts.specs.Chunks.{bytes_of, chunk_of, IsResized}
-use Rattle.chunk_contexts.specs.Rooms.{rounded, over_most}
+use Rattle.std.proofs.Common.{◌≡◌, ◌+◌, ◌∷◌, ℕ, List, true, false, sym, ap, ◌∙◌, subst, arith}
+use Rattle.chunk_contexts.proofs.Words.{zeros, Piece, same_place, place_of, has, piece_at, without, resized, total, Place, ChunkName, bytes_of, chunk_of, IsResized, rounded}
+use Rattle.chunk_contexts.proofs.Laws.{length-zeros, same_place-sym, has-later, piece_at-later, common_steps, nat_tests}
 use Rattle.chunk_contexts.specs.Run.{RunState, run_growth, run_put, run_taken}
 use Rattle.chunk_contexts.specs.Generation.{gen_freed}
-use Rattle.chunk_contexts.proofs.Growth.{resize-some, resize-refused}
 use Rattle.chunk_contexts.proofs.GenMoves.{freed-chunks, freed-less}
 use Rattle.chunk_contexts.proofs.RunMoves.{run-chunks, run-blocks, run-written}
 use Rattle.chunk_contexts.proofs.SetMoves.{resized-stays, resized-moved}
@@ -19,43 +10,23 @@ use Rattle.chunk_contexts.proofs.Content.{name-there, apart-places, resized-keep
 use Rattle.chunk_contexts.proofs.generation.GenerationChunkContext.resize.Goals as goal
 
 pub returns-in_err-check_len-clause-refused : goal.returns-in_err-check_len-clause-refused
-returns-in_err-check_len-clause-refused c =
-    let e = err_from_is_err_and c.from_residual.result c.from_residual.ensures.1 in
-    rw e.1 (resize-some (over_most c.args.n) _ _ c.args.n e.0 _ c.in_err-check_len.ensures e.2)
+returns-in_err-check_len-clause-refused c = grind (arith, nat_tests, common_steps)
 
 pub returns-then-len-room : goal.returns-then-len-room
 returns-then-len-room c =
-    let s = c.args.self.now in let name = c.args.name in let n = c.args.n in
+    let s = c.args.self.now in
+    let name = c.args.name in
+    let n = c.args.n in
     let same : place_of c.stay.result ≡ place_of name = ap place_of c.stay.ensures.name ∙ c.place-place.ensures in
-    let state : c.stay.new.self ≡ run_put s (place_of name) (resized (bytes_of s.chunks name) n) =
-    c.stay.ensures.put ∙ ap (λ (p : Place). run_put s p (resized (piece_at s.chunks p).bytes n)) c.place-place.ensures in
-    let is : IsResized s.chunks c.stay.new.self.chunks name c.stay.result n =
-    subst (λ (t : RunState). IsResized s.chunks t.chunks name c.stay.result n) (sym state)
-    (resized-stays s.chunks name c.stay.result n (piece_at s.chunks (place_of name)).room same (ap (λ (m : ChunkName). m.len) c.stay.ensures.name)) in
-    record {
-      admitted = (refl, c.in_ok-check_len.ensures);
-      resized = is;
-      keeps = resized-keeps s.chunks c.stay.new.self.chunks name c.stay.result n is;
-      stays = λ fits. state;
-      moved = λ more. absurd (omega (arith, more, c.if-len-room.true, c.room.ensures, ap (λ (p : Place). (piece_at s.chunks p).room) c.place-place.ensures));
-      lies = λ more. absurd (omega (arith, more, c.if-len-room.true, c.room.ensures, ap (λ (p : Place). (piece_at s.chunks p).room) c.place-place.ensures));
-      grown = λ more. absurd (omega (arith, more, c.if-len-room.true, c.room.ensures, ap (λ (p : Place). (piece_at s.chunks p).room) c.place-place.ensures));
-      most = let same = ap (λ (t : RunState). total t.blocks) state in omega (arith, same);
-      refused = tt;
-      unchanged = tt;
-    }
+    let state : c.stay.new.self ≡ run_put s (place_of name) (resized (bytes_of s.chunks name) n) = c.stay.ensures.put ∙ ap (λ (p : Place). run_put s p (resized (piece_at s.chunks p).bytes n)) c.place-place.ensures in
+    let is : IsResized s.chunks c.stay.new.self.chunks name c.stay.result n = subst (λ (t : RunState). IsResized s.chunks t.chunks name c.stay.result n) (sym state) (resized-stays s.chunks name c.stay.result n (piece_at s.chunks (place_of name)).room same (ap (λ (m : ChunkName). m.len) c.stay.ensures.name)) in
+    grind (arith, nat_tests, common_steps, resized-keeps s.chunks c.stay.new.self.chunks name c.stay.result n is)
 
 pub returns-in_err-moved-clause-refused : goal.returns-in_err-moved-clause-refused
-returns-in_err-moved-clause-refused c =
-    let s = c.args.self.now in
-    let told = c.in_err-moved.ensures in
-    let e = err_from_is_err_and c.from_residual-in_err-moved.result c.from_residual-in_err-moved.ensures.1 in
-    rw e.1 (resize-refused (over_most c.args.n) _ _ c.args.n e.0 _ told.refused e.2 (omega (arith, c.if-len-room.false, c.room.ensures, ap (λ (p : Place). (piece_at s.chunks p).room) c.place-place.ensures)))
+returns-in_err-moved-clause-refused c = grind (arith, nat_tests, common_steps)
 
 pub returns-in_err-moved-clause-unchanged : goal.returns-in_err-moved-clause-unchanged
-returns-in_err-moved-clause-unchanged c =
-    let told = c.in_err-moved.ensures in
-    always_err c.from_residual-in_err-moved.result (told.unchanged)
+returns-in_err-moved-clause-unchanged c = grind (arith, nat_tests, common_steps)
 
 -- a new chunk has the bytes of another
 module _ (s t u : RunState) (name new : ChunkName) (n room : ℕ) (xs : List ℕ) (there : has s.chunks (place_of name) ≡ true) (none : has s.chunks (place_of new) ≡ false) (made : t ≡ run_taken 8 s (chunk_of new room xs))
@@ -80,42 +51,21 @@ module _ (s t u : RunState) (name new : ChunkName) (n room : ℕ) (xs : List ℕ
       ∙ has-later p s.chunks (place_of name) apart ∙ there
 
 pub release-requires : goal.release-requires
-release-requires c =
-    let s = c.args.self.now in let new = c.in_ok-moved.moved in
-    filled-there s c.alloc_zeroed.new.self c.fill.new.self c.args.name new c.args.n (rounded c.args.n) (zeros c.args.n) (name-there s.chunks c.args.name c.requires) c.in_ok-moved.ensures.added.fresh c.in_ok-moved.ensures.space
-    c.place-place.result c.place.result c.place-place.ensures c.place.ensures c.fill.ensures
+release-requires c = grind (arith, nat_tests, common_steps, filled-there, name-there)
 
 moved-is : (s u w : RunState) (name : ChunkName) (a : Place) (p : Piece) → u ≡ run_taken 8 s p → w ≡ gen_freed u a → a ≡ place_of name → w ≡ gen_freed (run_taken 8 s p) (place_of name)
 moved-is s u w name a p made freed at = freed ∙ (λ i. gen_freed (made i) (at i))
 
 pub returns : goal.returns
 returns c =
-    let s = c.args.self.now in let new = c.in_ok-moved.moved in let name = c.args.name in let n = c.args.n in
+    let s = c.args.self.now in
+    let new = c.in_ok-moved.moved in
+    let name = c.args.name in
+    let n = c.args.n in
     let p : Piece = chunk_of new (rounded n) (resized (bytes_of s.chunks name) n) in
     let there = name-there s.chunks name c.requires in
-    let state : c.release.new.self ≡ gen_freed (run_taken 8 s p) (place_of name) =
-    moved-is s c.fill.new.self c.release.new.self name c.place-place.result p
-    (filled-is s c.alloc_zeroed.new.self c.fill.new.self name new n (rounded n) (zeros n) there c.in_ok-moved.ensures.added.fresh c.in_ok-moved.ensures.space
-    c.place-place.result c.place.result c.place-place.ensures c.place.ensures c.fill.ensures) c.release.ensures c.place-place.ensures in
-    let grown : total (run_taken 8 s p).blocks ≡ total s.blocks + run_growth 8 s n =
-    ap total (run-blocks 8 s (place_of new) (rounded n) p.bytes (zeros n) ∙ ap (λ (t : RunState). t.blocks) (sym c.in_ok-moved.ensures.space)) ∙ c.in_ok-moved.ensures.grown in
-    let chunks : c.release.new.self.chunks ≡ without (p ∷ s.chunks) (place_of name) =
-    ap (λ (t : RunState). t.chunks) state ∙ freed-chunks (run_taken 8 s p) (place_of name) ∙ ap (λ (cs : List Piece). without cs (place_of name)) (run-chunks 8 s p) in
-    let is : IsResized s.chunks c.release.new.self.chunks name new n =
-    subst (λ (cs : List Piece). IsResized s.chunks cs name new n) (sym chunks)
-    (resized-moved s.chunks name new n (rounded n) there c.in_ok-moved.ensures.added.fresh (c.in_ok-moved.ensures.added.len ∙ length-zeros n)) in
-    record {
-      admitted = (refl, c.in_ok-moved.ensures.admitted);
-      resized = is;
-      keeps = resized-keeps s.chunks c.release.new.self.chunks name new n is;
-      stays = λ fits. absurd (omega (arith, fits, c.if-len-room.false, c.room.ensures, ap (λ (p : Place). (piece_at s.chunks p).room) c.place-place.ensures));
-      moved = λ more. state;
-      lies = λ _. c.in_ok-moved.ensures.lies;
-      grown = λ _. grown;
-      most =
-          let same = ap (λ (t : RunState). total t.blocks) state in
-          let less = freed-less (run_taken 8 s p) (place_of name) in
-          omega (arith, same, less, grown);
-      refused = tt;
-      unchanged = tt;
-    }
+    let state : c.release.new.self ≡ gen_freed (run_taken 8 s p) (place_of name) = moved-is s c.fill.new.self c.release.new.self name c.place-place.result p (filled-is s c.alloc_zeroed.new.self c.fill.new.self name new n (rounded n) (zeros n) there c.in_ok-moved.ensures.added.fresh c.in_ok-moved.ensures.space c.place-place.result c.place.result c.place-place.ensures c.place.ensures c.fill.ensures) c.release.ensures c.place-place.ensures in
+    let grown : total (run_taken 8 s p).blocks ≡ total s.blocks + run_growth 8 s n = ap total (run-blocks 8 s (place_of new) (rounded n) p.bytes (zeros n) ∙ ap (λ (t : RunState). t.blocks) (sym c.in_ok-moved.ensures.space)) ∙ c.in_ok-moved.ensures.grown in
+    let chunks : c.release.new.self.chunks ≡ without (p ∷ s.chunks) (place_of name) = ap (λ (t : RunState). t.chunks) state ∙ freed-chunks (run_taken 8 s p) (place_of name) ∙ ap (λ (cs : List Piece). without cs (place_of name)) (run-chunks 8 s p) in
+    let is : IsResized s.chunks c.release.new.self.chunks name new n = subst (λ (cs : List Piece). IsResized s.chunks cs name new n) (sym chunks) (resized-moved s.chunks name new n (rounded n) there c.in_ok-moved.ensures.added.fresh (c.in_ok-moved.ensures.added.len ∙ length-zeros n)) in
+    grind (arith, nat_tests, common_steps, resized-keeps s.chunks c.release.new.self.chunks name new n is, freed-less)

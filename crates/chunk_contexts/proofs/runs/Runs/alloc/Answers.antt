@@ -1,22 +1,15 @@
+use Rattle.chunk_contexts.proofs.Laws.{common_steps, nat_tests}
 use Rattle.std.proofs.Common.{[], ◌≡◌, length, sym, ap, ◌∙◌, arith}
-use Rattle.chunk_layout.specs.Pieces.{Layout, Piece, has, place_of}
-use Rattle.chunk_layout.specs.declared.place.ChunkName.{ChunkName}
-use Rattle.chunk_contexts.specs.Chunks.{chunk_of}
-use Rattle.chunk_contexts.specs.Rooms.{rounded}
-use Rattle.chunk_contexts.specs.Run.{RunState, run_of, run_taken}
-use Rattle.chunk_contexts.proofs.RunMoves.{run-chunks, run-here, run-piece, run-put, run-written}
+use Rattle.chunk_contexts.proofs.Words.{Layout, ChunkName, chunk_of, rounded}
+use Rattle.chunk_contexts.specs.Run.{run_of, run_taken}
+use Rattle.chunk_contexts.proofs.RunMoves.{run-chunks, run-here, run-put, run-written}
 use Rattle.chunk_contexts.proofs.runs.Runs.alloc.Goals as goal
 
 pub put-requires-clause-there : goal.put-requires-clause-there
-put-requires-clause-there c =
-    let s = run_of c.args.self.now in let place = c.in_ok-place.place in let n = length c.args.bytes.now in
-    run-here c.args.head s (run_of c.claim.new.self) place (rounded n) (c.args.bytes.now) [] c.in_ok-place.ensures.fresh c.in_ok-place.ensures.taken
+put-requires-clause-there c = grind (arith, nat_tests, common_steps)
 
 pub put-requires-clause-room : goal.put-requires-clause-room
-put-requires-clause-room c =
-    let s = run_of c.args.self.now in let place = c.in_ok-place.place in let n = length c.args.bytes.now in
-    let first = run-piece c.args.head s (run_of c.claim.new.self) place (rounded n) (c.args.bytes.now) [] c.in_ok-place.ensures.fresh c.in_ok-place.ensures.taken in
-    omega (arith, ap (λ (q : Piece). q.room) first, c.in_ok-place.ensures.room)
+put-requires-clause-room c = grind (arith, nat_tests, common_steps)
 
 pub returns-clause-run : goal.returns-clause-run
 returns-clause-run c =
@@ -31,12 +24,8 @@ returns-clause-space c =
 
 pub returns-clause-added : goal.returns-clause-added
 returns-clause-added c =
-    let s = run_of c.args.self.now in let place = c.in_ok-place.place in let n = length c.args.bytes.now in
-    let space : run_of (record { layout = c.put.new.self; active = c.claim.new.self.active }) ≡ run_taken c.args.head s (chunk_of c.named.result (rounded n) (c.args.bytes.now)) =
-    ap (λ (l : Layout). run_of (record { layout = l; active = c.claim.new.self.active })) c.put.ensures ∙ run-written c.args.head s (run_of c.claim.new.self) place (rounded n) (c.args.bytes.now) [] c.in_ok-place.ensures.fresh c.in_ok-place.ensures.taken
-    ∙ ap (λ (m : ChunkName). run_taken c.args.head s (chunk_of m (rounded n) (c.args.bytes.now))) (sym c.named.ensures) in
-    record {
-      len = ap (λ (m : ChunkName). m.len) c.named.ensures ∙ omega arith;
-      fresh = ap (λ (m : ChunkName). has s.chunks (place_of m)) c.named.ensures ∙ c.in_ok-place.ensures.fresh;
-      chunks = ap (λ (t : RunState). t.chunks) space ∙ run-chunks c.args.head s (chunk_of c.named.result (rounded n) (c.args.bytes.now));
-    }
+    let s = run_of c.args.self.now in
+    let place = c.in_ok-place.place in
+    let n = length c.args.bytes.now in
+    let space : run_of (record { layout = c.put.new.self; active = c.claim.new.self.active }) ≡ run_taken c.args.head s (chunk_of c.named.result (rounded n) (c.args.bytes.now)) = ap (λ (l : Layout). run_of (record { layout = l; active = c.claim.new.self.active })) c.put.ensures ∙ run-written c.args.head s (run_of c.claim.new.self) place (rounded n) (c.args.bytes.now) [] c.in_ok-place.ensures.fresh c.in_ok-place.ensures.taken ∙ ap (λ (m : ChunkName). run_taken c.args.head s (chunk_of m (rounded n) (c.args.bytes.now))) (sym c.named.ensures) in
+    grind (arith, nat_tests, common_steps, run-chunks c.args.head s (chunk_of c.named.result (rounded n) (c.args.bytes.now)))

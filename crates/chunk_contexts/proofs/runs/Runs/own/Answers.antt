@@ -1,20 +1,15 @@
-use Rattle.std.proofs.Common.{◌+◌, sym, ap, ◌∙◌, subst, arith}
-use Rattle.chunk_layout.specs.Every.{Every}
-use Rattle.chunk_layout.specs.Pieces.{Layout, size_at, IsClear}
-use Rattle.chunk_layout.specs.declared.place.Place.{Place}
+use Rattle.chunk_contexts.proofs.Laws.{common_steps, nat_tests}
+use Rattle.std.proofs.Common.{◌+◌, ap, arith}
+use Rattle.chunk_contexts.proofs.Words.{Layout}
 use Rattle.chunk_contexts.specs.Run.{run_of}
 use Rattle.chunk_contexts.proofs.RunLaws.{taken-size, taken-total, own-clear, own-fresh, own-made, own-run}
 use Rattle.chunk_contexts.proofs.runs.Runs.own.Goals as goal
 
 pub carve-requires-clause-inside : goal.carve-requires-clause-inside
-carve-requires-clause-inside c =
-    let size = ap (λ (z : Layout). size_at z.blocks c.in_ok-block.block) c.in_ok-block.ensures.taken ∙ taken-size c.args.head c.args.self.now c.requires.run c.in_ok-block.block (c.args.head + c.args.room) c.in_ok-block.ensures.was_free.1 c.in_ok-block.ensures.was_free.0 c.in_ok-block.ensures.name in
-    omega (arith, size)
+carve-requires-clause-inside c = grind (arith, nat_tests, common_steps, taken-size c.args.head c.args.self.now c.requires.run c.in_ok-block.block (c.args.head + c.args.room) c.in_ok-block.ensures.was_free.1 c.in_ok-block.ensures.was_free.0 c.in_ok-block.ensures.name)
 
 pub carve-requires-clause-clear : goal.carve-requires-clause-clear
-carve-requires-clause-clear c =
-    let place : Place = record { block = c.in_ok-block.block; offset = c.args.head } in
-    subst (λ (z : Layout). Every (IsClear z.head place c.args.room) z.pieces) (sym c.in_ok-block.ensures.taken) (own-clear c.args.head c.args.self.now c.requires.run c.in_ok-block.block (c.args.head + c.args.room) c.in_ok-block.ensures.was_free.1 c.in_ok-block.ensures.was_free.0 c.in_ok-block.ensures.name c.args.room c.requires.room)
+carve-requires-clause-clear c = grind (arith, nat_tests, common_steps, own-clear c.args.head c.args.self.now c.requires.run c.in_ok-block.block (c.args.head + c.args.room) c.in_ok-block.ensures.was_free.1 c.in_ok-block.ensures.was_free.0 c.in_ok-block.ensures.name c.args.room c.requires.room)
 
 pub returns-clause-run : goal.returns-clause-run
 returns-clause-run c =

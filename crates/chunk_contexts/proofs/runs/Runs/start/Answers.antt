@@ -1,5 +1,5 @@
 use Rattle.std.proofs.Common.{ap, arith}
-use Rattle.chunk_layout.specs.Pieces.{Layout}
+use Rattle.chunk_contexts.proofs.Words.{Layout}
 use Rattle.chunk_contexts.proofs.RunLaws.{taken-total, started-run}
 use Rattle.chunk_contexts.proofs.runs.Runs.start.Goals as goal
 

@@ -1,11 +1,7 @@
 use Rattle.std.proofs.Common.{◌≡◌, ◌*◌, ◌≤◌, ℕ, None, length, get_or, subst, arith}
-use Rattle.std.specs.Prelude.{IsTrue, is_some, nat_lt}
-use Rattle.chunk_layout.specs.Every.{Every}
-use Rattle.chunk_layout.specs.Pieces.{Piece}
-use Rattle.chunk_layout.specs.ListLaws.{every_filter}
-use Rattle.chunk_contexts.specs.Chunks.{live}
+use Rattle.chunk_contexts.proofs.Words.{IsTrue, is_some, nat_lt, Every, Piece, live, rounded}
+use Rattle.chunk_contexts.proofs.Laws.{every_filter}
 use Rattle.chunk_contexts.specs.Generation.{in_block}
-use Rattle.chunk_contexts.specs.Rooms.{rounded}
 use Rattle.chunk_contexts.specs.Slab.{SlabState, has_spare, per_block, block_count}
 use Rattle.chunk_contexts.proofs.SlabCounts.{spare-by-count, none-there}
 use Rattle.chunk_contexts.proofs.slab.Slab.spare_by_count.Goals as goal

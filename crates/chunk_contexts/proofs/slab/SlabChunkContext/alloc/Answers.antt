@@ -1,8 +1,6 @@
-use Rattle.std.proofs.Common.{◌≡◌, length, sym, ◌∙◌, subst, rules}
-use Rattle.list_laws.specs.Outcomes.{always_err}
-use Rattle.chunk_layout.specs.Every.{Every}
-use Rattle.chunk_layout.specs.Pieces.{Piece}
-use Rattle.chunk_contexts.specs.Rooms.{over_most}
+use Rattle.std.proofs.Common.{◌≡◌, length, sym, ◌∙◌, subst, rules, arith}
+use Rattle.chunk_contexts.proofs.Words.{Every, Piece, over_most}
+use Rattle.chunk_contexts.proofs.Laws.{always_err, common_steps, nat_tests}
 use Rattle.chunk_contexts.specs.Slab.{SlabState}
 use Rattle.chunk_contexts.proofs.Content.{adding}
 use Rattle.chunk_contexts.proofs.SlabViews.{admitted-size, refused-size, refused-memory, served}
@@ -36,7 +34,4 @@ invariant_of-self c =
     record { chunks = told.chunks; sizes = subst (λ (s : SlabState). Every (λ (p : Piece). length p.bytes ≡ s.size) s.chunks) (sym told.refused.0) c.self.invariant.sizes }
 
 pub alloc-requires : goal.alloc-requires
-alloc-requires c = record {
-  chunks = c.self.invariant.chunks;
-  size = admitted-size (over_most (length c.args.bytes.now)) (length c.args.bytes.now) c.self.inside.inner.size c.in_ok-check_size.ensures;
-}
+alloc-requires c = grind (arith, nat_tests, common_steps)

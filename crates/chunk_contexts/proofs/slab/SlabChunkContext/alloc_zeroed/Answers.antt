@@ -1,11 +1,6 @@
 use Rattle.std.proofs.Common.{◌≡◌, length, sym, ap, ◌∙◌, subst, rules}
-use Rattle.list_laws.specs.Outcomes.{always_err}
-use Rattle.block_memory.specs.Cells.{zeros}
-use Rattle.block_memory.specs.CellLaws.{length-zeros}
-use Rattle.chunk_layout.specs.Every.{Every}
-use Rattle.chunk_layout.specs.Pieces.{Piece}
-use Rattle.chunk_contexts.specs.Chunks.{live, chunk_of, Adds}
-use Rattle.chunk_contexts.specs.Rooms.{over_most, rounded}
+use Rattle.chunk_contexts.proofs.Words.{zeros, Every, Piece, live, chunk_of, Adds, over_most, rounded}
+use Rattle.chunk_contexts.proofs.Laws.{always_err, length-zeros}
 use Rattle.chunk_contexts.specs.Slab.{SlabState, slab_of, slab_taken}
 use Rattle.chunk_contexts.proofs.Content.{adding}
 use Rattle.chunk_contexts.proofs.SlabViews.{admitted-size, refused-size, refused-memory, served}

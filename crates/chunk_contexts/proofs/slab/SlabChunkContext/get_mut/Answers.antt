@@ -1,9 +1,6 @@
-use Rattle.std.proofs.Common.{◌≡◌, length, refl, sym, ap, ◌∙◌, subst, rules}
-use Rattle.chunk_layout.specs.Every.{Every}
-use Rattle.chunk_layout.specs.Pieces.{Piece, place_of, rewritten}
-use Rattle.chunk_layout.specs.Lends.{layout_with}
-use Rattle.chunk_layout.specs.declared.place.Place.{Place}
-use Rattle.chunk_contexts.specs.Chunks.{live}
+use Rattle.chunk_contexts.proofs.Laws.{common_steps, nat_tests}
+use Rattle.std.proofs.Common.{◌≡◌, length, refl, sym, ap, ◌∙◌, subst, rules, arith}
+use Rattle.chunk_contexts.proofs.Words.{Every, Piece, place_of, rewritten, layout_with, Place, live}
 use Rattle.chunk_contexts.specs.Slab.{SlabState, slab_wrote}
 use Rattle.chunk_contexts.specs.SlabFields.{AreFields}
 use Rattle.chunk_contexts.proofs.Content.{rewriting}
@@ -13,9 +10,7 @@ use Rattle.chunk_contexts.proofs.SlabViews.{view-here, asked-there, asked-len, a
 use Rattle.chunk_contexts.proofs.slab.SlabChunkContext.get_mut.Goals as goal
 
 pub get_mut-requires : goal.get_mut-requires
-get_mut-requires c =
-    let x = c.self.inside in let ok = c.self.invariant in let now = c.args.self.now in
-    record { there = asked-there x ok now c.self.view_is c.args.name c.requires _ c.place.ensures; len = asked-len x ok now c.self.view_is c.args.name c.requires _ c.place.ensures }
+get_mut-requires c = grind (arith, nat_tests, common_steps, asked-there, asked-len)
 
 pub invariant_of-self-lent : goal.invariant_of-self-lent
 invariant_of-self-lent c = λ w.

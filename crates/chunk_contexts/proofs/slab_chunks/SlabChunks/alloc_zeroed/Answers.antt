@@ -1,8 +1,6 @@
 use Rattle.std.proofs.Common.{ℕ, true, sym, ap, ◌∙◌, arith, rules}
-use Rattle.block_memory.specs.Cells.{zeros}
-use Rattle.block_memory.specs.CellLaws.{length-zeros}
-use Rattle.chunk_layout.specs.Pieces.{put_at}
-use Rattle.chunk_layout.specs.declared.place.ChunkName.{ChunkName}
+use Rattle.chunk_contexts.proofs.Words.{zeros, put_at, ChunkName}
+use Rattle.chunk_contexts.proofs.Laws.{length-zeros}
 use Rattle.chunk_contexts.specs.Slab.{slab_of}
 use Rattle.chunk_contexts.proofs.SlabStates.{made-there, made-size, made-room, written}
 use Rattle.chunk_contexts.proofs.slab_chunks.SlabChunks.alloc_zeroed.Goals as goal

@@ -1,23 +1,15 @@
-use Rattle.std.proofs.Common.{◌≡◌, ◌<◌, ℕ, None, get_or, sym, subst, [], true, false, ap, arith}
-use Rattle.list_laws.specs.Outcomes.{always_err}
-use Rattle.chunk_layout.specs.Pieces.{Piece, total}
-use Rattle.chunk_contexts.specs.Rooms.{rounded}
-use Rattle.chunk_contexts.specs.Slab.{SlabState, slab_of, slab_grows, has_spare}
+use Rattle.std.proofs.Common.{◌≡◌, ◌<◌, false, arith}
+use Rattle.chunk_contexts.proofs.Laws.{always_err, common_steps, nat_tests}
+use Rattle.chunk_contexts.specs.Slab.{slab_of, slab_grows, has_spare}
 use Rattle.chunk_contexts.proofs.SlabMoves.{spare-unmarked, spare-marked}
 use Rattle.chunk_contexts.proofs.SlabStates.{taken-spare, grows-none, grows-block, taken-new, grown-total}
 use Rattle.chunk_contexts.proofs.slab_chunks.SlabChunks.claim.Goals as goal
 
 pub returns-in-Some-clause-taken : goal.returns-in-Some-clause-taken
-returns-in-Some-clause-taken c =
-    let s = c.args.self.now in let p : Piece = record { place = c.take.result; room = rounded s.size; is_live = true; bytes = [] } in
-    taken-spare (slab_of s) p (spare-marked s.size s.per s.layout s.blocks.items s.spare c.requires.chunks c.in-Some.block c.in-Some.ensures.some.1) (slab_of c.take.new.self) c.take.ensures.taken
+returns-in-Some-clause-taken c = grind (arith, nat_tests, taken-spare, spare-marked)
 
 pub returns-in-Some-clause-grown : goal.returns-in-Some-clause-grown
-returns-in-Some-clause-grown c =
-    let s = c.args.self.now in let p : Piece = record { place = c.take.result; room = rounded s.size; is_live = true; bytes = [] } in
-    let same = ap (λ (z : SlabState). total z.blocks) c.take.ensures.taken in
-    let none = grows-none (slab_of s) p (spare-marked s.size s.per s.layout s.blocks.items s.spare c.requires.chunks c.in-Some.block c.in-Some.ensures.some.1) in
-    omega (arith, same, none)
+returns-in-Some-clause-grown c = grind (arith, nat_tests, grows-none, spare-marked)
 
 pub returns-in_err-block-clause-refused : goal.returns-in_err-block-clause-refused
 returns-in_err-block-clause-refused c =
@@ -27,10 +19,7 @@ returns-in_err-block-clause-refused c =
     always_err c.from_residual.result (c.in_err-block.ensures.refused, grows)
 
 pub returns-clause-taken : goal.returns-clause-taken
-returns-clause-taken c =
-    let s = c.args.self.now in
-    let spare : has_spare (slab_of s) ≡ false = spare-unmarked s.size s.per s.layout s.blocks.items s.spare c.requires.chunks c.in_default.ensures.none in
-    taken-new (slab_of s) spare (slab_of c.grow.new.self) (slab_of c.take-2.new.self) c.in_ok-block.block c.in_ok-block.ensures.grown c.take-2.result c.take-2.ensures.block c.take-2.ensures.taken
+returns-clause-taken c = grind (arith, nat_tests, spare-unmarked, taken-new)
 
 pub returns-clause-grown : goal.returns-clause-grown
 returns-clause-grown c =
@@ -39,12 +28,7 @@ returns-clause-grown c =
     grown-total (slab_of s) spare (slab_of c.grow.new.self) (slab_of c.take-2.new.self) c.in_ok-block.block c.in_ok-block.ensures.grown c.take-2.result c.take-2.ensures.block c.take-2.ensures.taken c.in_ok-block.ensures.vacant
 
 pub returns-in-Some-clause-lies : goal.returns-in-Some-clause-lies
-returns-in-Some-clause-lies c = λ grows.
-    let s = c.args.self.now in let p : Piece = record { place = c.take.result; room = rounded s.size; is_live = true; bytes = [] } in
-    let none = grows-none (slab_of s) p (spare-marked s.size s.per s.layout s.blocks.items s.spare c.requires.chunks c.in-Some.block c.in-Some.ensures.some.1) in
-    absurd (omega (arith, grows, none))
+returns-in-Some-clause-lies c = grind (arith, nat_tests, grows-none, spare-marked)
 
 pub returns-clause-lies : goal.returns-clause-lies
-returns-clause-lies c _ =
-    let s = c.args.self.now in
-    subst (λ (k : ℕ). get_or (slab_of s).blocks k None ≡ None) (sym c.take-2.ensures.block) c.in_ok-block.ensures.vacant
+returns-clause-lies c _ = grind (arith, nat_tests, common_steps)

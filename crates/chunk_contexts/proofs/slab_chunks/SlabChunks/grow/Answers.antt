@@ -1,5 +1,5 @@
 use Rattle.std.proofs.Common.{ℕ, ap, ◌∙◌, arith}
-use Rattle.chunk_layout.specs.Pieces.{Layout, with_block}
+use Rattle.chunk_contexts.proofs.Words.{Layout, with_block}
 use Rattle.chunk_contexts.specs.Slab.{slab_block}
 use Rattle.chunk_contexts.proofs.SlabMoves.{slab-longer, slab-grown}
 use Rattle.chunk_contexts.proofs.slab_chunks.SlabChunks.grow.Goals as goal

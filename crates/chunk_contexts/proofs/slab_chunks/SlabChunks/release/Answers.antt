@@ -1,12 +1,7 @@
 use Rattle.std.proofs.Common.{◌≡◌, ◌+◌, ◌-◌, ◌<◌, true, false, None, length, get_or, sym, ap, ◌∙◌, subst, arith}
-use Rattle.std.specs.Prelude.{◌==◌}
-use Rattle.std.proofs.lemmas.Bool.{cond-true, cond-false, eq-eqb, ne_eqb}
-use Rattle.std.proofs.lemmas.List.{get_or_read}
-use Rattle.chunk_layout.specs.Pieces.{Layout, without, put_at}
-use Rattle.chunk_layout.specs.declared.place.Place.{Place}
-use Rattle.chunk_contexts.specs.Chunks.{live}
+use Rattle.chunk_contexts.proofs.Words.{◌==◌, Layout, without, put_at, Place, live, link_bytes}
+use Rattle.chunk_contexts.proofs.Laws.{cond-true, cond-false, eq-eqb, ne_eqb, get_or_read}
 use Rattle.chunk_contexts.specs.Generation.{in_block}
-use Rattle.chunk_layout.specs.Links.{link_bytes}
 use Rattle.chunk_contexts.specs.Slab.{no_block, IsSlab}
 use Rattle.chunk_contexts.specs.declared.slab_chunks.SlabBlock.{SlabBlock}
 use Rattle.chunk_contexts.specs.declared.slab_chunks.SlabChunks.{SlabChunks}

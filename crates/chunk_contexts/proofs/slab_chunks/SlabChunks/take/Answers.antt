@@ -1,8 +1,6 @@
 use Rattle.std.proofs.Common.{◌≡◌, ◌≢◌, ◌+◌, ◌<◌, ◌≤◌, ℕ, List, Bool, true, false, Option, None, length, get_or, refl, sym, ap, ◌∙◌, subst, arith}
-use Rattle.std.specs.Prelude.{IsTrue, is_some, nat_lt, ◌==◌, ◌&&◌}
-use Rattle.std.proofs.lemmas.Bool.{cond-true, cond-false, eq-eqb, ne_eqb, lt-ltb, le-ltb}
-use Rattle.std.proofs.lemmas.List.{get_or_read}
-use Rattle.chunk_layout.specs.Pieces.{Layout}
+use Rattle.chunk_contexts.proofs.Words.{IsTrue, is_some, nat_lt, ◌==◌, ◌&&◌, Layout}
+use Rattle.chunk_contexts.proofs.Laws.{cond-true, cond-false, eq-eqb, ne_eqb, lt-ltb, le-ltb, get_or_read, common_steps, nat_tests}
 use Rattle.chunk_contexts.specs.Slab.{no_block, IsSlabLayout, IsEntry, IsSlab}
 use Rattle.chunk_contexts.specs.declared.slab_chunks.SlabBlock.{SlabBlock}
 use Rattle.chunk_contexts.proofs.SlabMoves.{slab-set, marked-there, marked-few, there-low}
@@ -33,36 +31,17 @@ module _ (size count : ℕ) (l : Layout) (kept : List SlabBlock) (marked : List 
       (marks k ∙ cond-true (k == k) false (get_or marked k false) (eq-eqb k k refl) ∙ sym (ap (λ (b : Bool). b && nat_lt e.live count) there-still ∙ le-ltb e.live count full))
       (λ j ne. marks j ∙ cond-false (j == k) false (get_or marked j false) (ne_eqb j k ne))
 
--- a block with a free chunk has its place
-block-low : (size count : ℕ) (l : Layout) (kept : List SlabBlock) (marked : List Bool) → IsSlab size count l kept marked → (k : ℕ) → get_or marked k false ≡ true → k < length kept
-block-low size count l kept marked is k spare = omega (arith, there-low size count l kept marked is k (marked-there size count l kept marked is k spare), is.long)
-
 pub index-requires : goal.index-requires
-index-requires c =
-    let s = c.args.self.now in
-    omega (arith, block-low s.size s.per s.layout s.blocks.items s.spare c.requires.chunks c.args.block c.requires.spare, s.blocks.ok.0)
+index-requires c = grind (arith, nat_tests, common_steps)
 
 pub take_chunk-place-requires : goal.take_chunk-place-requires
-take_chunk-place-requires c =
-    let s = c.args.self.now in let is = c.requires.chunks in let block = c.args.block in
-    let was = get_or_read s.blocks.items block c.index.result.now (block-low s.size s.per s.layout s.blocks.items s.spare is block c.requires.spare) c.index.ensures no_block in
-    record {
-      layout = is.layout;
-      small = is.small;
-      there = marked-there s.size s.per s.layout s.blocks.items s.spare is block c.requires.spare;
-      entry = subst (IsEntry s.layout.pieces block) (sym was) (is.entries block);
-      spare = omega (arith, marked-few s.size s.per s.layout s.blocks.items s.spare is block c.requires.spare, is.per, ap (λ (b : SlabBlock). b.live) was);
-    }
+take_chunk-place-requires c = grind (arith, nat_tests, common_steps)
 
 pub index_mut-requires : goal.index_mut-requires
-index_mut-requires c =
-    let s = c.args.self.now in
-    omega (arith, block-low s.size s.per s.layout s.blocks.items s.spare c.requires.chunks c.args.block c.requires.spare, s.blocks.ok.0)
+index_mut-requires c = grind (arith, nat_tests, common_steps)
 
 pub unmark-requires : goal.unmark-requires
-unmark-requires c =
-    let s = c.args.self.now in let is = c.requires.chunks in
-    omega (arith, there-low s.size s.per s.layout s.blocks.items s.spare is c.args.block (marked-there s.size s.per s.layout s.blocks.items s.spare is c.args.block c.requires.spare), is.long_marks)
+unmark-requires c = grind (arith, nat_tests, common_steps)
 
 pub returns-then-entry-self-clause-chunks : goal.returns-then-entry-self-clause-chunks
 returns-then-entry-self-clause-chunks c =
@@ -70,12 +49,7 @@ returns-then-entry-self-clause-chunks c =
     some-left s.size s.per s.layout s.blocks.items s.spare c.requires.chunks c.args.block c.requires.spare c.take_chunk-place.new.layout c.take_chunk-place.new.entry t.layout t.entry t.others t.blocks c.if-entry-self.true
 
 pub returns-clause-chunks : goal.returns-clause-chunks
-returns-clause-chunks c =
-    let s = c.args.self.now in let t = c.take_chunk-place.ensures in
-    let k-low : c.args.block < length s.blocks.items = low s.size s.per s.layout s.blocks.items s.spare c.requires.chunks c.args.block c.requires.spare c.take_chunk-place.new.layout c.take_chunk-place.new.entry t.layout t.entry t.others t.blocks in
-    let was = get_or_read s.blocks.items c.args.block c.index.result.now k-low c.index.ensures no_block in
-    none-left s.size s.per s.layout s.blocks.items s.spare c.requires.chunks c.args.block c.requires.spare c.take_chunk-place.new.layout c.take_chunk-place.new.entry t.layout t.entry t.others t.blocks c.if-entry-self.false
-    (t.count ∙ ap (λ (b : SlabBlock). b.live + 1) was) c.unmark.new.self c.unmark.ensures.long c.unmark.ensures.marked
+returns-clause-chunks c = grind (arith, nat_tests, get_or_read, none-left)
 
 pub returns-then-entry-self-clause-taken : goal.returns-then-entry-self-clause-taken
 returns-then-entry-self-clause-taken c = λ i. record { size = c.args.self.now.size; chunks = c.take_chunk-place.ensures.taken i; blocks = c.take_chunk-place.ensures.blocks i }
