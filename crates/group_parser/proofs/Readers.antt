@@ -5,14 +5,12 @@ use Rattle.query_tokens.specs.Words.{Lexeme}
 use Rattle.query_checks.specs.Forms as form
 use Rattle.query_grammar.specs.Terminals.{is_word, is_sign}
 use Rattle.query_grammar.specs.Grammar.{Named}
-use Rattle.query_grammar.specs.Queries.{most_open}
-use Rattle.query_grammar.specs.Reading.{Read, Fault, Unexpected, Too_deep, Inner, ◌>>=◌, after, expect, enclosed_at, cmp_at, tested, test_at, not_at, joined, and_at, or_at, condition_at, conditions}
-use Rattle.query_grammar.specs.Lemmas.Locality.{condition_step, tested_stays, joined_stays, not_stays, and_stays}
+use Rattle.query_grammar.specs.Reading.{Read, Fault, Unexpected, Too_deep, Inner, ◌>>=◌, after, expect, enclosed_at, test_at, not_at}
 use Rattle.std.proofs.lemmas.List.{map_push}
 use Rattle.query_tokens.specs.declared.word.Symbol.TheVariants as symbols
 use Rattle.query_grammar.specs.Whole.{list_at}
 use Rattle.query_grammar.specs.Lemmas.Alike.{Stays}
-use Rattle.query_grammar.specs.Lemmas.Chains.{Goes, chain_done, chain_goes, chain_fails, Lists, list_begins, list_goes, list_stops, list_done}
+use Rattle.query_grammar.specs.Lemmas.Chains.{Lists, list_begins, list_goes, list_stops, list_done}
 use Rattle.group_parser.specs.declared.fault.ReadError.{ReadError}
 use Rattle.group_parser.specs.declared.fault.ReadError.TheVariants as errors
 use Rattle.group_parser.specs.Views.{Fails, Gives}
@@ -78,75 +76,6 @@ not_fails inner room n whole ts f e h = e ∙ (ap (nots n) h ∙ nots_fail n f)
 pub not_reads : (inner : Inner) (room n : ℕ) (whole ts : List Lexeme) (x y : Named) (rest : List Lexeme) → not_at inner room whole ≡ nots n (test_at inner room ts) → test_at inner room ts ≡ Ok (x, rest)
     → y ≡ negated n x → not_at inner room whole ≡ Ok (y, rest)
 not_reads inner room n whole ts x y rest e h same = e ∙ (ap (nots n) h ∙ (nots_read n x rest ∙ (λ i. Ok (sym same i, rest))))
-
--- ---- chains
-
-abbrev pub or_step : ℕ → Named → List Lexeme → Read Named
-or_step room = joined form.Or (and_at (conditions most_open) room)
-
-abbrev pub and_step : ℕ → Named → List Lexeme → Read Named
-and_step room = joined form.And (not_at (conditions most_open) room)
-
-pub or_begins : (room : ℕ) (ts : List Lexeme) (x : Named) (rest : List Lexeme) → and_at (conditions most_open) room ts ≡ Ok (x, rest) → Goes (codes "or") (or_step room) (condition_at most_open room ts) x rest
-unfolding or_at
-or_begins room ts x rest e = record { on = condition_step most_open room ts ∙ rw e refl }
-
-pub or_begins_not : (room : ℕ) (ts : List Lexeme) (f : Fault) → and_at (conditions most_open) room ts ≡ Err f → condition_at most_open room ts ≡ Err f
-unfolding or_at
-or_begins_not room ts f e = condition_step most_open room ts ∙ rw e refl
-
-pub and_begins : (room : ℕ) (ts : List Lexeme) (x : Named) (rest : List Lexeme) → not_at (conditions most_open) room ts ≡ Ok (x, rest) → Goes (codes "and") (and_step room) (and_at (conditions most_open) room ts) x rest
-unfolding and_at
-and_begins room ts x rest e = record { on = rw e refl }
-
-pub and_begins_not : (room : ℕ) (ts : List Lexeme) (f : Fault) → not_at (conditions most_open) room ts ≡ Err f → and_at (conditions most_open) room ts ≡ Err f
-unfolding and_at
-and_begins_not room ts f e = rw e refl
-
-pub test_begins : (room : ℕ) (ts : List Lexeme) (x : Named) (rest : List Lexeme) → cmp_at (conditions most_open) room ts ≡ Ok (x, rest) → Goes (codes "is") tested (test_at (conditions most_open) room ts) x rest
-unfolding test_at
-test_begins room ts x rest e = record { on = rw e refl }
-
-pub test_begins_not : (room : ℕ) (ts : List Lexeme) (f : Fault) → cmp_at (conditions most_open) room ts ≡ Err f → test_at (conditions most_open) room ts ≡ Err f
-unfolding test_at
-test_begins_not room ts f e = rw e refl
-
-joined_reads : (join : Named → Named → Named) (operand : List Lexeme → Read Named) (x y : Named) (ts rest : List Lexeme) → operand ts ≡ Ok (y, rest) → joined join operand x ts ≡ Ok (join x y, rest)
-joined_reads join operand x y ts rest e = rw e refl
-
-joined_fails : (join : Named → Named → Named) (operand : List Lexeme → Read Named) (x : Named) (f : Fault) (ts : List Lexeme) → operand ts ≡ Err f → joined join operand x ts ≡ Err f
-joined_fails join operand x f ts e = rw e refl
-
-pub or_goes : (room : ℕ) (whole : Read Named) (x y z : Named) (rest behind next : List Lexeme) → Goes (codes "or") (or_step room) whole x rest → Some behind ≡ after (is_word (codes "or")) rest
-    → and_at (conditions most_open) room behind ≡ Ok (y, next) → z ≡ form.Or x y → Goes (codes "or") (or_step room) whole z next
-or_goes room whole x y z rest behind next g e h same =
-    rw same (chain_goes (codes "or") (or_step room) (joined_stays form.Or (and_at (conditions most_open) room) (and_stays most_open room)) whole x (form.Or x y) rest behind next g (sym e)
-    (joined_reads form.Or (and_at (conditions most_open) room) x y behind next h))
-
-pub or_stops : (room : ℕ) (whole : Read Named) (x : Named) (f : Fault) (rest behind : List Lexeme) → Goes (codes "or") (or_step room) whole x rest → Some behind ≡ after (is_word (codes "or")) rest
-    → and_at (conditions most_open) room behind ≡ Err f → whole ≡ Err f
-or_stops room whole x f rest behind g e h = chain_fails (codes "or") (or_step room) whole x f rest behind g (sym e) (joined_fails form.Or (and_at (conditions most_open) room) x f behind h)
-
-pub and_goes : (room : ℕ) (whole : Read Named) (x y z : Named) (rest behind next : List Lexeme) → Goes (codes "and") (and_step room) whole x rest → Some behind ≡ after (is_word (codes "and")) rest
-    → not_at (conditions most_open) room behind ≡ Ok (y, next) → z ≡ form.And x y → Goes (codes "and") (and_step room) whole z next
-and_goes room whole x y z rest behind next g e h same =
-    rw same (chain_goes (codes "and") (and_step room) (joined_stays form.And (not_at (conditions most_open) room) (not_stays most_open room)) whole x (form.And x y) rest behind next g (sym e)
-    (joined_reads form.And (not_at (conditions most_open) room) x y behind next h))
-
-pub and_stops : (room : ℕ) (whole : Read Named) (x : Named) (f : Fault) (rest behind : List Lexeme) → Goes (codes "and") (and_step room) whole x rest → Some behind ≡ after (is_word (codes "and")) rest
-    → not_at (conditions most_open) room behind ≡ Err f → whole ≡ Err f
-and_stops room whole x f rest behind g e h = chain_fails (codes "and") (and_step room) whole x f rest behind g (sym e) (joined_fails form.And (not_at (conditions most_open) room) x f behind h)
-
-pub test_goes : (whole : Read Named) (x y z : Named) (rest behind next : List Lexeme) → Goes (codes "is") tested whole x rest → Some behind ≡ after (is_word (codes "is")) rest
-    → tested x behind ≡ Ok (y, next) → z ≡ y → Goes (codes "is") tested whole z next
-test_goes whole x y z rest behind next g e h same = rw same (chain_goes (codes "is") tested tested_stays whole x y rest behind next g (sym e) h)
-
-pub test_stops : (whole : Read Named) (x : Named) (f : Fault) (rest behind : List Lexeme) → Goes (codes "is") tested whole x rest → Some behind ≡ after (is_word (codes "is")) rest
-    → tested x behind ≡ Err f → whole ≡ Err f
-test_stops whole x f rest behind g e h = chain_fails (codes "is") tested whole x f rest behind g (sym e) h
-
-pub chain_ends : (operator : List ℕ) (step : Named → List Lexeme → Read Named) (whole : Read Named) (x : Named) (rest : List Lexeme) → Goes operator step whole x rest → None ≡ after (is_word operator) rest → whole ≡ Ok (x, rest)
-chain_ends operator step whole x rest g e = chain_done operator step whole x rest g (sym e)
 
 -- ---- parentheses
 

@@ -1,14 +1,15 @@
 //! Conditions, from the operators that bind the least to those that bind the most.
 
 ghost use Rattle.std.specs.Prelude.{◌≡◌, ◌<◌, ◌≤◌, IfOk, length, ℕ};
+ghost use Rattle.query_grammar.specs.Grammar.{Named};
 ghost use Rattle.query_grammar.specs.Queries.{most_open};
-ghost use Rattle.query_grammar.specs.Reading.{cmp_at, test_at, not_at, and_at, condition_at, conditions};
+ghost use Rattle.query_grammar.specs.Reading.{cmp_at, test_behind, tested, test_at, not_at, and_at, condition_at, conditions};
 ghost use Rattle.query_checks.specs.Forms as form;
 ghost use Rattle.query_checks.specs.Operators.{comparison_of, test_of};
 ghost use Rattle.group_parser.specs.Views.{lexemes, condition_read, test_form, Gives};
 ghost use Rattle.group_parser.specs.Nots.{nots, negated};
 
-use crate::cursor::{after_comparison, after_word, is_test};
+use crate::cursor::{after_comparison, after_word, looked_for};
 use crate::fault::Read;
 use crate::operands::operand;
 use having_filter::{Comparison, Cond, IsTest};
@@ -82,6 +83,19 @@ fn comparison<'a>(alloc: Global, room: usize, tokens: &'a [Token]) -> Read<'a, C
     Ok((compared(alloc, comparison, left, right)?, rest))
 }
 
+/// Whether NOT stands behind an IS, and the tokens behind it.
+#[tactic(auto, unfolding(query_grammar::specs::Reading::tested))]
+fn is_not(tokens: &[Token]) -> (bool, &[Token])
+    ensures read { (operand : Named) → tested operand (lexemes tokens.now)
+        ≡ test_behind result.0 operand (lexemes result.1.now) }
+    ensures shorter { length result.1.now ≤ length tokens.now }
+{
+    match after_word(tokens, "not") {
+        Some(behind) => (true, behind),
+        None => (false, tokens),
+    }
+}
+
 /// A comparison, with any number of IS tests behind it.
 #[cycle(conditions)]
 fn test<'a>(alloc: Global, room: usize, tokens: &'a [Token]) -> Read<'a, Cond<String>>
@@ -91,7 +105,8 @@ fn test<'a>(alloc: Global, room: usize, tokens: &'a [Token]) -> Read<'a, Cond<St
 {
     let (mut read, mut rest) = comparison(alloc, room, tokens)?;
     while let Some(behind) = after_word(rest, "is") {
-        let ((test, negated), next) = is_test(behind)?;
+        let (negated, behind) = is_not(behind);
+        let (test, next) = looked_for(behind)?;
         read = tested(alloc, test, negated, read)?;
         rest = next;
     }

@@ -1,13 +1,11 @@
 //! Single tokens at the front of the tokens that are left.
 
 ghost use Rattle.std.specs.Prelude.{◌≡◌, ◌<◌, ◌==◌, option_map, IfSome, IfOk, length, string_bytes};
-ghost use Rattle.grouping_model.specs.Condition as model;
 ghost use Rattle.query_tokens.specs.Words.{lexeme_of};
 ghost use Rattle.query_checks.specs.Operators.{comparison_of, test_of};
 ghost use Rattle.query_grammar.specs.Terminals.{is_word, is_sign, symbol_number};
-ghost use Rattle.query_grammar.specs.Reading.{after, after_comparison, expect, name_at, looked_for, tested};
-ghost use Rattle.query_grammar.specs.Grammar.{Named};
-ghost use Rattle.group_parser.specs.Views.{lexemes, Gives, test_form};
+ghost use Rattle.query_grammar.specs.Reading.{after, after_comparison, expect, name_at, looked_for};
+ghost use Rattle.group_parser.specs.Views.{lexemes, Gives};
 
 use crate::fault::{Read, ReadError};
 use having_filter::{Comparison, IsTest};
@@ -125,7 +123,7 @@ pub(crate) fn after_comparison(tokens: &[Token]) -> Option<(Comparison, &[Token]
 
 /// What an IS test looks for.
 #[tactic(auto, unfolding(query_grammar::specs::Reading::looked_for))]
-fn looked_for(tokens: &[Token]) -> Read<'_, IsTest>
+pub(crate) fn looked_for(tokens: &[Token]) -> Read<'_, IsTest>
     ensures read { Gives (λ x. (test_of x.0, lexemes x.1.now)) result
         (looked_for (lexemes tokens.now)) }
     ensures shorter { IfOk result (λ x. length x.1.now < length tokens.now) }
@@ -143,24 +141,4 @@ fn looked_for(tokens: &[Token]) -> Read<'_, IsTest>
         return Ok((IsTest::IsUnknown, rest));
     }
     Err(ReadError::Unexpected(tokens.len()))
-}
-
-/// What stands behind IS: what is looked for, and whether NOT stands before it.
-#[tactic(auto, unfolding(query_grammar::specs::Reading::tested))]
-pub(crate) fn is_test(tokens: &[Token]) -> Read<'_, (IsTest, bool)>
-    ensures read { (operand : Named) →
-        Gives (λ x. (test_form (test_of x.0.0) x.0.1 operand, lexemes x.1.now)) result
-        (tested operand (lexemes tokens.now)) }
-    ensures shorter { IfOk result (λ x. length x.1.now < length tokens.now) }
-{
-    match after_word(tokens, "not") {
-        Some(behind) => {
-            let (test, rest) = looked_for(behind)?;
-            Ok(((test, true), rest))
-        }
-        None => {
-            let (test, rest) = looked_for(tokens)?;
-            Ok(((test, false), rest))
-        }
-    }
 }

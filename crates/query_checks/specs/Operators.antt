@@ -44,8 +44,8 @@ line_of model.More = line 4 symbols.More
 line_of model.At_least = line 5 symbols.AtLeast
 
 -- how tightly a comparison binds, which is the same for all (PostgreSQL 17, 4.1.6; the number is our own)
-abbrev pub comparison_level : ℕ
-comparison_level = 5
+abbrev pub comparison_level : model.Comparison → ℕ
+comparison_level comparison = 5
 
 -- numbers that tell comparisons apart, and the comparison of a number
 abbrev pub comparison_number : model.Comparison → ℕ

@@ -41,7 +41,7 @@ call_text function (Some name) = function_name function ++ codes "(" ++ name ++ 
 abbrev pub binary_level : Binary_operator → ℕ
 binary_level Disjunction = 1
 binary_level Conjunction = 2
-binary_level (Comparing comparison) = comparison_level
+binary_level (Comparing comparison) = comparison_level comparison
 
 abbrev pub unary_level : Unary_operator → ℕ
 unary_level Negation = 3

@@ -13,7 +13,6 @@ ghost use Rattle.query_checks.specs.Sameness.{first_of_each};
 ghost use Rattle.query_checks.specs.Spelling.{call_text, level, operand, spelled, own_name, kept_alias, item_text, parted, clause_text, keys_text, written_text, direction_text, term_text, order_text, spelling};
 
 use crate::condition::{AggCall, Cond, Item, RawQuery};
-use crate::operators::Comparison;
 use crate::order::OrderTerm;
 use agg_protocol::AggKind;
 use itoa::Buffer;
@@ -28,7 +27,7 @@ fn level(condition: &Cond<String>) -> u64
         Cond::And(..) => 2,
         Cond::Not(_) => 3,
         Cond::Is { .. } => 4,
-        Cond::Compare(..) => Comparison::LEVEL,
+        Cond::Compare(comparison, ..) => comparison.level(),
         _ => 6,
     }
 }
@@ -157,8 +156,8 @@ fn push_condition(text: &mut String, condition: &Cond<String>) -> Result<(), All
             push_behind(text, " AND ", 3, d)
         }
         Cond::Compare(comparison, c, d) => {
-            push_operand(text, Comparison::LEVEL + 1, c)?;
-            push_behind(text, comparison.text(), Comparison::LEVEL + 1, d)
+            push_operand(text, comparison.level() + 1, c)?;
+            push_behind(text, comparison.text(), comparison.level() + 1, d)
         }
         Cond::Is {
             test,

@@ -4,6 +4,8 @@ pub mod Steps
 pub mod Sound
 pub mod Alike
 pub mod Locality
+pub mod Is_tests
+pub mod Logic
 pub mod Terms
 pub mod Whole_sound
 pub mod Complete

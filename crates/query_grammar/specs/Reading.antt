@@ -150,15 +150,15 @@ looked_for_among (t ∷ tests) ts = choose (after (is_word (test_word t)) ts) (�
 unfoldable pub looked_for : List Lexeme → Read Test
 looked_for ts = looked_for_among all_tests ts
 
+-- an IS test of a condition, or an IS NOT test where it is negated
+abbrev pub test_behind : Bool → Named → List Lexeme → Read Named
+test_behind negated x ts = do
+  t ← looked_for ts
+  Ok (form.Unary (form.Testing t.0 negated) x, t.1)
+
 -- [NOT] and what is looked for, behind an IS
 unfoldable pub tested : Named → List Lexeme → Read Named
-tested x ts = choose (after (is_word (codes "not")) ts)
-    (λ rest. do
-      t ← looked_for rest
-      Ok (form.Is_not t.0 x, t.1))
-    (do
-      t ← looked_for ts
-      Ok (form.Is t.0 x, t.1))
+tested x ts = choose (after (is_word (codes "not")) ts) (test_behind true x) (test_behind false x ts)
 
 -- any number of steps behind a condition, each behind a word and from the condition that was read so far to the next. Each
 -- takes a token, so `turns` is enough where it is at least the number of tokens

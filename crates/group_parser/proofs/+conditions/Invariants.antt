@@ -1,10 +1,7 @@
 use Rattle.std.proofs.Common.{◌<◌, length, ◌+◌, ◌*◌}
-use Rattle.std.specs.Prelude.{codes}
 use Rattle.query_grammar.specs.Queries.{most_open}
-use Rattle.query_grammar.specs.Reading.{tested, test_at, and_at, condition_at, conditions}
-use Rattle.query_grammar.specs.Lemmas.Chains.{Goes}
+use Rattle.query_grammar.specs.Lemmas.Complete.{Ors, Ands, Tests}
 use Rattle.group_parser.specs.Views.{lexemes, condition_read}
-use Rattle.group_parser.proofs.Readers.{or_step, and_step}
 use Rattle.group_parser.proofs.+conditions.Given as goal
 
 abbrev pub decreases-conditions::comparison : goal.decreases-conditions::comparison
@@ -43,7 +40,7 @@ decreases-operands::word_operand l = 16 * length l.tokens.now + 3
 abbrev pub invariant-conditions::condition-loop-behind :
     goal.invariant-conditions::condition-loop-behind
 invariant-conditions::condition-loop-behind l = record {
-  goes : Goes (codes "or") (or_step l.room) (condition_at most_open l.room (lexemes l.tokens)) (condition_read l.read) (lexemes l.rest);
+  goes : Ors most_open l.room (lexemes l.tokens) (condition_read l.read) (lexemes l.rest);
   shorter : length l.rest < length l.tokens;
 }
 
@@ -54,7 +51,7 @@ decreases-conditions::condition-loop-behind l = length l.rest
 abbrev pub invariant-conditions::conjunction-loop-behind :
     goal.invariant-conditions::conjunction-loop-behind
 invariant-conditions::conjunction-loop-behind l = record {
-  goes : Goes (codes "and") (and_step l.room) (and_at (conditions most_open) l.room (lexemes l.tokens)) (condition_read l.read) (lexemes l.rest);
+  goes : Ands most_open l.room (lexemes l.tokens) (condition_read l.read) (lexemes l.rest);
   shorter : length l.rest < length l.tokens;
 }
 
@@ -64,7 +61,7 @@ decreases-conditions::conjunction-loop-behind l = length l.rest
 
 abbrev pub invariant-conditions::test-loop-behind : goal.invariant-conditions::test-loop-behind
 invariant-conditions::test-loop-behind l = record {
-  goes : Goes (codes "is") tested (test_at (conditions most_open) l.room (lexemes l.tokens)) (condition_read l.read) (lexemes l.rest);
+  goes : Tests most_open l.room (lexemes l.tokens) (condition_read l.read) (lexemes l.rest);
   shorter : length l.rest < length l.tokens;
 }
 

@@ -1,14 +1,14 @@
 -- Chains and lists, as they are read in a loop: what reading the whole is, from what is still to be read.
 use Rattle.std.proofs.Common.{◌≡◌, ℕ, zero, suc, ◌≤◌, Bool, true, false, cond, List, [], ◌∷◌, ◌++◌, length, Option, Some, None, Ok, Err, refl, sym, ap, ◌∙◌, append_assoc, arith}
-use Rattle.std.proofs.lemmas.List.{append-nil}
+use Rattle.std.specs.Str.{bytes_eq}
+use Rattle.std.proofs.lemmas.List.{append-nil, length-append}
 use Rattle.query_tokens.specs.declared.word.Symbol.TheVariants as symbols
 use Rattle.query_tokens.specs.Words.{Lexeme}
 use Rattle.query_grammar.specs.Terminals.{is_word, is_sign}
-use Rattle.query_grammar.specs.Grammar.{Named}
+use Rattle.query_grammar.specs.Grammar.{Named, word}
 use Rattle.query_grammar.specs.Reading.{Read, Fault, ◌>>=◌, after, choose, chain_at}
 use Rattle.query_grammar.specs.Whole.{list_at}
 use Rattle.query_grammar.specs.Lemmas.Alike.{Within, Stays}
-use Rattle.query_grammar.specs.Lemmas.Complete.{enough_turns}
 use Rattle.std.proofs.lemmas.Bool.Decides.{nat_tests}
 use Rattle.std.proofs.lemmas.Grind.{common_steps}
 
@@ -22,6 +22,49 @@ behind_token test [] behind e = absurd cc
 behind_token test (t ∷ us) behind e = ap (λ (v : List Lexeme). suc (length v)) (one_token (test t) t us behind e)
 
 -- ---- chains
+
+pub chain_ends : (operator : List ℕ) (step : Named → List Lexeme → Read Named) (m : ℕ) (x : Named) (rest : List Lexeme) → after (is_word operator) rest ≡ None
+    → chain_at operator step m x rest ≡ Ok (x, rest)
+unfolding chain_at
+chain_ends operator step zero x rest h = refl
+chain_ends operator step (suc m) x rest h = rw h refl
+
+-- any number of turns that is enough gives the same
+next_turns : (operator : List ℕ) (step : Named → List Lexeme → Read Named) (k m n : ℕ) (r : Read Named) → Within n r
+    → ((y : Named) (us : List Lexeme) → length us ≤ n → chain_at operator step k y us ≡ chain_at operator step m y us)
+    → (r >>= λ y. chain_at operator step k y.0 y.1) ≡ (r >>= λ y. chain_at operator step m y.0 y.1)
+next_turns operator step k m n (Ok y) h e = e y.0 y.1 h
+next_turns operator step k m n (Err f) h e = refl
+
+same_turn : (operator : List ℕ) (step : Named → List Lexeme → Read Named) (k m : ℕ) (b : Bool) (x : Named) (t : Lexeme) (us : List Lexeme)
+    → (step x us >>= λ y. chain_at operator step k y.0 y.1) ≡ (step x us >>= λ y. chain_at operator step m y.0 y.1)
+    → choose (cond b (Some us) None) (λ rest. step x rest >>= λ y. chain_at operator step k y.0 y.1) (Ok (x, t ∷ us)) ≡ choose (cond b (Some us) None) (λ rest. step x rest >>= λ y. chain_at operator step m y.0 y.1) (Ok (x, t ∷ us))
+same_turn operator step k m true x t us e = e
+same_turn operator step k m false x t us e = refl
+
+enough_turns : (operator : List ℕ) (step : Named → List Lexeme → Read Named) → ((x : Named) → Stays (step x)) → (k m : ℕ) (x : Named) (ts : List Lexeme) → length ts ≤ k → length ts ≤ m
+    → chain_at operator step k x ts ≡ chain_at operator step m x ts
+unfolding chain_at
+enough_turns operator step h zero zero x ts le also = refl
+enough_turns operator step h zero (suc m) x [] le also = refl
+enough_turns operator step h zero (suc m) x (t ∷ us) le also = absurd (omega (arith, le))
+enough_turns operator step h (suc k) zero x [] le also = refl
+enough_turns operator step h (suc k) zero x (t ∷ us) le also = absurd (omega (arith, also))
+enough_turns operator step h (suc k) (suc m) x [] le also = refl
+enough_turns operator step h (suc k) (suc m) x (t ∷ us) le also =
+    same_turn operator step k m (is_word operator t) x t us
+    (next_turns operator step k m (length us) (step x us) ((h x).within us) (λ y vs short. enough_turns operator step h k m y vs (omega (arith, le, short)) (omega (arith, also, short))))
+
+-- what reading the whole is, where a chain goes on behind its front
+pub chain_goes_on : (operator : List ℕ) (step : Named → List Lexeme → Read Named) → ((x : Named) → Stays (step x)) → (ts us rest : List Lexeme) (x y : Named) (whole : List Lexeme → Read Named)
+    → bytes_eq operator operator ≡ true → step x (us ++ rest) ≡ Ok (y, rest)
+    → whole (ts ++ word operator ∷ (us ++ rest)) ≡ chain_at operator step (length (word operator ∷ (us ++ rest))) x (word operator ∷ (us ++ rest))
+    → whole ((ts ++ word operator ∷ us) ++ rest) ≡ chain_at operator step (length rest) y rest
+unfolding chain_at
+chain_goes_on operator step h ts us rest x y whole own e c =
+    let one : chain_at operator step (suc (length (us ++ rest))) x (word operator ∷ (us ++ rest)) ≡ chain_at operator step (length (us ++ rest)) y rest = rw (own, e) refl in
+    let less : length rest ≤ length (us ++ rest) = omega (arith, length-append us rest) in
+    rw (append_assoc ts (word operator ∷ us) rest) (c ∙ (one ∙ enough_turns operator step h (length (us ++ rest)) (length rest) y rest less (omega arith)))
 
 pub record Goes (operator : List ℕ) (step : Named → List Lexeme → Read Named) (whole : Read Named) (x : Named) (rest : List Lexeme) : Type 0 where
   pub on : whole ≡ chain_at operator step (length rest) x rest

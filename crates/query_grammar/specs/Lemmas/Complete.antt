@@ -1,8 +1,7 @@
 -- What is in the grammar is read.
-use Rattle.std.proofs.Common.{◌≡◌, ℕ, zero, suc, ◌≤◌, ◌<◌, Bool, true, false, cond, List, [], ◌∷◌, ◌++◌, length, Option, Some, None, Ok, Err, refl, ap, subst, ◌∙◌, append_assoc, arith}
+use Rattle.std.proofs.Common.{◌≡◌, ℕ, suc, ◌≤◌, ◌<◌, Bool, true, false, cond, List, [], ◌∷◌, ◌++◌, length, Option, Some, None, Ok, Err, refl, ap, subst, ◌∙◌, append_assoc, arith}
 use Rattle.std.specs.Prelude.{codes, is_some, if◌then◌else◌}
 use Rattle.std.specs.Str.{bytes_eq}
-use Rattle.std.proofs.lemmas.List.{length-append}
 use Rattle.query_tokens.specs.declared.word.Symbol.{Symbol}
 use Rattle.query_tokens.specs.declared.word.Symbol.TheVariants as symbols
 use Rattle.query_tokens.specs.Words.{Lexeme, Name, Integer, Text, Sign}
@@ -13,11 +12,13 @@ use Rattle.query_grammar.specs.Grammar.{Named, opening, closing, word, IsTest, I
 use Rattle.query_tokens.specs.Reserved.{is_reserved}
 use Rattle.query_checks.specs.Operators.{comparison_named, test_word}
 use Rattle.query_grammar.specs.Terminals.{function_named, is_word, is_sign, symbol_number}
-use Rattle.query_grammar.specs.Reading.{Read, Inner, ◌>>=◌, after, filter_at, is_count, argument_at, call_at, function_or_column, choose, word_at, enclosed_at, prim_at, with_rest, after_comparison, cmp_at, looked_for, tested, chain_at, test_at, not_at, joined, and_at, or_at, condition_at, conditions}
+use Rattle.query_grammar.specs.Reading.{Read, Fault, Inner, ◌>>=◌, after, filter_at, is_count, argument_at, call_at, function_or_column, word_at, enclosed_at, prim_at, with_rest, after_comparison, cmp_at, looked_for, tested, chain_at, test_at, not_at, joined, and_at, or_at, condition_at, conditions}
 use Rattle.query_grammar.specs.Grammar as grammar
-use Rattle.query_grammar.specs.Lemmas.Alike.{Within, Stays}
-use Rattle.query_grammar.specs.Lemmas.Locality.{tested_stays, joined_stays, not_stays, and_stays, condition_step}
+use Rattle.query_grammar.specs.Lemmas.Alike.{Stays}
+use Rattle.query_grammar.specs.Lemmas.Is_tests.{tested_stays}
+use Rattle.query_grammar.specs.Lemmas.Logic.{joined_stays, not_stays, and_stays, condition_step}
 use Rattle.query_grammar.specs.Lemmas.Marks.{the_word, same_bytes, the_sign}
+use Rattle.query_grammar.specs.Lemmas.Chains.{chain_ends, chain_goes_on, Goes, chain_goes, chain_fails}
 
 -- ---- what can follow
 
@@ -81,51 +82,6 @@ no_opening rest h = no_mark opening (is_sign symbols.Open) (the_sign symbols.Ope
 closing_stops : (k : ℕ) (rest : List Lexeme) → k ≤ 5 → Stops k (closing ∷ rest)
 unfolding sign_rank comparison_named
 closing_stops k rest le = record { at = le }
-
--- ---- chains
-
-chain_ends : (operator : List ℕ) (step : Named → List Lexeme → Read Named) (m : ℕ) (x : Named) (rest : List Lexeme) → after (is_word operator) rest ≡ None
-    → chain_at operator step m x rest ≡ Ok (x, rest)
-unfolding chain_at
-chain_ends operator step zero x rest h = refl
-chain_ends operator step (suc m) x rest h = rw h refl
-
--- any number of turns that is enough gives the same
-next_turns : (operator : List ℕ) (step : Named → List Lexeme → Read Named) (k m n : ℕ) (r : Read Named) → Within n r
-    → ((y : Named) (us : List Lexeme) → length us ≤ n → chain_at operator step k y us ≡ chain_at operator step m y us)
-    → (r >>= λ y. chain_at operator step k y.0 y.1) ≡ (r >>= λ y. chain_at operator step m y.0 y.1)
-next_turns operator step k m n (Ok y) h e = e y.0 y.1 h
-next_turns operator step k m n (Err f) h e = refl
-
-one_turn : (operator : List ℕ) (step : Named → List Lexeme → Read Named) (k m : ℕ) (b : Bool) (x : Named) (t : Lexeme) (us : List Lexeme)
-    → (step x us >>= λ y. chain_at operator step k y.0 y.1) ≡ (step x us >>= λ y. chain_at operator step m y.0 y.1)
-    → choose (cond b (Some us) None) (λ rest. step x rest >>= λ y. chain_at operator step k y.0 y.1) (Ok (x, t ∷ us)) ≡ choose (cond b (Some us) None) (λ rest. step x rest >>= λ y. chain_at operator step m y.0 y.1) (Ok (x, t ∷ us))
-one_turn operator step k m true x t us e = e
-one_turn operator step k m false x t us e = refl
-
-pub enough_turns : (operator : List ℕ) (step : Named → List Lexeme → Read Named) → ((x : Named) → Stays (step x)) → (k m : ℕ) (x : Named) (ts : List Lexeme) → length ts ≤ k → length ts ≤ m
-    → chain_at operator step k x ts ≡ chain_at operator step m x ts
-unfolding chain_at
-enough_turns operator step h zero zero x ts le also = refl
-enough_turns operator step h zero (suc m) x [] le also = refl
-enough_turns operator step h zero (suc m) x (t ∷ us) le also = absurd (omega (arith, le))
-enough_turns operator step h (suc k) zero x [] le also = refl
-enough_turns operator step h (suc k) zero x (t ∷ us) le also = absurd (omega (arith, also))
-enough_turns operator step h (suc k) (suc m) x [] le also = refl
-enough_turns operator step h (suc k) (suc m) x (t ∷ us) le also =
-    one_turn operator step k m (is_word operator t) x t us
-    (next_turns operator step k m (length us) (step x us) ((h x).within us) (λ y vs short. enough_turns operator step h k m y vs (omega (arith, le, short)) (omega (arith, also, short))))
-
--- what reading the whole is, where a chain goes on behind its front
-chain_goes_on : (operator : List ℕ) (step : Named → List Lexeme → Read Named) → ((x : Named) → Stays (step x)) → (ts us rest : List Lexeme) (x y : Named) (whole : List Lexeme → Read Named)
-    → bytes_eq operator operator ≡ true → step x (us ++ rest) ≡ Ok (y, rest)
-    → whole (ts ++ word operator ∷ (us ++ rest)) ≡ chain_at operator step (length (word operator ∷ (us ++ rest))) x (word operator ∷ (us ++ rest))
-    → whole ((ts ++ word operator ∷ us) ++ rest) ≡ chain_at operator step (length rest) y rest
-unfolding chain_at
-chain_goes_on operator step h ts us rest x y whole own e c =
-    let one : chain_at operator step (suc (length (us ++ rest))) x (word operator ∷ (us ++ rest)) ≡ chain_at operator step (length (us ++ rest)) y rest = rw (own, e) refl in
-    let less : length rest ≤ length (us ++ rest) = omega (arith, length-append us rest) in
-    rw (append_assoc ts (word operator ∷ us) rest) (c ∙ (one ∙ enough_turns operator step h (length (us ++ rest)) (length rest) y rest less (omega arith)))
 
 -- ---- operands without a condition inside
 
@@ -235,21 +191,33 @@ not_means_test limit room (t ∷ ts) x rest e = go (is_word (codes "not") t) ref
     go true h = absurd (no_test limit room ts x rest (subst (λ (v : Lexeme). test_at (conditions limit) room (v ∷ ts) ≡ Ok (x, rest)) (the_word (codes "not") t h) e))
 
 -- chains over the conditions inside
+abbrev and_step : ℕ → ℕ → Named → List Lexeme → Read Named
+and_step limit room = joined form.And (not_at (conditions limit) room)
+
+abbrev or_step : ℕ → ℕ → Named → List Lexeme → Read Named
+or_step limit room = joined form.Or (and_at (conditions limit) room)
+
 abbrev tests : ℕ → Named → List Lexeme → Read Named
 tests = chain_at (codes "is") tested
 
 abbrev ands : ℕ → ℕ → ℕ → Named → List Lexeme → Read Named
-ands limit room = chain_at (codes "and") (joined form.And (not_at (conditions limit) room))
+ands limit room = chain_at (codes "and") (and_step limit room)
 
 abbrev ors : ℕ → ℕ → ℕ → Named → List Lexeme → Read Named
-ors limit room = chain_at (codes "or") (joined form.Or (and_at (conditions limit) room))
+ors limit room = chain_at (codes "or") (or_step limit room)
+
+and_step_stays : (limit room : ℕ) (x : Named) → Stays (and_step limit room x)
+and_step_stays limit room = joined_stays form.And (not_at (conditions limit) room) (not_stays limit room)
+
+or_step_stays : (limit room : ℕ) (x : Named) → Stays (or_step limit room x)
+or_step_stays limit room = joined_stays form.Or (and_at (conditions limit) room) (and_stays limit room)
 
 and_done : (limit room : ℕ) (ts rest : List Lexeme) (x : Named) → Stops 4 rest → and_at (conditions limit) room (ts ++ rest) ≡ ands limit room (length rest) x rest → and_at (conditions limit) room (ts ++ rest) ≡ Ok (x, rest)
-and_done limit room ts rest x h e = e ∙ chain_ends (codes "and") (joined form.And (not_at (conditions limit) room)) (length rest) x rest (no_word (codes "and") 4 rest (omega arith) h)
+and_done limit room ts rest x h e = e ∙ chain_ends (codes "and") (and_step limit room) (length rest) x rest (no_word (codes "and") 4 rest (omega arith) h)
 
 pub or_done : (limit room : ℕ) (ts rest : List Lexeme) (x : Named) → Stops 5 rest → or_at (conditions limit) room (ts ++ rest) ≡ ors limit room (length rest) x rest → condition_at limit room (ts ++ rest) ≡ Ok (x, rest)
 or_done limit room ts rest x h e =
-    condition_step limit room (ts ++ rest) ∙ (e ∙ chain_ends (codes "or") (joined form.Or (and_at (conditions limit) room)) (length rest) x rest (no_word (codes "or") 5 rest (omega arith) h))
+    condition_step limit room (ts ++ rest) ∙ (e ∙ chain_ends (codes "or") (or_step limit room) (length rest) x rest (no_word (codes "or") 5 rest (omega arith) h))
 
 test_done : (limit room : ℕ) (ts rest : List Lexeme) (x : Named) → Stops 3 rest → test_at (conditions limit) room (ts ++ rest) ≡ tests (length rest) x rest → test_at (conditions limit) room (ts ++ rest) ≡ Ok (x, rest)
 test_done limit room ts rest x h e = e ∙ chain_ends (codes "is") tested (length rest) x rest (no_word (codes "is") 3 rest (omega arith) h)
@@ -268,7 +236,7 @@ mutual
   cond_reads limit (grammar.only_and {room = room} {ts = ts} {x = x} p) rest h =
       begins (and_at (conditions limit) room (ts ++ rest)) x rest (ors limit room) (and_done limit room ts rest x h (and_reads limit p rest (later 3 4 rest (omega arith) h)))
   cond_reads limit (grammar.by_or {room = room} ts us {x = x} {y = y} p q) rest h =
-      chain_goes_on (codes "or") (joined form.Or (and_at (conditions limit) room)) (joined_stays form.Or (and_at (conditions limit) room) (and_stays limit room)) ts us rest x (form.Or x y) (or_at (conditions limit) room) refl
+      chain_goes_on (codes "or") (or_step limit room) (or_step_stays limit room) ts us rest x (form.Or x y) (or_at (conditions limit) room) refl
       (one_or limit room x y (us ++ rest) rest (and_done limit room us rest y h (and_reads limit q rest (later 3 4 rest (omega arith) h))))
       (cond_reads limit p (word (codes "or") ∷ (us ++ rest)) (record { at = omega arith }))
 
@@ -277,7 +245,7 @@ mutual
   and_reads limit (grammar.only_not {room = room} {ts = ts} {x = x} p) rest h =
       begins (not_at (conditions limit) room (ts ++ rest)) x rest (ands limit room) (not_reads limit p rest h)
   and_reads limit (grammar.by_and {room = room} ts us {x = x} {y = y} p q) rest h =
-      chain_goes_on (codes "and") (joined form.And (not_at (conditions limit) room)) (joined_stays form.And (not_at (conditions limit) room) (not_stays limit room)) ts us rest x (form.And x y) (and_at (conditions limit) room) refl
+      chain_goes_on (codes "and") (and_step limit room) (and_step_stays limit room) ts us rest x (form.And x y) (and_at (conditions limit) room) refl
       (one_and limit room x y (us ++ rest) rest (not_reads limit q rest h))
       (and_reads limit p (word (codes "and") ∷ (us ++ rest)) (record { at = omega arith }))
 
@@ -329,3 +297,62 @@ mutual
 -- a condition is read, whatever follows that doesn't carry it on
 pub condition_reads : (limit room : ℕ) (ts : List Lexeme) (x : Named) → IsCondition limit room ts x → (rest : List Lexeme) → Stops 5 rest → condition_at limit room (ts ++ rest) ≡ Ok (x, rest)
 condition_reads limit room ts x p rest h = or_done limit room ts rest x h (cond_reads limit p rest (later 4 5 rest (omega arith) h))
+
+-- ---- the same as a loop reads it: what was read of some tokens, and what is left of them
+
+abbrev pub Ors : ℕ → ℕ → List Lexeme → Named → List Lexeme → Type 0
+Ors limit room ts = Goes (codes "or") (or_step limit room) (condition_at limit room ts)
+
+abbrev pub Ands : ℕ → ℕ → List Lexeme → Named → List Lexeme → Type 0
+Ands limit room ts = Goes (codes "and") (and_step limit room) (and_at (conditions limit) room ts)
+
+abbrev pub Tests : ℕ → ℕ → List Lexeme → Named → List Lexeme → Type 0
+Tests limit room ts = Goes (codes "is") tested (test_at (conditions limit) room ts)
+
+pub or_begins : (limit room : ℕ) (ts : List Lexeme) (x : Named) (rest : List Lexeme) → and_at (conditions limit) room ts ≡ Ok (x, rest) → Ors limit room ts x rest
+unfolding or_at
+or_begins limit room ts x rest e = record { on = condition_step limit room ts ∙ rw e refl }
+
+pub or_begins_not : (limit room : ℕ) (ts : List Lexeme) (f : Fault) → and_at (conditions limit) room ts ≡ Err f → condition_at limit room ts ≡ Err f
+unfolding or_at
+or_begins_not limit room ts f e = condition_step limit room ts ∙ rw e refl
+
+pub or_goes : (limit room : ℕ) (ts : List Lexeme) (x y : Named) (rest behind next : List Lexeme) → Ors limit room ts x rest → after (is_word (codes "or")) rest ≡ Some behind
+    → and_at (conditions limit) room behind ≡ Ok (y, next) → Ors limit room ts (form.Or x y) next
+or_goes limit room ts x y rest behind next g e h = chain_goes (codes "or") (or_step limit room) (or_step_stays limit room) (condition_at limit room ts) x (form.Or x y) rest behind next g e (rw h refl)
+
+pub or_stops : (limit room : ℕ) (ts : List Lexeme) (x : Named) (f : Fault) (rest behind : List Lexeme) → Ors limit room ts x rest → after (is_word (codes "or")) rest ≡ Some behind
+    → and_at (conditions limit) room behind ≡ Err f → condition_at limit room ts ≡ Err f
+or_stops limit room ts x f rest behind g e h = chain_fails (codes "or") (or_step limit room) (condition_at limit room ts) x f rest behind g e (rw h refl)
+
+pub and_begins : (limit room : ℕ) (ts : List Lexeme) (x : Named) (rest : List Lexeme) → not_at (conditions limit) room ts ≡ Ok (x, rest) → Ands limit room ts x rest
+unfolding and_at
+and_begins limit room ts x rest e = record { on = rw e refl }
+
+pub and_begins_not : (limit room : ℕ) (ts : List Lexeme) (f : Fault) → not_at (conditions limit) room ts ≡ Err f → and_at (conditions limit) room ts ≡ Err f
+unfolding and_at
+and_begins_not limit room ts f e = rw e refl
+
+pub and_goes : (limit room : ℕ) (ts : List Lexeme) (x y : Named) (rest behind next : List Lexeme) → Ands limit room ts x rest → after (is_word (codes "and")) rest ≡ Some behind
+    → not_at (conditions limit) room behind ≡ Ok (y, next) → Ands limit room ts (form.And x y) next
+and_goes limit room ts x y rest behind next g e h = chain_goes (codes "and") (and_step limit room) (and_step_stays limit room) (and_at (conditions limit) room ts) x (form.And x y) rest behind next g e (rw h refl)
+
+pub and_stops : (limit room : ℕ) (ts : List Lexeme) (x : Named) (f : Fault) (rest behind : List Lexeme) → Ands limit room ts x rest → after (is_word (codes "and")) rest ≡ Some behind
+    → not_at (conditions limit) room behind ≡ Err f → and_at (conditions limit) room ts ≡ Err f
+and_stops limit room ts x f rest behind g e h = chain_fails (codes "and") (and_step limit room) (and_at (conditions limit) room ts) x f rest behind g e (rw h refl)
+
+pub test_begins : (limit room : ℕ) (ts : List Lexeme) (x : Named) (rest : List Lexeme) → cmp_at (conditions limit) room ts ≡ Ok (x, rest) → Tests limit room ts x rest
+unfolding test_at
+test_begins limit room ts x rest e = record { on = rw e refl }
+
+pub test_begins_not : (limit room : ℕ) (ts : List Lexeme) (f : Fault) → cmp_at (conditions limit) room ts ≡ Err f → test_at (conditions limit) room ts ≡ Err f
+unfolding test_at
+test_begins_not limit room ts f e = rw e refl
+
+pub test_goes : (limit room : ℕ) (ts : List Lexeme) (x y : Named) (rest behind next : List Lexeme) → Tests limit room ts x rest → after (is_word (codes "is")) rest ≡ Some behind
+    → tested x behind ≡ Ok (y, next) → Tests limit room ts y next
+test_goes limit room ts x y rest behind next = chain_goes (codes "is") tested tested_stays (test_at (conditions limit) room ts) x y rest behind next
+
+pub test_stops : (limit room : ℕ) (ts : List Lexeme) (x : Named) (f : Fault) (rest behind : List Lexeme) → Tests limit room ts x rest → after (is_word (codes "is")) rest ≡ Some behind
+    → tested x behind ≡ Err f → test_at (conditions limit) room ts ≡ Err f
+test_stops limit room ts = chain_fails (codes "is") tested (test_at (conditions limit) room ts)

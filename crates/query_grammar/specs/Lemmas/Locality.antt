@@ -1,8 +1,8 @@
--- Each reader of conditions reads alike before two tails.
-use Rattle.std.proofs.Common.{◌≡◌, ℕ, zero, suc, ◌≤◌, ◌<◌, Bool, true, false, cond, List, [], ◌∷◌, ◌++◌, length, Option, Some, None, Ok, Err, refl, ap, subst, arith}
+-- Readers read alike before two tails: those of operands and comparisons, and any chain.
+use Rattle.std.proofs.Common.{◌≡◌, ℕ, zero, suc, ◌≤◌, ◌<◌, Bool, true, false, cond, List, [], ◌∷◌, ◌++◌, length, Option, Some, None, Ok, Err, refl, ap, arith}
 use Rattle.std.specs.Prelude.{codes}
 use Rattle.std.specs.Str.{bytes_eq}
-use Rattle.std.proofs.lemmas.List.{length-append, append-nil}
+use Rattle.std.proofs.lemmas.List.{length-append}
 use Rattle.query_tokens.specs.declared.word.Symbol.{Symbol}
 use Rattle.query_tokens.specs.declared.word.Symbol.TheVariants as symbols
 use Rattle.query_tokens.specs.Words.{Lexeme, Name, Integer, Text, Sign}
@@ -10,15 +10,15 @@ use Rattle.query_tokens.specs.Reserved.{is_reserved}
 use Rattle.grouping_model.specs.Datum as datum
 use Rattle.grouping_model.specs.Aggregates as function
 use Rattle.grouping_model.specs.Aggregates.{Function}
-use Rattle.grouping_model.specs.Condition.{Comparison, Test}
+use Rattle.grouping_model.specs.Condition.{Comparison}
 use Rattle.query_checks.specs.Forms as form
-use Rattle.query_checks.specs.Operators.{comparison_named, all_tests, test_word}
+use Rattle.query_checks.specs.Operators.{comparison_named}
 use Rattle.query_grammar.specs.Terminals.{function_named, is_word, is_sign}
 use Rattle.query_grammar.specs.Grammar.{Named, opening}
-use Rattle.query_grammar.specs.Reading.{Read, Unexpected, Too_deep, Inner, ◌>>=◌, unexpected, expect, name_at, filter_at, argument_at, call_at, function_or_column, word_at, enclosed_at, prim_at, with_rest, after_comparison, right_side, cmp_at, looked_for_among, looked_for, tested, chain_at, test_at, not_at, joined, and_at, or_at, nested_at, condition_at, conditions}
+use Rattle.query_grammar.specs.Reading.{Read, Unexpected, Too_deep, Inner, ◌>>=◌, unexpected, expect, name_at, filter_at, argument_at, call_at, function_or_column, word_at, enclosed_at, prim_at, with_rest, after_comparison, right_side, cmp_at, chain_at}
 use Rattle.query_grammar.specs.Laws.{Part, Means}
-use Rattle.query_grammar.specs.Lemmas.Sound.{Name_part, InnerMeans, name_means, prim_means, not_means, and_means, nested_means, condition_means}
-use Rattle.query_grammar.specs.Lemmas.Alike.{Tails, none, both, Within, Stays, Alike, same, refused, deep, past, deeper, Agree, within_more, past_within, within_bind, within_chosen, alike_bind, alike_choose, done, refuses, binds, chooses, expects, maps}
+use Rattle.query_grammar.specs.Lemmas.Sound.{Name_part, InnerMeans, name_means, prim_means}
+use Rattle.query_grammar.specs.Lemmas.Alike.{Tails, none, both, Within, Stays, Alike, same, refused, deep, past, deeper, Agree, within_more, past_within, within_bind, within_chosen, alike_bind, alike_choose, done, binds, chooses, expects, maps}
 
 -- ---- what reading means bounds what is left
 
@@ -261,29 +261,11 @@ side_stays f h room x = record { within = go }
     go (Integer z ∷ ts) = omega arith
     go (Text s ∷ ts) = omega arith
 
-comparisons_agree : (d : Bool) (one two : List Lexeme) (most : ℕ) (f g : Inner) → Inners d one two most f g → (room wide : ℕ) (fits : Rooms d room wide) → Agree d one two (suc most) (cmp_at f room) (cmp_at g wide)
+pub comparisons_agree : (d : Bool) (one two : List Lexeme) (most : ℕ) (f g : Inner) → Inners d one two most f g → (room wide : ℕ) (fits : Rooms d room wide) → Agree d one two (suc most) (cmp_at f room) (cmp_at g wide)
 unfolding cmp_at
 comparisons_agree d one two most f g a room wide fits =
     binds d one two (suc most) (prim_at f room) (prim_at g wide) (λ x ts. right_side f room x ts (after_comparison ts)) (λ x ts. right_side g wide x ts (after_comparison ts)) (prims_agree d one two most f g a room wide fits)
     (λ x. record { alike = side_alike d one two a.tails most f g a room wide fits x; stays = side_stays f a.right room x; stays_too = side_stays g a.right_too wide x })
-
--- ---- IS tests
-
-among_agree : (d : Bool) (one two : List Lexeme) (tails : Tails one two) (most : ℕ) (tests : List Test) → Agree d one two most (looked_for_among tests) (looked_for_among tests)
-among_agree d one two tails most [] = refuses d one two most
-among_agree d one two tails most (t ∷ tests) =
-    chooses d one two tails most (is_word (test_word t)) (λ rest. Ok (t, rest)) (λ rest. Ok (t, rest)) (looked_for_among tests) (looked_for_among tests) (done d one two most t) (among_agree d one two tails most tests)
-
-looked_agree : (d : Bool) (one two : List Lexeme) (tails : Tails one two) (most : ℕ) → Agree d one two most looked_for looked_for
-unfolding looked_for
-looked_agree d one two tails most = among_agree d one two tails most all_tests
-
-tested_agree : (d : Bool) (one two : List Lexeme) (tails : Tails one two) (most : ℕ) (x : Named) → Agree d one two most (tested x) (tested x)
-unfolding tested
-tested_agree d one two tails most x =
-    chooses d one two tails most (is_word (codes "not")) (λ ts. looked_for ts >>= λ t. Ok (form.Is_not t.0 x, t.1)) (λ ts. looked_for ts >>= λ t. Ok (form.Is_not t.0 x, t.1)) (λ ts. looked_for ts >>= λ t. Ok (form.Is t.0 x, t.1)) (λ ts. looked_for ts >>= λ t. Ok (form.Is t.0 x, t.1))
-    (maps d one two most looked_for looked_for (λ t. form.Is_not t x) (looked_agree d one two tails most))
-    (maps d one two most looked_for looked_for (λ t. form.Is t x) (looked_agree d one two tails most))
 
 -- ---- chains
 
@@ -321,147 +303,10 @@ chain_alike d one two tails most operator f g a (suc k) (suc m) x u le also lt =
     (record { within = λ ts. within_bind (length ts) (f x ts) (chain_at operator f k) ((a x).stays.within ts) (chain_stays operator f (λ x. (a x).stays) k) })
     (same x u)
 
-chains_agree : (d : Bool) (one two : List Lexeme) (tails : Tails one two) (most : ℕ) (operator : List ℕ) (f g : Named → List Lexeme → Read Named) → ((x : Named) → Agree d one two most (f x) (g x))
+pub chains_agree : (d : Bool) (one two : List Lexeme) (tails : Tails one two) (most : ℕ) (operator : List ℕ) (f g : Named → List Lexeme → Read Named) → ((x : Named) → Agree d one two most (f x) (g x))
     → (x : Named) → Agree d one two most (λ ts. chain_at operator f (length ts) x ts) (λ ts. chain_at operator g (length ts) x ts)
 chains_agree d one two tails most operator f g a x = record {
   alike = λ u lt. chain_alike d one two tails most operator f g a (length (u ++ one)) (length (u ++ two)) x u (omega arith) (omega arith) lt;
   stays = record { within = λ ts. (chain_stays operator f (λ x. (a x).stays) (length ts) x).within ts };
   stays_too = record { within = λ ts. (chain_stays operator g (λ x. (a x).stays_too) (length ts) x).within ts };
 }
-
--- ---- the operators
-
-tests_agree : (d : Bool) (one two : List Lexeme) (most : ℕ) (f g : Inner) → Inners d one two most f g → (room wide : ℕ) (fits : Rooms d room wide) → Agree d one two (suc most) (test_at f room) (test_at g wide)
-unfolding test_at
-tests_agree d one two most f g a room wide fits =
-    binds d one two (suc most) (cmp_at f room) (cmp_at g wide) (λ x ts. chain_at (codes "is") tested (length ts) x ts) (λ x ts. chain_at (codes "is") tested (length ts) x ts) (comparisons_agree d one two most f g a room wide fits)
-    (chains_agree d one two a.tails (suc most) (codes "is") tested tested (tested_agree d one two a.tails (suc most)))
-
-not_in : (d : Bool) (one two v : List Lexeme) (b : Bool) (r s p q : Read Named) → Alike d one two r s → Within (length (v ++ one)) r → Alike d one two p q
-    → Alike d one two (cond b (r >>= λ x. Ok (form.Not x.0, x.1)) p) (cond b (s >>= λ x. Ok (form.Not x.0, x.1)) q)
-not_in d one two v true r s p q a h k = alike_bind d one two v r s (λ x ts. Ok (form.Not x, ts)) (λ x ts. Ok (form.Not x, ts)) a h (λ x u le. same (form.Not x) u) (λ x. record { within = λ ts. omega arith })
-not_in d one two v false r s p q a h k = k
-
-not_past : (d : Bool) (t : Lexeme) (rest more : List Lexeme) (b : Bool) (r s p q : Read Named) → Within (length rest) r → Alike d (t ∷ rest) (t ∷ more) p q
-    → Alike d (t ∷ rest) (t ∷ more) (cond b (r >>= λ x. Ok (form.Not x.0, x.1)) p) (cond b (s >>= λ x. Ok (form.Not x.0, x.1)) q)
-not_past d t rest more true r s p q h k =
-    past (r >>= λ x. Ok (form.Not x.0, x.1)) (s >>= λ x. Ok (form.Not x.0, x.1))
-    (past_within (length rest) (t ∷ rest) (r >>= λ x. Ok (form.Not x.0, x.1)) (omega arith) (within_bind (length rest) r (λ x ts. Ok (form.Not x, ts)) h (λ x. record { within = λ ts. omega arith })))
-not_past d t rest more false r s p q h k = k
-
-not_alike : (d : Bool) (one two : List Lexeme) (tails : Tails one two) (most : ℕ) (f g : Inner) → Inners d one two most f g → (room wide : ℕ) (fits : Rooms d room wide) (u : List Lexeme) → length u < suc most → Alike d one two (not_at f room (u ++ one)) (not_at g wide (u ++ two))
-unfolding not_at
-not_alike d one two tails most f g a room wide fits (t ∷ us) lt =
-    not_in d one two us (is_word (codes "not") t) (not_at f room (us ++ one)) (not_at g wide (us ++ two)) (test_at f room (t ∷ (us ++ one))) (test_at g wide (t ∷ (us ++ two)))
-    (not_alike d one two tails most f g a room wide fits us (omega (arith, lt))) ((stays_of _ (not_at f room) (not_means f a.right room)).within (us ++ one)) ((tests_agree d one two most f g a room wide fits).alike (t ∷ us) lt)
-not_alike d _ _ none most f g a room wide fits [] lt = (tests_agree d [] [] most f g a room wide fits).alike [] lt
-not_alike d _ _ (both t rest more) most f g a room wide fits [] lt =
-    not_past d t rest more (is_word (codes "not") t) (not_at f room rest) (not_at g wide more) (test_at f room (t ∷ rest)) (test_at g wide (t ∷ more))
-    ((stays_of _ (not_at f room) (not_means f a.right room)).within rest) ((tests_agree d (t ∷ rest) (t ∷ more) most f g a room wide fits).alike [] lt)
-
-nots_agree : (d : Bool) (one two : List Lexeme) (most : ℕ) (f g : Inner) → Inners d one two most f g → (room wide : ℕ) (fits : Rooms d room wide) → Agree d one two (suc most) (not_at f room) (not_at g wide)
-nots_agree d one two most f g a room wide fits = record {
-  alike = not_alike d one two a.tails most f g a room wide fits;
-  stays = stays_of _ (not_at f room) (not_means f a.right room);
-  stays_too = stays_of _ (not_at g wide) (not_means g a.right_too wide);
-}
-
--- operands joined by an operator
-chained_agree : (d : Bool) (one two : List Lexeme) (tails : Tails one two) (most : ℕ) (operator : List ℕ) (join : Named → Named → Named) (f g : List Lexeme → Read Named) → Agree d one two most f g
-    → Agree d one two most (λ ts. f ts >>= λ x. chain_at operator (joined join f) (length x.1) x.0 x.1) (λ ts. g ts >>= λ x. chain_at operator (joined join g) (length x.1) x.0 x.1)
-chained_agree d one two tails most operator join f g agree =
-    binds d one two most f g (λ x ts. chain_at operator (joined join f) (length ts) x ts) (λ x ts. chain_at operator (joined join g) (length ts) x ts) agree
-    (chains_agree d one two tails most operator (joined join f) (joined join g) (λ x. maps d one two most f g (λ y. join x y) agree))
-
-ands_agree : (d : Bool) (one two : List Lexeme) (most : ℕ) (f g : Inner) → Inners d one two most f g → (room wide : ℕ) (fits : Rooms d room wide) → Agree d one two (suc most) (and_at f room) (and_at g wide)
-unfolding and_at
-ands_agree d one two most f g a room wide fits = chained_agree d one two a.tails (suc most) (codes "and") form.And (not_at f room) (not_at g wide) (nots_agree d one two most f g a room wide fits)
-
-ors_agree : (d : Bool) (one two : List Lexeme) (most : ℕ) (f g : Inner) → Inners d one two most f g → (room wide : ℕ) (fits : Rooms d room wide) → Agree d one two (suc most) (or_at f room) (or_at g wide)
-unfolding or_at
-ors_agree d one two most f g a room wide fits = chained_agree d one two a.tails (suc most) (codes "or") form.Or (and_at f room) (and_at g wide) (ands_agree d one two most f g a room wide fits)
-
--- ---- conditions inside
-
-nothing_before : {A : Type 0} (d : Bool) (one two : List Lexeme) (f g : List Lexeme → Read A) → Stays f → Stays g → Agree d one two 0 f g
-nothing_before d one two f g h k = record { alike = λ u lt. absurd (omega (arith, lt)); stays = h; stays_too = k }
-
-inner_stays : (f : Inner) → InnerMeans f → (room : ℕ) → Stays (f.inside room)
-inner_stays f h room = stays_of _ (f.inside room) (h room)
-
--- conditions that are nested less than so deep
-abbrev nested : ℕ → ℕ → Inner
-nested limit most = record { limit = limit; inside = nested_at limit most }
-
-pub nested_agree : (d : Bool) (one two : List Lexeme) (tails : Tails one two) (limit upper : ℕ) → Rooms d limit upper → (most n m : ℕ) → most ≤ n → most ≤ m
-    → (room wide : ℕ) → Rooms d room wide → Agree d one two most (nested_at limit n room) (nested_at upper m wide)
-unfolding nested_at
-nested_agree d one two tails limit upper limits zero n m le also room wide fits =
-    nothing_before d one two (nested_at limit n room) (nested_at upper m wide) (inner_stays (nested limit n) (nested_means limit n) room) (inner_stays (nested upper m) (nested_means upper m) wide)
-nested_agree d one two tails limit upper limits (suc most) zero m le also room wide fits = absurd (omega (arith, le))
-nested_agree d one two tails limit upper limits (suc most) (suc n) zero le also room wide fits = absurd (omega (arith, also))
-nested_agree d one two tails limit upper limits (suc most) (suc n) (suc m) le also room wide fits =
-    ors_agree d one two most (nested limit n) (nested upper m)
-    (record {
-      tails = tails;
-      agree = record { inside = nested_agree d one two tails limit upper limits most n m (omega (arith, le)) (omega (arith, also)); limits = limits };
-      right = nested_means limit n;
-      right_too = nested_means upper m;
-    })
-    room wide fits
-
-pub conditions_agree : (d : Bool) (one two : List Lexeme) (tails : Tails one two) (limit upper : ℕ) → Rooms d limit upper → (most : ℕ) → InnerAgree d one two most (conditions limit) (conditions upper)
-unfolding condition_at
-conditions_agree d one two tails limit upper limits most = record {
-  inside = λ room wide fits. record {
-    alike = λ u lt. (nested_agree d one two tails limit upper limits (suc (length u)) (suc (length (u ++ one))) (suc (length (u ++ two))) (omega (arith, length-append u one)) (omega (arith, length-append u two)) room wide fits).alike u (omega arith);
-    stays = inner_stays (conditions limit) (condition_means limit) room;
-    stays_too = inner_stays (conditions upper) (condition_means upper) wide;
-  };
-  limits = limits;
-}
-
--- ---- before no tail they read the same
-
-pub alike_same : {A : Type 0} (r s : Read A) → Alike false [] [] r s → r ≡ s
-alike_same _ _ (same x u) = refl
-alike_same _ _ (refused u) = refl
-alike_same _ _ (deep u) = refl
-alike_same _ _ (deeper t left s) = absurd cc
-alike_same (Ok x) _ (past _ _ p) = absurd (omega (arith, p))
-alike_same (Err (Unexpected left)) _ (past _ _ p) = absurd (omega (arith, p))
-alike_same (Err (Too_deep left)) _ (past _ _ p) = absurd (omega (arith, p))
-
-deep_enough : (limit n : ℕ) → InnerAgree false [] [] n (nested limit n) (conditions limit)
-unfolding condition_at
-deep_enough limit n = record {
-  inside = λ room wide fits. record {
-    alike = λ u lt. (nested_agree false [] [] none limit limit refl (suc (length u)) n (suc (length (u ++ []))) (omega (arith, lt)) (omega (arith, length-append u [])) room wide fits).alike u (omega arith);
-    stays = inner_stays (nested limit n) (nested_means limit n) room;
-    stays_too = inner_stays (conditions limit) (condition_means limit) wide;
-  };
-  limits = refl;
-}
-
--- a condition is ORs over conditions inside
-pub condition_step : (limit room : ℕ) (ts : List Lexeme) → condition_at limit room ts ≡ or_at (conditions limit) room ts
-unfolding condition_at nested_at
-condition_step limit room ts =
-    let n = length ts in
-    let both_ways : Inners false [] [] n (nested limit n) (conditions limit) = record { tails = none; agree = deep_enough limit n; right = nested_means limit n; right_too = condition_means limit } in
-    let a = (ors_agree false [] [] n (nested limit n) (conditions limit) both_ways room room refl).alike ts (omega arith) in
-    subst (λ (u : List Lexeme). or_at (nested limit n) room u ≡ or_at (conditions limit) room u) (append-nil ts) (alike_same (or_at (nested limit n) room (ts ++ [])) (or_at (conditions limit) room (ts ++ [])) a)
-
--- ---- what is left never grows
-
-pub tested_stays : (x : Named) → Stays (tested x)
-tested_stays x = (tested_agree false [] [] none 0 x).stays
-
-pub joined_stays : (join : Named → Named → Named) (operand : List Lexeme → Read Named) → Stays operand → (x : Named) → Stays (joined join operand x)
-joined_stays join operand h x = record { within = λ ts. within_bind (length ts) (operand ts) (λ y ts. Ok (join x y, ts)) (h.within ts) (λ y. record { within = λ ts. omega arith }) }
-
-pub not_stays : (limit room : ℕ) → Stays (not_at (conditions limit) room)
-not_stays limit room = stays_of _ (not_at (conditions limit) room) (not_means (conditions limit) (condition_means limit) room)
-
-pub and_stays : (limit room : ℕ) → Stays (and_at (conditions limit) room)
-and_stays limit room = stays_of _ (and_at (conditions limit) room) (and_means (conditions limit) (condition_means limit) room)

@@ -21,7 +21,7 @@ use Rattle.query_checks.specs.Operators.{comparison_named, comparison_text, symb
 use Rattle.query_grammar.specs.Terminals.{function_named}
 use Rattle.query_grammar.specs.Grammar as grammar
 use Rattle.query_grammar.specs.Grammar.{Named, opening, closing, word, IsTest, IsCondition, IsAnd, IsNot, IsTested, IsCompared, IsOperand, IsCall}
-use Rattle.query_grammar.specs.Lemmas.Texts.{reads_space, reads_spelled, never_first, Quiet, Spells, Opens, spells_lexeme, spells_two, opens_then, spells_between, spells_enclosed, spells_word, opens_word, opens_between, opens_two, where_word, filter_word, and_word, or_word, not_word, is_word, null_word, true_word, false_word, test_is_word}
+use Rattle.query_grammar.specs.Lemmas.Texts.{reads_space, reads_spelled, never_first, Quiet, Spells, Opens, spells_lexeme, spells_two, opens_then, spells_between, spells_enclosed, spells_word, opens_word, opens_between, opens_two, spells_test}
 use Rattle.std.proofs.lemmas.Bool.Decides.{nat_tests}
 use Rattle.std.proofs.lemmas.Grind.{common_steps}
 
@@ -152,10 +152,10 @@ of_or limit x ts one s p = grind (arith, nat_tests, common_steps)
 -- ---- literals
 
 literal_printed : (limit : ℕ) (v : Datum) → IsLiteral v → Printed limit (form.Literal v)
-literal_printed limit datum.Null legal = of_operand limit (form.Literal datum.Null) (word (codes "null") ∷ []) (spells_word (codes "NULL") (codes "null") null_word) (λ room le. grammar.null_word)
+literal_printed limit datum.Null legal = of_operand limit (form.Literal datum.Null) (word (codes "null") ∷ []) (spells_word (codes "NULL") refl) (λ room le. grammar.null_word)
 literal_printed limit (datum.Bigint z) legal = of_operand limit (form.Literal (datum.Bigint z)) (Integer z ∷ []) (spells_lexeme (Integer z) legal) (λ room le. grammar.integer)
-literal_printed limit (datum.Boolean true) legal = of_operand limit (form.Literal (datum.Boolean true)) (word (codes "true") ∷ []) (spells_word (codes "TRUE") (codes "true") true_word) (λ room le. grammar.true_word)
-literal_printed limit (datum.Boolean false) legal = of_operand limit (form.Literal (datum.Boolean false)) (word (codes "false") ∷ []) (spells_word (codes "FALSE") (codes "false") false_word) (λ room le. grammar.false_word)
+literal_printed limit (datum.Boolean true) legal = of_operand limit (form.Literal (datum.Boolean true)) (word (codes "true") ∷ []) (spells_word (codes "TRUE") refl) (λ room le. grammar.true_word)
+literal_printed limit (datum.Boolean false) legal = of_operand limit (form.Literal (datum.Boolean false)) (word (codes "false") ∷ []) (spells_word (codes "FALSE") refl) (λ room le. grammar.false_word)
 literal_printed limit (datum.Text s) legal = of_operand limit (form.Literal (datum.Text s)) (Text s ∷ []) (spells_lexeme (Text s) legal) (λ room le. grammar.text)
 
 -- ---- calls
@@ -216,8 +216,8 @@ pub call_is : (limit : ℕ) (f : Function) (column : Option (List ℕ)) (c : Cal
 call_is limit f column c = grammar.plain c.inside c.free c.calls c.argument
 
 opens_filter : Opens (codes " FILTER (WHERE ") (word (codes "filter") ∷ opening ∷ word (codes "where") ∷ [])
-opens_filter = opens_two (codes " FILTER ") (codes "(WHERE ") (word (codes "filter") ∷ []) (opening ∷ word (codes "where") ∷ []) (opens_between (codes "FILTER") (codes "filter") filter_word)
-    (opens_two (codes "(") (codes "WHERE ") (opening ∷ []) (word (codes "where") ∷ []) opens_paren (opens_word (codes "WHERE") (codes "where") where_word))
+opens_filter = opens_two (codes " FILTER ") (codes "(WHERE ") (word (codes "filter") ∷ []) (opening ∷ word (codes "where") ∷ []) (opens_between (codes "FILTER") refl)
+    (opens_two (codes "(") (codes "WHERE ") (opening ∷ []) (word (codes "where") ∷ []) opens_paren (opens_word (codes "WHERE") refl))
 
 pub filtered_spelled : (limit : ℕ) (f : Function) (column : Option (List ℕ)) (x : Named) (c : Calls f column) (p : Printed limit x)
     → Spells (call_text f column ++ codes " FILTER (WHERE " ++ spelled x ++ codes ")")
@@ -254,10 +254,10 @@ record Tests (t : model.Test) : Type 0 where
   spells : Spells (test_text t) tokens
 
 tests : (t : model.Test) → Tests t
-tests t = record { tokens = word (test_word t) ∷ []; is = grammar.for_word t; spells = spells_word (test_text t) (test_word t) (test_is_word t) }
+tests t = record { tokens = word (test_word t) ∷ []; is = grammar.for_word t; spells = spells_test t }
 
 opens_is_not : Opens (codes " IS NOT ") (word (codes "is") ∷ word (codes "not") ∷ [])
-opens_is_not = opens_two (codes " IS ") (codes "NOT ") (word (codes "is") ∷ []) (word (codes "not") ∷ []) (opens_between (codes "IS") (codes "is") is_word) (opens_word (codes "NOT") (codes "not") not_word)
+opens_is_not = opens_two (codes " IS ") (codes "NOT ") (word (codes "is") ∷ []) (word (codes "not") ∷ []) (opens_between (codes "IS") refl) (opens_word (codes "NOT") refl)
 
 -- ---- conditions
 
@@ -286,21 +286,21 @@ printed limit (form.Call_where f column x) legal shallow =
     (filtered_spelled limit f column x c p) (λ room _. grammar.call (filtered_is limit f column x c p (omega (arith, le))))
 printed limit (form.Unary form.Negation x) legal shallow =
     let p = placed limit 3 x (printed limit x legal shallow) in
-    of_not limit (form.Not x) (word (codes "not") ∷ p.tokens) refl (opens_then (codes "NOT ") (operand 3 x (spelled x)) (word (codes "not") ∷ []) p.tokens (opens_word (codes "NOT") (codes "not") not_word) p.spells)
+    of_not limit (form.Not x) (word (codes "not") ∷ p.tokens) refl (opens_then (codes "NOT ") (operand 3 x (spelled x)) (word (codes "not") ∷ []) p.tokens (opens_word (codes "NOT") refl) p.spells)
     (λ room le. grammar.by_not (p.not (omega arith) room (omega (arith, le))))
 printed limit (form.Binary form.Conjunction x y) legal shallow =
     let parts = and_parts (filters_pass (λ c. nat_le (depth c) limit) x) (filters_pass (λ c. nat_le (depth c) limit) y) shallow in
     let p = placed limit 2 x (printed limit x legal.0 parts.0) in
     let q = placed limit 3 y (printed limit y legal.1 parts.1) in
     of_and limit (form.And x y) (p.tokens ++ word (codes "and") ∷ q.tokens) refl
-    (spells_between (operand 2 x (spelled x)) (codes " AND ") (operand 3 y (spelled y)) p.tokens (word (codes "and") ∷ []) q.tokens p.spells (λ rest. refl) (opens_between (codes "AND") (codes "and") and_word) q.spells)
+    (spells_between (operand 2 x (spelled x)) (codes " AND ") (operand 3 y (spelled y)) p.tokens (word (codes "and") ∷ []) q.tokens p.spells (λ rest. refl) (opens_between (codes "AND") refl) q.spells)
     (λ room le. grammar.by_and p.tokens q.tokens (p.and (omega arith) room (left_depth (depth x) (depth y) room le)) (q.not (omega arith) room (right_depth (depth x) (depth y) room le)))
 printed limit (form.Binary form.Disjunction x y) legal shallow =
     let parts = and_parts (filters_pass (λ c. nat_le (depth c) limit) x) (filters_pass (λ c. nat_le (depth c) limit) y) shallow in
     let p = placed limit 1 x (printed limit x legal.0 parts.0) in
     let q = placed limit 2 y (printed limit y legal.1 parts.1) in
     of_or limit (form.Or x y) (p.tokens ++ word (codes "or") ∷ q.tokens) refl
-    (spells_between (operand 1 x (spelled x)) (codes " OR ") (operand 2 y (spelled y)) p.tokens (word (codes "or") ∷ []) q.tokens p.spells (λ rest. refl) (opens_between (codes "OR") (codes "or") or_word) q.spells)
+    (spells_between (operand 1 x (spelled x)) (codes " OR ") (operand 2 y (spelled y)) p.tokens (word (codes "or") ∷ []) q.tokens p.spells (λ rest. refl) (opens_between (codes "OR") refl) q.spells)
     (λ room le. grammar.by_or p.tokens q.tokens (p.condition room (left_depth (depth x) (depth y) room le)) (q.and (omega arith) room (right_depth (depth x) (depth y) room le)))
 printed limit (form.Binary (form.Comparing c) x y) legal shallow =
     let parts = and_parts (filters_pass (λ c. nat_le (depth c) limit) x) (filters_pass (λ c. nat_le (depth c) limit) y) shallow in
@@ -314,7 +314,7 @@ printed limit (form.Unary (form.Testing t false) x) legal shallow =
     let p = placed limit 4 x (printed limit x legal shallow) in
     let k = tests t in
     of_test limit (form.Is t x) (p.tokens ++ word (codes "is") ∷ k.tokens) refl
-    (spells_between (operand 4 x (spelled x)) (codes " IS ") (test_text t) p.tokens (word (codes "is") ∷ []) k.tokens p.spells (λ rest. refl) (opens_between (codes "IS") (codes "is") is_word) k.spells)
+    (spells_between (operand 4 x (spelled x)) (codes " IS ") (test_text t) p.tokens (word (codes "is") ∷ []) k.tokens p.spells (λ rest. refl) (opens_between (codes "IS") refl) k.spells)
     (λ room le. grammar.by_is p.tokens k.tokens (p.test (omega arith) room (omega (arith, le))) k.is)
 printed limit (form.Unary (form.Testing t true) x) legal shallow =
     let p = placed limit 4 x (printed limit x legal shallow) in

@@ -27,7 +27,7 @@ use Rattle.packed_rows.specs.PrintedLaws.{read_ok}
 use Rattle.query_checks.specs.DistinctLaws.{all_distinct}
 use Rattle.query_grammar.specs.Laws.{IsSpelled}
 use Rattle.query_grammar.specs.Canonical.{canonical}
-use Rattle.query_grammar.specs.Lemmas.Texts.{Reads, reads_nothing, reads_space, reads_spelled, Quiet, Spells, Opens, spells_lexeme, IsWord, spells_two, opens_then, opens_two, spells_word, spells_behind, opens_word, opens_between, spells_between, select_word, from_word, where_word, group_word, by_word, having_word, as_word, order_word, desc_word, nulls_word, first_word, last_word}
+use Rattle.query_grammar.specs.Lemmas.Texts.{Reads, reads_nothing, reads_space, reads_spelled, Quiet, Spells, Opens, spells_lexeme, spells_two, opens_then, opens_two, spells_word, spells_behind, opens_word, opens_between, spells_between, is_key_word, in_small}
 use Rattle.query_grammar.specs.Lemmas.Printed.{printed, the_calls, call_is, filtered_spelled, filtered_is}
 use Rattle.std.proofs.lemmas.Bool.Decides.{nat_tests}
 use Rattle.std.proofs.lemmas.Grind.{common_steps}
@@ -82,7 +82,7 @@ an_alias : (w : List ℕ) → IsColumnName w → Alias (Some w)
 an_alias w legal = record {
   tokens = word (codes "as") ∷ Name w ∷ [];
   part = record {
-    spells = opens_then (codes " AS ") w (word (codes "as") ∷ []) (Name w ∷ []) (opens_between (codes "AS") (codes "as") as_word) (spells_lexeme (Name w) legal.legal);
+    spells = opens_then (codes " AS ") w (word (codes "as") ∷ []) (Name w ∷ []) (opens_between (codes "AS") refl) (spells_lexeme (Name w) legal.legal);
     quiet = λ rest q. refl;
   };
   is = grammar.behind_as legal.free;
@@ -177,7 +177,7 @@ record Keys (names : List (List ℕ)) : Type 0 where
   is : IsKeys tokens names
 
 opens_group : Opens (codes " GROUP BY ") (word (codes "group") ∷ word (codes "by") ∷ [])
-opens_group = opens_two (codes " GROUP ") (codes "BY ") (word (codes "group") ∷ []) (word (codes "by") ∷ []) (opens_between (codes "GROUP") (codes "group") group_word) (opens_word (codes "BY") (codes "by") by_word)
+opens_group = opens_two (codes " GROUP ") (codes "BY ") (word (codes "group") ∷ []) (word (codes "by") ∷ []) (opens_between (codes "GROUP") refl) (opens_word (codes "BY") refl)
 
 one_name : (w : List ℕ) → IsColumnName w → One IsKey (λ (name : List ℕ). name) (λ (name : List ℕ). name) w
 one_name w legal = record { tokens = Name w ∷ []; spells = spells_lexeme (Name w) legal.legal; is = grammar.name legal.free }
@@ -210,11 +210,11 @@ record Direction (descending nulls_first : Bool) : Type 0 where
   are : IsNulls nulls (nulls_said descending nulls_first)
 
 desc_spelled : Part (codes " DESC") (word (codes "desc") ∷ [])
-desc_spelled = record { spells = spells_behind (codes "DESC") (codes "desc") desc_word; quiet = λ rest q. refl }
+desc_spelled = record { spells = spells_behind (codes "DESC") refl; quiet = λ rest q. refl }
 
-nulls_spelled : (text w : List ℕ) → IsWord text w → Part (codes " NULLS " ++ text) (word (codes "nulls") ∷ word w ∷ [])
-nulls_spelled text w h = record {
-  spells = opens_then (codes " NULLS ") text (word (codes "nulls") ∷ []) (word w ∷ []) (opens_between (codes "NULLS") (codes "nulls") nulls_word) (spells_word text w h);
+nulls_spelled : (text : List ℕ) → is_key_word text ≡ true → Part (codes " NULLS " ++ text) (word (codes "nulls") ∷ in_small text ∷ [])
+nulls_spelled text h = record {
+  spells = opens_then (codes " NULLS ") text (word (codes "nulls") ∷ []) (in_small text ∷ []) (opens_between (codes "NULLS") refl) (spells_word text h);
   quiet = λ rest q. refl;
 }
 
@@ -223,7 +223,7 @@ direction false false = record { tokens = []; nulls = []; part = nothing; is = g
 direction false true = record {
   tokens = [];
   nulls = word (codes "nulls") ∷ word (codes "first") ∷ [];
-  part = nulls_spelled (codes "FIRST") (codes "first") first_word;
+  part = nulls_spelled (codes "FIRST") refl;
   is = grammar.no_direction;
   are = grammar.first;
 }
@@ -231,7 +231,7 @@ direction true true = record { tokens = word (codes "desc") ∷ []; nulls = []; 
 direction true false = record {
   tokens = word (codes "desc") ∷ [];
   nulls = word (codes "nulls") ∷ word (codes "last") ∷ [];
-  part = two_parts (codes " DESC") (codes " NULLS LAST") (word (codes "desc") ∷ []) (word (codes "nulls") ∷ word (codes "last") ∷ []) desc_spelled (nulls_spelled (codes "LAST") (codes "last") last_word);
+  part = two_parts (codes " DESC") (codes " NULLS LAST") (word (codes "desc") ∷ []) (word (codes "nulls") ∷ word (codes "last") ∷ []) desc_spelled (nulls_spelled (codes "LAST") refl);
   is = grammar.descending;
   are = grammar.last_;
 }
@@ -260,7 +260,7 @@ record Order (terms : List OrderTerm) : Type 0 where
   is : IsOrder tokens (map canonical_term terms)
 
 opens_order : Opens (codes " ORDER BY ") (word (codes "order") ∷ word (codes "by") ∷ [])
-opens_order = opens_two (codes " ORDER ") (codes "BY ") (word (codes "order") ∷ []) (word (codes "by") ∷ []) (opens_between (codes "ORDER") (codes "order") order_word) (opens_word (codes "BY") (codes "by") by_word)
+opens_order = opens_two (codes " ORDER ") (codes "BY ") (word (codes "order") ∷ []) (word (codes "by") ∷ []) (opens_between (codes "ORDER") refl) (opens_word (codes "BY") refl)
 
 order : (terms : List OrderTerm) → AllByRecursion TermFits terms → Order terms
 order [] all = record { tokens = []; part = nothing; is = grammar.no_order }
@@ -287,7 +287,7 @@ joined a b c d e f g = simp append_assoc
 
 batches_spelled : Part (codes " FROM batches") (word (codes "from") ∷ word (codes "batches") ∷ [])
 batches_spelled = record {
-  spells = opens_then (codes " FROM ") (codes "batches") (word (codes "from") ∷ []) (word (codes "batches") ∷ []) (opens_between (codes "FROM") (codes "from") from_word)
+  spells = opens_then (codes " FROM ") (codes "batches") (word (codes "from") ∷ []) (word (codes "batches") ∷ []) (opens_between (codes "FROM") refl)
       (spells_lexeme (Name (codes "batches")) (record { begins = refl; continues = refl; lower = refl; within = omega arith }));
   quiet = λ rest q. refl;
 }
@@ -299,9 +299,9 @@ query_printed asked legal names shallow fits =
     let whole = and_parts (list_all (λ item. filters_pass is_shallow item.0) q.items) (option_map_or are_shallow q.condition true && option_map_or are_shallow q.having true) shallow in
     let clauses = and_parts (option_map_or are_shallow q.condition true) (option_map_or are_shallow q.having true) whole.1 in
     let i = the_items q.items legal.some (items_fit q.items legal.items whole.0) in
-    let w = clause (codes " WHERE ") (codes "where") (opens_between (codes "WHERE") (codes "where") where_word) (λ rest. refl) q.condition legal.condition clauses.0 in
+    let w = clause (codes " WHERE ") (codes "where") (opens_between (codes "WHERE") refl) (λ rest. refl) q.condition legal.condition clauses.0 in
     let k = keys (first_of_each bytes_eq q.keys) names in
-    let h = clause (codes " HAVING ") (codes "having") (opens_between (codes "HAVING") (codes "having") having_word) (λ rest. refl) q.having legal.having clauses.1 in
+    let h = clause (codes " HAVING ") (codes "having") (opens_between (codes "HAVING") refl) (λ rest. refl) q.having legal.having clauses.1 in
     let o = order (order_of asked) fits in
     let where_text : List ℕ = clause_text (codes " WHERE ") q.condition in
     let group_text : List ℕ = keys_text (first_of_each bytes_eq q.keys) in
@@ -312,7 +312,7 @@ query_printed asked legal names shallow fits =
     let behind = two_parts (codes " FROM batches") (where_text ++ (group_text ++ (having_text ++ sorted_text))) (word (codes "from") ∷ word (codes "batches") ∷ []) (w.tokens ++ (k.tokens ++ (h.tokens ++ o.tokens))) batches_spelled tail in
     let text : List ℕ = codes " FROM batches" ++ (where_text ++ (group_text ++ (having_text ++ sorted_text))) in
     let all = opens_then (codes "SELECT ") (parted (map item_text q.items) ++ text) (word (codes "select") ∷ []) (i.tokens ++ (word (codes "from") ∷ word (codes "batches") ∷ (w.tokens ++ (k.tokens ++ (h.tokens ++ o.tokens)))))
-    (opens_word (codes "SELECT") (codes "select") select_word)
+    (opens_word (codes "SELECT") refl)
     (spells_two (parted (map item_text q.items)) text i.tokens (word (codes "from") ∷ word (codes "batches") ∷ (w.tokens ++ (k.tokens ++ (h.tokens ++ o.tokens)))) i.spells behind.quiet behind.spells) in
     let tokens : List Lexeme = word (codes "select") ∷ (i.tokens ++ (word (codes "from") ∷ word (codes "batches") ∷ (w.tokens ++ (k.tokens ++ (h.tokens ++ o.tokens))))) in
     let parts = joined (codes "SELECT ") (parted (map item_text q.items)) (codes " FROM batches") where_text group_text having_text sorted_text in

@@ -1,5 +1,6 @@
--- What is read is in the grammar, and what stands before a token that is refused can be completed.
-use Rattle.std.proofs.Common.{◌≡◌, ℕ, zero, suc, Bool, true, false, cond, List, [], ◌∷◌, ◌++◌, length, Option, Some, None, Ok, refl, sym, ap, subst, append_assoc}
+-- What is read is in the grammar, and what stands before a token that is refused can be completed: operands and
+-- comparisons, and any chain.
+use Rattle.std.proofs.Common.{◌≡◌, ℕ, zero, suc, Bool, true, false, cond, List, [], ◌∷◌, ◌++◌, Option, Some, None, Ok, refl, sym, subst, append_assoc}
 use Rattle.std.specs.Prelude.{codes}
 use Rattle.std.specs.Str.{bytes_eq}
 use Rattle.std.proofs.lemmas.List.{append-nil}
@@ -10,13 +11,13 @@ use Rattle.query_tokens.specs.Reserved.{is_reserved}
 use Rattle.grouping_model.specs.Datum as datum
 use Rattle.grouping_model.specs.Aggregates as function
 use Rattle.grouping_model.specs.Aggregates.{Function}
-use Rattle.grouping_model.specs.Condition.{Comparison, Test, Is_null}
+use Rattle.grouping_model.specs.Condition.{Comparison}
 use Rattle.query_checks.specs.Forms as form
-use Rattle.query_checks.specs.Operators.{comparison_named, all_tests, test_word}
+use Rattle.query_checks.specs.Operators.{comparison_named}
 use Rattle.query_grammar.specs.Terminals.{function_named, is_word, is_sign}
 use Rattle.query_grammar.specs.Grammar as grammar
-use Rattle.query_grammar.specs.Grammar.{Named, opening, closing, word, IsTest, IsCallArgument, IsCondition, IsAnd, IsNot, IsTested, IsCompared, IsOperand, IsCall}
-use Rattle.query_grammar.specs.Reading.{Read, Inner, ◌>>=◌, unexpected, expect, name_at, filter_at, argument_at, call_at, function_or_column, word_at, enclosed_at, prim_at, with_rest, after_comparison, right_side, cmp_at, looked_for_among, looked_for, tested, chain_at, test_at, not_at, joined, and_at, or_at, nested_at, condition_at, conditions}
+use Rattle.query_grammar.specs.Grammar.{Named, opening, closing, word, IsCallArgument, IsCondition, IsAnd, IsNot, IsTested, IsCompared, IsOperand, IsCall}
+use Rattle.query_grammar.specs.Reading.{Read, Inner, ◌>>=◌, unexpected, expect, name_at, filter_at, argument_at, call_at, function_or_column, word_at, enclosed_at, prim_at, with_rest, after_comparison, right_side, cmp_at, chain_at}
 use Rattle.query_grammar.specs.Laws.{Part, Means, CanBecome}
 use Rattle.query_grammar.specs.Lemmas.Marks.{the_word, same_bytes, the_sign}
 use Rattle.query_grammar.specs.Lemmas.Steps.{behind, done, refused, widen, weaken, bind, mapped, chosen, expected}
@@ -31,16 +32,16 @@ allowed false n = n
 abbrev pub Condition_part : ℕ → ℕ → Part Named
 Condition_part limit room = λ b ts x. IsCondition (allowed b limit) (allowed b room) ts x
 
-abbrev And_part : ℕ → ℕ → Part Named
+abbrev pub And_part : ℕ → ℕ → Part Named
 And_part limit room = λ b ts x. IsAnd (allowed b limit) (allowed b room) ts x
 
-abbrev Not_part : ℕ → ℕ → Part Named
+abbrev pub Not_part : ℕ → ℕ → Part Named
 Not_part limit room = λ b ts x. IsNot (allowed b limit) (allowed b room) ts x
 
-abbrev Tested_part : ℕ → ℕ → Part Named
+abbrev pub Tested_part : ℕ → ℕ → Part Named
 Tested_part limit room = λ b ts x. IsTested (allowed b limit) (allowed b room) ts x
 
-abbrev Compared_part : ℕ → ℕ → Part Named
+abbrev pub Compared_part : ℕ → ℕ → Part Named
 Compared_part limit room = λ b ts x. IsCompared (allowed b limit) (allowed b room) ts x
 
 abbrev Operand_part : ℕ → ℕ → Part Named
@@ -51,9 +52,6 @@ Call_part limit = λ b ts x. IsCall (allowed b limit) ts x
 
 abbrev Argument_part : Function → Part (Function × Option (List ℕ))
 Argument_part f = λ b ts x. IsCallArgument f ts x
-
-abbrev Test_part : Part Test
-Test_part = λ b ts x. IsTest ts x
 
 abbrev pub Name_part : Part (List ℕ)
 Name_part = λ b ts w. (is_reserved w ≡ false) × (ts ≡ Name w ∷ [])
@@ -66,13 +64,13 @@ word_law w t h = the_word w t h
 
 -- ---- the smallest parts
 
-abbrev null_form : Named
+abbrev pub null_form : Named
 null_form = form.Literal datum.Null
 
 null_within : (limit room : ℕ) → IsCondition limit room (word (codes "null") ∷ []) null_form
 null_within limit room = grammar.only_and (grammar.only_not (grammar.only_tested (grammar.only_compared (grammar.only_operand grammar.null_word))))
 
-null_condition : (b : Bool) (limit room : ℕ) → Condition_part limit room b (word (codes "null") ∷ []) null_form
+pub null_condition : (b : Bool) (limit room : ℕ) → Condition_part limit room b (word (codes "null") ∷ []) null_form
 null_condition b limit room = null_within (allowed b limit) (allowed b room)
 
 null_operand : (limit room : ℕ) (b : Bool) → CanBecome (Operand_part limit room b) []
@@ -243,36 +241,16 @@ side_means inner h room front x (Name w ∷ ts) p = alone inner.limit room front
 side_means inner h room front x (Integer z ∷ ts) p = alone inner.limit room front x (Integer z ∷ ts) p
 side_means inner h room front x (Text s ∷ ts) p = alone inner.limit room front x (Text s ∷ ts) p
 
-cmp_means : (inner : Inner) (h : InnerMeans inner) (room : ℕ) (ts : List Lexeme) → Means (Compared_part inner.limit room) ts (cmp_at inner room ts)
+pub cmp_means : (inner : Inner) (h : InnerMeans inner) (room : ℕ) (ts : List Lexeme) → Means (Compared_part inner.limit room) ts (cmp_at inner room ts)
 unfolding cmp_at
 cmp_means inner h room ts =
     bind (Operand_part inner.limit room) (Compared_part inner.limit room) ts (prim_at inner room ts) (λ x. right_side inner room x.0 x.1 (after_comparison x.1)) (prim_means inner h room ts)
     (λ front rest x p. side_means inner h room front x rest p)
     (λ b front x p. ([], x, subst (λ (u : List Lexeme). Compared_part inner.limit room b u x) (sym (append-nil front)) (grammar.only_operand p)))
 
--- ---- IS tests
-
-among_means : (tests : List Test) (ts : List Lexeme) → Means Test_part ts (looked_for_among tests ts)
-among_means [] ts = refused Test_part ts (λ b. (word (test_word Is_null) ∷ [], Is_null, grammar.for_word Is_null))
-among_means (t ∷ tests) ts =
-    chosen Test_part (word (test_word t)) (is_word (test_word t)) (word_law (test_word t)) ts (λ rest. Ok (t, rest)) (looked_for_among tests ts) (λ rest. done (λ b u s. IsTest (word (test_word t) ∷ u) s) rest t (λ b. grammar.for_word t))
-    (among_means tests ts)
-
-looked_for_means : (ts : List Lexeme) → Means Test_part ts (looked_for ts)
-unfolding looked_for
-looked_for_means ts = among_means all_tests ts
-
-tested_means : (limit room : ℕ) (front : List Lexeme) (x : Named) (ts : List Lexeme) → ((b : Bool) → Tested_part limit room b front x) → Means (λ b u y. Tested_part limit room b (front ++ word (codes "is") ∷ u) y) ts (tested x ts)
-unfolding tested
-tested_means limit room front x ts p =
-    chosen (λ b u y. Tested_part limit room b (front ++ word (codes "is") ∷ u) y) (word (codes "not")) (is_word (codes "not")) (word_law (codes "not")) ts
-    (λ rest. looked_for rest >>= λ t. Ok (form.Is_not t.0 x, t.1)) (looked_for ts >>= λ t. Ok (form.Is t.0 x, t.1))
-    (λ rest. mapped Test_part (λ b u y. Tested_part limit room b (front ++ word (codes "is") ∷ word (codes "not") ∷ u) y) rest (looked_for rest) (λ t. form.Is_not t x) (looked_for_means rest) (λ b u t q. grammar.by_is_not front u (p b) q))
-    (mapped Test_part (λ b u y. Tested_part limit room b (front ++ word (codes "is") ∷ u) y) ts (looked_for ts) (λ t. form.Is t x) (looked_for_means ts) (λ b u t q. grammar.by_is front u (p b) q))
-
 -- ---- chains. Q is the part of the grammar for what was read so far
 
-chain_means : (operator : List ℕ) (step : Named → List Lexeme → Read Named) (Q : Part Named)
+pub chain_means : (operator : List ℕ) (step : Named → List Lexeme → Read Named) (Q : Part Named)
     → ((front : List Lexeme) (x : Named) (ts : List Lexeme) → ((b : Bool) → Q b front x) → Means (λ b u y. Q b (front ++ word operator ∷ u) y) ts (step x ts))
     → (turns : ℕ) (front : List Lexeme) (x : Named) (ts : List Lexeme) → ((b : Bool) → Q b front x) → Means (behind front Q) ts (chain_at operator step turns x ts)
 unfolding chain_at
@@ -286,59 +264,3 @@ chain_means operator step Q h (suc turns) front x ts so_far =
     (chain_means operator step Q h turns (front ++ word operator ∷ u) y rest2 p))
     (λ b u y p. ([], y, subst (λ (w : List Lexeme). Q b (front ++ word operator ∷ w) y) (sym (append-nil u)) p)))
     (done (behind front Q) ts x (λ b. subst (λ (u : List Lexeme). Q b u x) (sym (append-nil front)) (so_far b)))
-
-test_means : (inner : Inner) (h : InnerMeans inner) (room : ℕ) (ts : List Lexeme) → Means (Tested_part inner.limit room) ts (test_at inner room ts)
-unfolding test_at
-test_means inner h room ts =
-    bind (Compared_part inner.limit room) (Tested_part inner.limit room) ts (cmp_at inner room ts) (λ x. chain_at (codes "is") tested (length x.1) x.0 x.1) (cmp_means inner h room ts)
-    (λ front rest x p. chain_means (codes "is") tested (Tested_part inner.limit room) (λ u y us q. tested_means inner.limit room u y us q) (length rest) front x rest (λ b. grammar.only_compared (p b)))
-    (λ b front x p. ([], x, subst (λ (u : List Lexeme). Tested_part inner.limit room b u x) (sym (append-nil front)) (grammar.only_compared p)))
-
--- ---- NOT
-
-not_or_test : (inner : Inner) (h : InnerMeans inner) (room : ℕ) (b : Bool) (t : Lexeme) (ts : List Lexeme) → is_word (codes "not") t ≡ b → Means (Not_part inner.limit room) ts (not_at inner room ts)
-    → Means (Not_part inner.limit room) (t ∷ ts) (cond b (not_at inner room ts >>= λ x. Ok (form.Not x.0, x.1)) (test_at inner room (t ∷ ts)))
-not_or_test inner h room true t ts e k =
-    widen (Not_part inner.limit room) (word (codes "not") ∷ []) ts (t ∷ ts) (not_at inner room ts >>= λ x. Ok (form.Not x.0, x.1)) (ap (λ (v : Lexeme). v ∷ ts) (the_word (codes "not") t e))
-    (mapped (Not_part inner.limit room) (λ b u x. Not_part inner.limit room b (word (codes "not") ∷ u) x) ts (not_at inner room ts) (λ x. form.Not x) k (λ b u x p. grammar.by_not p))
-not_or_test inner h room false t ts e k = weaken (Tested_part inner.limit room) (Not_part inner.limit room) (t ∷ ts) (test_at inner room (t ∷ ts)) (λ b u x p. grammar.only_tested p) (test_means inner h room (t ∷ ts))
-
-pub not_means : (inner : Inner) (h : InnerMeans inner) (room : ℕ) (ts : List Lexeme) → Means (Not_part inner.limit room) ts (not_at inner room ts)
-unfolding not_at
-not_means inner h room [] = weaken (Tested_part inner.limit room) (Not_part inner.limit room) [] (test_at inner room []) (λ b u x p. grammar.only_tested p) (test_means inner h room [])
-not_means inner h room (t ∷ ts) = not_or_test inner h room (is_word (codes "not") t) t ts refl (not_means inner h room ts)
-
--- ---- AND and OR
-
--- operands of one kind, joined by an operator
-chained : (operator : List ℕ) (join : Named → Named → Named) (P Q : Part Named) (operand : List Lexeme → Read Named) → ((ts : List Lexeme) → Means P ts (operand ts))
-    → ((b : Bool) (u : List Lexeme) (x : Named) → P b u x → Q b u x)
-    → ((b : Bool) (front u : List Lexeme) (x y : Named) → Q b front x → P b u y → Q b (front ++ word operator ∷ u) (join x y))
-    → (ts : List Lexeme) → Means Q ts (operand ts >>= λ x. chain_at operator (joined join operand) (length x.1) x.0 x.1)
-chained operator join P Q operand means only by ts =
-    bind P Q ts (operand ts) (λ x. chain_at operator (joined join operand) (length x.1) x.0 x.1) (means ts)
-    (λ front rest x p. chain_means operator (joined join operand) Q
-    (λ front x ts p. mapped P (λ b u y. Q b (front ++ word operator ∷ u) y) ts (operand ts) (λ y. join x y) (means ts) (λ b u y q. by b front u x y (p b) q))
-    (length rest) front x rest (λ b. only b front x (p b)))
-    (λ b front x p. ([], x, subst (λ (u : List Lexeme). Q b u x) (sym (append-nil front)) (only b front x p)))
-
-pub and_means : (inner : Inner) (h : InnerMeans inner) (room : ℕ) (ts : List Lexeme) → Means (And_part inner.limit room) ts (and_at inner room ts)
-unfolding and_at
-and_means inner h room ts =
-    chained (codes "and") form.And (Not_part inner.limit room) (And_part inner.limit room) (not_at inner room) (not_means inner h room) (λ b u x p. grammar.only_not p) (λ b front u x y p q. grammar.by_and front u p q) ts
-
-pub or_means : (inner : Inner) (h : InnerMeans inner) (room : ℕ) (ts : List Lexeme) → Means (Condition_part inner.limit room) ts (or_at inner room ts)
-unfolding or_at
-or_means inner h room ts =
-    chained (codes "or") form.Or (And_part inner.limit room) (Condition_part inner.limit room) (and_at inner room) (and_means inner h room) (λ b u x p. grammar.only_and p) (λ b front u x y p q. grammar.by_or front u p q) ts
-
--- ---- conditions inside
-
-pub nested_means : (limit most : ℕ) → InnerMeans (record { limit = limit; inside = nested_at limit most })
-unfolding nested_at
-nested_means limit zero room ts = refused (Condition_part limit room) ts (λ b. (word (codes "null") ∷ [], null_form, null_condition b limit room))
-nested_means limit (suc most) room ts = or_means (record { limit = limit; inside = nested_at limit most }) (nested_means limit most) room ts
-
-pub condition_means : (limit : ℕ) → InnerMeans (conditions limit)
-unfolding condition_at
-condition_means limit room ts = nested_means limit (suc (length ts)) room ts

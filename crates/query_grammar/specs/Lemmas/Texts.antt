@@ -1,16 +1,21 @@
 -- The bytes of canonical texts and the lexemes that are read from them.
-use Rattle.std.proofs.Common.{◌≡◌, ℕ, ◌+◌, ◌-◌, false, List, [], ◌∷◌, ◌++◌, length, Ok, Err, refl, ap, sym, subst, ◌∙◌, append_assoc, arith}
-use Rattle.std.specs.Prelude.{codes, Result}
+use Rattle.std.proofs.Common.{◌≡◌, ℕ, ◌+◌, ◌-◌, Bool, true, false, ltb, List, [], ◌∷◌, ◌++◌, length, map, Ok, Err, refl, ap, sym, subst, ◌∙◌, append_assoc, arith}
+use Rattle.std.specs.Prelude.{codes, Result, ◌&&◌, nat_le}
+use Rattle.std.specs.Char.{to_ascii_lowercase}
+use Rattle.std.specs.List.{list_all}
+use Rattle.std.proofs.Math.Seq.{take-append_seam, drop-append_seam}
+use Rattle.std.proofs.lemmas.Bool.{and_parts, false≢true, le-ltb, leb-true}
 use Rattle.std.proofs.lemmas.List.{length-drop}
 use Rattle.query_tokens.specs.declared.fault.Fault.{Fault}
 use Rattle.query_tokens.specs.Words.{Lexeme, Name, Placed}
-use Rattle.query_tokens.specs.Bytes.{first_is, is_in_name}
+use Rattle.query_tokens.specs.Bytes.{first_is, is_space, begins_name, is_in_name}
 use Rattle.query_tokens.specs.Tokens.{◌>>=◌, name_at, word_at, tokens_at}
 use Rattle.query_tokens.specs.Spelling.{IsLexeme, EndsBefore, spell, lexemes_read, runs_on}
 use Rattle.query_tokens.specs.Lemmas.Steps.{passes, word_end}
-use Rattle.query_tokens.specs.Lemmas.Respelled.{word_again}
+use Rattle.query_tokens.specs.Lemmas.Respelled.{run_length, word_again}
 use Rattle.query_tokens.specs.Lemmas.Pieces.{IsSolid, spell_solid}
 use Rattle.query_tokens.specs.EndLaws.{before_others}
+use Rattle.grouping_model.specs.declared.limits.TheConstants.{LONGEST_NAME}
 use Rattle.grouping_model.specs.Condition as model
 use Rattle.query_checks.specs.Operators.{test_text, test_word}
 use Rattle.query_grammar.specs.Grammar.{opening, closing}
@@ -92,199 +97,57 @@ spells_enclosed text ts s =
     opens_close : Opens (codes "(") (opening ∷ []) → Spells (text ++ codes ")") (ts ++ closing ∷ []) → Spells (codes "(" ++ text ++ codes ")") (opening ∷ (ts ++ closing ∷ []))
     opens_close o t = opens_then (codes "(") (text ++ codes ")") (opening ∷ []) (ts ++ closing ∷ []) o t
 
--- ---- key words in capitals
+-- ---- key words in capitals: bytes that a name can have
 
-pub record IsWord (text w : List ℕ) : Type 0 where
-  pub at : (at : ℕ) (rest : List ℕ) → Quiet rest → word_at at (text ++ rest) ≡ Ok (Name w, rest)
-  pub solid : (rest : List ℕ) → IsSolid (text ++ rest)
+abbrev pub is_key_word : List ℕ → Bool
+is_key_word text = first_is begins_name text && (list_all is_in_name text && nat_le (length text) LONGEST_NAME)
 
-pub spells_word : (text w : List ℕ) → IsWord text w → Spells text (Name w ∷ [])
-spells_word text w h = record { on = λ rest ws q more. reads_word (text ++ rest) (Name w) rest ws (h.solid rest) (λ at. h.at at rest q) more }
+-- the word that is read
+abbrev pub in_small : List ℕ → Lexeme
+in_small text = Name (map to_ascii_lowercase text)
+
+quiet_name : (rest : List ℕ) → Quiet rest → first_is is_in_name rest ≡ false
+quiet_name [] q = refl
+quiet_name (b ∷ bs) q = grind (arith, nat_tests, common_steps)
+
+begins_solid : (b : ℕ) → begins_name b ≡ true → is_space b ≡ false
+begins_solid b h = grind (arith, h)
+
+name_in_capitals : (at : ℕ) (text rest : List ℕ) → list_all is_in_name text ≡ true → ltb LONGEST_NAME (length text) ≡ false → Quiet rest → name_at at (text ++ rest) ≡ Ok (in_small text, rest)
+unfolding name_at
+name_in_capitals at text rest goes_on short q =
+    rw (run_length is_in_name text rest goes_on (quiet_name rest q), short, take-append_seam text rest, drop-append_seam text rest) refl
+
+reads_key_word : (text rest : List ℕ) (ws : List Lexeme) → is_key_word text ≡ true → Quiet rest → Reads rest ws → Reads (text ++ rest) (in_small text ∷ ws)
+unfolding word_at
+reads_key_word [] rest ws h q more = absurd (false≢true h)
+reads_key_word (b ∷ bs) rest ws h q more =
+    let text = b ∷ bs in
+    let begins = and_parts (begins_name b) (list_all is_in_name text && nat_le (length text) LONGEST_NAME) h in
+    let goes_on = and_parts (list_all is_in_name text) (nat_le (length text) LONGEST_NAME) begins.1 in
+    let short : ltb LONGEST_NAME (length text) ≡ false = le-ltb LONGEST_NAME (length text) (leb-true (length text) LONGEST_NAME goes_on.1) in
+    reads_word (text ++ rest) (in_small text) rest ws (record { some = omega arith; solid = begins_solid b begins.0 })
+    (λ at. rw begins.0 (name_in_capitals at text rest goes_on.0 short q)) more
+
+pub spells_word : (text : List ℕ) → is_key_word text ≡ true → Spells text (in_small text ∷ [])
+spells_word text h = record { on = λ rest ws q more. reads_key_word text rest ws h q more }
 
 -- with a space behind it
-pub opens_word : (text w : List ℕ) → IsWord text w → Opens (text ++ 32 ∷ []) (Name w ∷ [])
-opens_word text w h = record { on = λ rest ws more. rw (append_assoc text (32 ∷ []) rest) ((spells_word text w h).on (32 ∷ rest) ws refl (reads_space rest ws more)) }
+pub opens_word : (text : List ℕ) → is_key_word text ≡ true → Opens (text ++ 32 ∷ []) (in_small text ∷ [])
+opens_word text h = record { on = λ rest ws more. rw (append_assoc text (32 ∷ []) rest) (reads_key_word text (32 ∷ rest) ws h refl (reads_space rest ws more)) }
 
 -- with a space before it and one behind
-pub opens_between : (text w : List ℕ) → IsWord text w → Opens (32 ∷ (text ++ 32 ∷ [])) (Name w ∷ [])
-opens_between text w h = record { on = λ rest ws more. reads_space ((text ++ 32 ∷ []) ++ rest) (Name w ∷ ws) ((opens_word text w h).on rest ws more) }
+pub opens_between : (text : List ℕ) → is_key_word text ≡ true → Opens (32 ∷ (text ++ 32 ∷ [])) (in_small text ∷ [])
+opens_between text h = record { on = λ rest ws more. reads_space ((text ++ 32 ∷ []) ++ rest) (in_small text ∷ ws) ((opens_word text h).on rest ws more) }
 
 -- and with one before it alone
-pub spells_behind : (text w : List ℕ) → IsWord text w → Spells (32 ∷ text) (Name w ∷ [])
-spells_behind text w h = record { on = λ rest ws q more. reads_space (text ++ rest) (Name w ∷ ws) ((spells_word text w h).on rest ws q more) }
+pub spells_behind : (text : List ℕ) → is_key_word text ≡ true → Spells (32 ∷ text) (in_small text ∷ [])
+spells_behind text h = record { on = λ rest ws q more. reads_space (text ++ rest) (in_small text ∷ ws) (reads_key_word text rest ws h q more) }
 
 -- one that opens behind another
 pub opens_two : (a b : List ℕ) (ts us : List Lexeme) → Opens a ts → Opens b us → Opens (a ++ b) (ts ++ us)
 opens_two a b ts us s t = record { on = λ rest ws more. rw (append_assoc a b rest, append_assoc ts us ws) (s.on (b ++ rest) (us ++ ws) (t.on rest ws more)) }
 
-quiet_name : (b : ℕ) (bs : List ℕ) → Quiet (b ∷ bs) → is_in_name b ≡ false
-quiet_name b bs q = grind (arith, nat_tests, common_steps)
-
-pub select_word : IsWord (codes "SELECT") (codes "select")
-unfolding word_at name_at
-select_word = record { at = go; solid = λ rest. record { some = omega arith; solid = refl } }
-  where
-    go : (at : ℕ) (rest : List ℕ) → Quiet rest → word_at at (codes "SELECT" ++ rest) ≡ Ok (Name (codes "select"), rest)
-    go at [] q = refl
-    go at (b ∷ bs) q = rw (quiet_name b bs q) refl
-
-pub from_word : IsWord (codes "FROM") (codes "from")
-unfolding word_at name_at
-from_word = record { at = go; solid = λ rest. record { some = omega arith; solid = refl } }
-  where
-    go : (at : ℕ) (rest : List ℕ) → Quiet rest → word_at at (codes "FROM" ++ rest) ≡ Ok (Name (codes "from"), rest)
-    go at [] q = refl
-    go at (b ∷ bs) q = rw (quiet_name b bs q) refl
-
-pub where_word : IsWord (codes "WHERE") (codes "where")
-unfolding word_at name_at
-where_word = record { at = go; solid = λ rest. record { some = omega arith; solid = refl } }
-  where
-    go : (at : ℕ) (rest : List ℕ) → Quiet rest → word_at at (codes "WHERE" ++ rest) ≡ Ok (Name (codes "where"), rest)
-    go at [] q = refl
-    go at (b ∷ bs) q = rw (quiet_name b bs q) refl
-
-pub group_word : IsWord (codes "GROUP") (codes "group")
-unfolding word_at name_at
-group_word = record { at = go; solid = λ rest. record { some = omega arith; solid = refl } }
-  where
-    go : (at : ℕ) (rest : List ℕ) → Quiet rest → word_at at (codes "GROUP" ++ rest) ≡ Ok (Name (codes "group"), rest)
-    go at [] q = refl
-    go at (b ∷ bs) q = rw (quiet_name b bs q) refl
-
-pub by_word : IsWord (codes "BY") (codes "by")
-unfolding word_at name_at
-by_word = record { at = go; solid = λ rest. record { some = omega arith; solid = refl } }
-  where
-    go : (at : ℕ) (rest : List ℕ) → Quiet rest → word_at at (codes "BY" ++ rest) ≡ Ok (Name (codes "by"), rest)
-    go at [] q = refl
-    go at (b ∷ bs) q = rw (quiet_name b bs q) refl
-
-pub having_word : IsWord (codes "HAVING") (codes "having")
-unfolding word_at name_at
-having_word = record { at = go; solid = λ rest. record { some = omega arith; solid = refl } }
-  where
-    go : (at : ℕ) (rest : List ℕ) → Quiet rest → word_at at (codes "HAVING" ++ rest) ≡ Ok (Name (codes "having"), rest)
-    go at [] q = refl
-    go at (b ∷ bs) q = rw (quiet_name b bs q) refl
-
-pub as_word : IsWord (codes "AS") (codes "as")
-unfolding word_at name_at
-as_word = record { at = go; solid = λ rest. record { some = omega arith; solid = refl } }
-  where
-    go : (at : ℕ) (rest : List ℕ) → Quiet rest → word_at at (codes "AS" ++ rest) ≡ Ok (Name (codes "as"), rest)
-    go at [] q = refl
-    go at (b ∷ bs) q = rw (quiet_name b bs q) refl
-
-pub filter_word : IsWord (codes "FILTER") (codes "filter")
-unfolding word_at name_at
-filter_word = record { at = go; solid = λ rest. record { some = omega arith; solid = refl } }
-  where
-    go : (at : ℕ) (rest : List ℕ) → Quiet rest → word_at at (codes "FILTER" ++ rest) ≡ Ok (Name (codes "filter"), rest)
-    go at [] q = refl
-    go at (b ∷ bs) q = rw (quiet_name b bs q) refl
-
-pub and_word : IsWord (codes "AND") (codes "and")
-unfolding word_at name_at
-and_word = record { at = go; solid = λ rest. record { some = omega arith; solid = refl } }
-  where
-    go : (at : ℕ) (rest : List ℕ) → Quiet rest → word_at at (codes "AND" ++ rest) ≡ Ok (Name (codes "and"), rest)
-    go at [] q = refl
-    go at (b ∷ bs) q = rw (quiet_name b bs q) refl
-
-pub or_word : IsWord (codes "OR") (codes "or")
-unfolding word_at name_at
-or_word = record { at = go; solid = λ rest. record { some = omega arith; solid = refl } }
-  where
-    go : (at : ℕ) (rest : List ℕ) → Quiet rest → word_at at (codes "OR" ++ rest) ≡ Ok (Name (codes "or"), rest)
-    go at [] q = refl
-    go at (b ∷ bs) q = rw (quiet_name b bs q) refl
-
-pub not_word : IsWord (codes "NOT") (codes "not")
-unfolding word_at name_at
-not_word = record { at = go; solid = λ rest. record { some = omega arith; solid = refl } }
-  where
-    go : (at : ℕ) (rest : List ℕ) → Quiet rest → word_at at (codes "NOT" ++ rest) ≡ Ok (Name (codes "not"), rest)
-    go at [] q = refl
-    go at (b ∷ bs) q = rw (quiet_name b bs q) refl
-
-pub is_word : IsWord (codes "IS") (codes "is")
-unfolding word_at name_at
-is_word = record { at = go; solid = λ rest. record { some = omega arith; solid = refl } }
-  where
-    go : (at : ℕ) (rest : List ℕ) → Quiet rest → word_at at (codes "IS" ++ rest) ≡ Ok (Name (codes "is"), rest)
-    go at [] q = refl
-    go at (b ∷ bs) q = rw (quiet_name b bs q) refl
-
-pub null_word : IsWord (codes "NULL") (codes "null")
-unfolding word_at name_at
-null_word = record { at = go; solid = λ rest. record { some = omega arith; solid = refl } }
-  where
-    go : (at : ℕ) (rest : List ℕ) → Quiet rest → word_at at (codes "NULL" ++ rest) ≡ Ok (Name (codes "null"), rest)
-    go at [] q = refl
-    go at (b ∷ bs) q = rw (quiet_name b bs q) refl
-
-pub true_word : IsWord (codes "TRUE") (codes "true")
-unfolding word_at name_at
-true_word = record { at = go; solid = λ rest. record { some = omega arith; solid = refl } }
-  where
-    go : (at : ℕ) (rest : List ℕ) → Quiet rest → word_at at (codes "TRUE" ++ rest) ≡ Ok (Name (codes "true"), rest)
-    go at [] q = refl
-    go at (b ∷ bs) q = rw (quiet_name b bs q) refl
-
-pub false_word : IsWord (codes "FALSE") (codes "false")
-unfolding word_at name_at
-false_word = record { at = go; solid = λ rest. record { some = omega arith; solid = refl } }
-  where
-    go : (at : ℕ) (rest : List ℕ) → Quiet rest → word_at at (codes "FALSE" ++ rest) ≡ Ok (Name (codes "false"), rest)
-    go at [] q = refl
-    go at (b ∷ bs) q = rw (quiet_name b bs q) refl
-
-pub test_is_word : (t : model.Test) → IsWord (test_text t) (test_word t)
-unfolding word_at name_at
-test_is_word model.Is_null = null_word
-test_is_word t = record { at = go; solid = λ rest. record { some = omega arith; solid = refl } }
-  where
-    go : (at : ℕ) (rest : List ℕ) → Quiet rest → word_at at (test_text t ++ rest) ≡ Ok (Name (test_word t), rest)
-    go at [] q = refl
-    go at (b ∷ bs) q = rw (quiet_name b bs q) refl
-
-pub order_word : IsWord (codes "ORDER") (codes "order")
-unfolding word_at name_at
-order_word = record { at = go; solid = λ rest. record { some = omega arith; solid = refl } }
-  where
-    go : (at : ℕ) (rest : List ℕ) → Quiet rest → word_at at (codes "ORDER" ++ rest) ≡ Ok (Name (codes "order"), rest)
-    go at [] q = refl
-    go at (b ∷ bs) q = rw (quiet_name b bs q) refl
-
-pub desc_word : IsWord (codes "DESC") (codes "desc")
-unfolding word_at name_at
-desc_word = record { at = go; solid = λ rest. record { some = omega arith; solid = refl } }
-  where
-    go : (at : ℕ) (rest : List ℕ) → Quiet rest → word_at at (codes "DESC" ++ rest) ≡ Ok (Name (codes "desc"), rest)
-    go at [] q = refl
-    go at (b ∷ bs) q = rw (quiet_name b bs q) refl
-
-pub nulls_word : IsWord (codes "NULLS") (codes "nulls")
-unfolding word_at name_at
-nulls_word = record { at = go; solid = λ rest. record { some = omega arith; solid = refl } }
-  where
-    go : (at : ℕ) (rest : List ℕ) → Quiet rest → word_at at (codes "NULLS" ++ rest) ≡ Ok (Name (codes "nulls"), rest)
-    go at [] q = refl
-    go at (b ∷ bs) q = rw (quiet_name b bs q) refl
-
-pub first_word : IsWord (codes "FIRST") (codes "first")
-unfolding word_at name_at
-first_word = record { at = go; solid = λ rest. record { some = omega arith; solid = refl } }
-  where
-    go : (at : ℕ) (rest : List ℕ) → Quiet rest → word_at at (codes "FIRST" ++ rest) ≡ Ok (Name (codes "first"), rest)
-    go at [] q = refl
-    go at (b ∷ bs) q = rw (quiet_name b bs q) refl
-
-pub last_word : IsWord (codes "LAST") (codes "last")
-unfolding word_at name_at
-last_word = record { at = go; solid = λ rest. record { some = omega arith; solid = refl } }
-  where
-    go : (at : ℕ) (rest : List ℕ) → Quiet rest → word_at at (codes "LAST" ++ rest) ≡ Ok (Name (codes "last"), rest)
-    go at [] q = refl
-    go at (b ∷ bs) q = rw (quiet_name b bs q) refl
+pub spells_test : (t : model.Test) → Spells (test_text t) (Name (test_word t) ∷ [])
+spells_test model.Is_null = spells_word (codes "NULL") refl
+spells_test t = spells_word (test_text t) refl

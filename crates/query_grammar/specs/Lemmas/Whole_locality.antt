@@ -16,7 +16,8 @@ use Rattle.query_grammar.specs.Lemmas.Whole_sound.{Value_part, Alias_part, value
 use Rattle.query_grammar.specs.Lemmas.Terms.{terms_agree}
 use Rattle.query_grammar.specs.Lemmas.Whole_complete.{query_reads}
 use Rattle.query_grammar.specs.Lemmas.Alike.{Tails, none, both, Within, Stays, Past, Alike, same, refused, deep, past, deeper, Agree, within_bind, within_chosen, alike_bind, alike_choose, done, binds, chooses, expects, maps}
-use Rattle.query_grammar.specs.Lemmas.Locality.{Rooms, stays_of, names_agree, free_word_in, free_word_past, conditions_agree}
+use Rattle.query_grammar.specs.Lemmas.Locality.{Rooms, stays_of, names_agree, free_word_in, free_word_past}
+use Rattle.query_grammar.specs.Lemmas.Logic.{conditions_agree}
 
 -- ---- items
 

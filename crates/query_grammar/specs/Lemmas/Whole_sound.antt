@@ -17,7 +17,8 @@ use Rattle.query_grammar.specs.Whole.{item_value_at, alias_or_none, alias_at, it
 use Rattle.query_grammar.specs.Laws.{Part, Means, CanBecome}
 use Rattle.query_grammar.specs.Lemmas.Marks.{the_sign}
 use Rattle.query_grammar.specs.Lemmas.Steps.{behind, done, refused, widen, weaken, bind, mapped, chosen, expected}
-use Rattle.query_grammar.specs.Lemmas.Sound.{allowed, Condition_part, Call_part, Name_part, a_name, word_law, name_means, call_means, condition_means}
+use Rattle.query_grammar.specs.Lemmas.Sound.{allowed, Condition_part, Call_part, Name_part, a_name, word_law, name_means, call_means}
+use Rattle.query_grammar.specs.Lemmas.Logic.{condition_means}
 use Rattle.query_grammar.specs.Lemmas.Terms.{Term_part, term_means}
 
 abbrev pub Value_part : ℕ → Part Named
