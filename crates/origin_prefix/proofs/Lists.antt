@@ -1,4 +1,4 @@
--- The rest of a list, and what is found by a number.
+-- The rest of a list of which the first was taken.
 use Rattle.std.specs.Prelude.{◌≡◌, ◌≢◌, ℕ, ◌+◌, ◌<◌, true, false, List, [], ◌∷◌, drop, length, Option, Some, None, IsSome, IfSome, IfNone}
 use Rattle.std.proofs.Common.{◌∙◌, sym, ap, arith}
 use Rattle.std.proofs.lemmas.Bool.{true≢false}

@@ -1,17 +1,15 @@
--- Why a file is refused, by the refusal, and what the batch of a batch file is.
+-- What the batch of a batch file is.
 use Rattle.std.specs.Prelude.{◌≡◌, ◌≤◌, List, length, Option, Some, None, IsSomeAnd}
 use Rattle.std.proofs.Common.{subst}
 use Rattle.grouping_model.specs.Datum.{Kind, Row}
 use Rattle.grouping_model.specs.declared.limits.TheConstants.{MOST_ROWS}
 use Rattle.packed_rows.specs.Columns.{Column, kinds}
-use Rattle.packed_rows.specs.declared.error.RowError.TheVariants as row
 use Rattle.batch_reader.specs.File.{BatchFile}
 use Rattle.batch_reader.specs.Head.{ReadsOrigin, ReadsBatchNumber}
 use Rattle.batch_reader.specs.Rows.{ReadsRows, ArePackedRows, packings}
 use Rattle.batch_reader.specs.declared.batch.Batch.{Batch}
 use Rattle.replies.specs.BatchLaws.{read_are_packed}
 use Rattle.replies.specs.Batches.{IsRead}
-use Rattle.replies.specs.declared.refusal.Refusal.TheVariants as refuse
 
 -- the batch of a batch file was read of its fields and records
 abbrev pub IsReadOf : List Kind → Option BatchFile → Batch → Type 0

@@ -1,4 +1,4 @@
--- What a delivery of a batch that isn't next to the prefix is counted as.
+-- What holds in any case holds of a call that succeeded.
 use Rattle.std.specs.Prelude.{Result, Ok, Err, OnOk}
 
 -- what holds in any case

@@ -1,12 +1,10 @@
--- The rest of a list, and what is found by a number.
+-- Numbers that are the same, and numbers that are not.
 use Rattle.std.specs.Prelude.{◌≡◌, ◌≢◌, refl, ℕ, ◌⊎◌, Bool, true, false}
 use Rattle.std.proofs.Common.{◌∙◌, sym, ap, inl, inr}
 use Rattle.std.proofs.lemmas.Bool.{true≢false, false_from_ne_true}
 use Rattle.std.specs.Ordering.{eq_by_cmp, nat_cmp, is_eq}
 use Rattle.std.specs.Cmp.{nat_cmp_total, tied_itself, Equal-is}
 use Rattle.std.specs.FinMap.{nat_cmp-IsAntisymmetric}
-
--- ---- numbers
 
 pub is_itself : (n : ℕ) → eq_by_cmp nat_cmp n n ≡ true
 is_itself n = ap is_eq (tied_itself nat_cmp_total n)

@@ -1,8 +1,7 @@
--- The batches that follow a prefix: what they bring, and what becomes of a part that takes them.
+-- What a batch brings to an aggregation.
 use Rattle.std.specs.Prelude.{ℕ, List}
 use Rattle.std.proofs.lemmas.List.Elements.{recursion_from_All}
 use Rattle.grouping_model.specs.Datum.{HasKinds}
-use Rattle.packed_rows.specs.Packing.{packing}
 use Rattle.packed_rows.specs.Columns.{kinds}
 use Rattle.batch_reader.specs.Rows.{ArePackedRows}
 use Rattle.query_checks.specs.Checks.{Checked}

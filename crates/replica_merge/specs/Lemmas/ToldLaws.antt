@@ -1,9 +1,8 @@
--- What parts tell: which batches are known, the prefixes, the early numbers, the origins.
+-- What holds of each part that is held.
 use Rattle.std.specs.Prelude.{◌≡◌, ℕ, Some}
-use Rattle.grouping_model.specs.World.{early, origins}
 use Rattle.query_checks.specs.Checks.{Checked}
 use Rattle.origin_prefix.specs.Parts.{Part}
-use Rattle.origin_prefix.specs.Lemmas.ByNumber.{numbers, found_holds}
+use Rattle.origin_prefix.specs.Lemmas.ByNumber.{found_holds}
 use Rattle.replica_merge.specs.Replicas.{Parts, part_at, IsHeldPart, AreHeldParts}
 
 pub held_part : (query : Checked) (parts : Parts) → AreHeldParts query parts → (o : ℕ) (p : Part) → part_at parts o ≡ Some p → IsHeldPart query (o, p)

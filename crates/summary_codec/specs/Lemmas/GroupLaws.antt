@@ -1,4 +1,4 @@
--- Groups of a file.
+-- How many bytes a row of states has.
 use Rattle.std.proofs.Common.{◌≡◌, refl, ◌-◌, ◌+◌, List, [], ◌∷◌, sym, ap, ◌∙◌}
 use Rattle.std.proofs.lemmas.List.Sums.{sum_by-cons}
 use Rattle.std.specs.Prelude.{sum_by}

@@ -1,5 +1,5 @@
 -- Reading one thing after another.
-use Rattle.std.proofs.Common.{ℕ, ◌-◌, List, Ok, Err, inr}
+use Rattle.std.proofs.Common.{ℕ, List, Ok, Err, inr}
 use Rattle.summary_codec.specs.Reading.{Outcome, Reader, both}
 
 -- a first step that gives a value goes on with the second
