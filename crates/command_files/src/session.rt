@@ -10,10 +10,11 @@ use command_words::{
 };
 use fault_sentences::Quoted;
 use file_sentences::{
-    Explained, FileKind, PassedOver, Progress, Standing, columns_reason, file_reason,
-    holding_lines, query_reason, saving_reason, summary_reason, text_of,
+    Explained, FileKind, PassedOver, Progress, Standing, columns_reason, file_reason, query_reason,
+    saving_reason, summary_reason, text_of,
 };
 use hash_agg::{Fnv1a, Means, TapeDisk, Work};
+use holding_sentences::holding_lines;
 use replica_merge::Replica;
 use replies::{Ending, Format, Refusal, Reply, origin_lines, put_reply, refusal_ending, table};
 use script_io::{put_all, read_limit};

@@ -1,13 +1,9 @@
-//! Tests of reading scripts, of their commands, and of runs whose reader, writer or disk fails, by their crates' public calls alone.
+//! Tests of runs of scripts, whose reader, writer or disk fails or which spill, by their crates' public calls alone.
 #![tactic(auto)]
 
-#[cfg(test)]
-mod commands;
 #[cfg(test)]
 mod machine;
 #[cfg(test)]
 mod seeds;
 #[cfg(test)]
 mod spilling;
-#[cfg(test)]
-mod streams;

@@ -1,0 +1,7 @@
+//! Tests of reading and writing streams, and of the commands of a script, by their crates' public calls alone.
+#![tactic(auto)]
+
+#[cfg(test)]
+mod commands;
+#[cfg(test)]
+mod streams;
