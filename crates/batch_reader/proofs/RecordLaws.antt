@@ -1,4 +1,4 @@
--- Fields of a record one by one, and records one by one.
+-- Fields of a record one by one, and records one by one: the rows or the first fault, and how many there are.
 use Rattle.std.specs.Prelude.{◌≡◌, ◌≢◌, ℕ, suc, ◌+◌, ◌<◌, ◌≤◌, List, [], ◌∷◌, ◌++◌, drop, take, length, slice_index_or, Option, Some, None, is_some, false, true, MatchOption, Result, Ok, Err, IfErr, OnOk}
 use Rattle.std.proofs.Common.{refl, sym, ◌∙◌, ap, subst, add-zero, arith}
 use Rattle.std.proofs.lemmas.List.{drop_all, drop-drop, length-drop, length-map, length-take, get_or-drop, get_or-map, get_or-take}

@@ -6,7 +6,7 @@ use Rattle.std.proofs.Math.Nat.{mul-le-mul_right, div-le_of_le-mul}
 use Rattle.chunk_contexts.specs.Generation.{in_block}
 use Rattle.chunk_contexts.specs.Slab.{slab_block, per_block, IsSlabLayout, IsEntry}
 use Rattle.chunk_contexts.specs.declared.slab_chunks.SlabBlock.{SlabBlock}
-use Rattle.chunk_contexts.proofs.FreeLaws.{Popped, live-first, live-later}
+use Rattle.chunk_contexts.proofs.FreeLaws.{Popped}
 use Rattle.chunk_contexts.proofs.CutLaws.{none-at}
 use Rattle.chunk_contexts.proofs.RunMoves.{every-put}
 use Rattle.chunk_contexts.proofs.GenLaws.{in-here}

@@ -1,4 +1,4 @@
--- The words of chunks, blocks and free lists that all kinds of context share, in one place to import them from.
+-- The words that the proofs of contexts cite, of chunks, blocks, free lists, rooms and std, in one place to import them from.
 pub use Rattle.std.specs.Prelude.{nat_le, ◌==◌, IsTrue, ◌&&◌, ◌||◌, is_some, IsErrAnd, IfErr, unwrap_or, replicate, nat_lt, reverse, IfSome}
 pub use Rattle.block_memory.specs.Cells.{zeros}
 pub use Rattle.chunk_contexts.specs.Chunks.{live, is_live, bytes_of, chunk_of, Adds, Keeps, KeepsOthers, IsResized, IsRefused, IsNewBlock, lengths}

@@ -19,7 +19,7 @@ use Rattle.group_runs.specs.Places.{IsBelow, IsNotBelow, AllBelow, AllAbove, Are
 use Rattle.group_runs.specs.PlaceLaws.{drop_at, key_total}
 use Rattle.group_runs.specs.Lemmas.PlaceLaws.{KeyStands, Moves, Passes}
 
--- ---- parts of lists
+-- ---- what comes behind a place
 pub rises_drop : (n : ℕ) (run : List Entry) → Rises run → Rises (drop n run)
 unfolding IsStrictlySortedBy
 rises_drop zero run rises = rises

@@ -1,5 +1,4 @@
 -- Runs and the groups that they stand for.
--- ---- places in lists
 use Rattle.std.specs.Prelude.{◌≡◌, ℕ, ◌+◌, ◌≤◌, length, true, false, cond, List, [], ◌∷◌, ◌++◌, find, take, Some, option_map, IfSome, slice_get}
 use Rattle.std.proofs.Common.{sym, ◌∙◌, ap, subst, arith}
 use Rattle.std.proofs.lemmas.List.{map-append, take_all}

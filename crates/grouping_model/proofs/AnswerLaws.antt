@@ -1,4 +1,4 @@
--- Answers depend on what is known alone, and what is known is a set.
+-- What is known after a list of batches is what is listed, and the same batches known give the same answer.
 use Rattle.std.specs.Prelude.{◌≡◌, List, Contains, IsTrue, ◌↔◌}
 use Rattle.std.proofs.Common.{sym, ◌∙◌, ap}
 use Rattle.grouping_model.specs.Query.{Query}

@@ -1,4 +1,4 @@
--- Rows that are read or unpacked value by value.
+-- Rows that are packed, read or unpacked value by value.
 use Rattle.std.specs.Prelude.{◌≡◌, ◌≢◌, ℕ, ◌+◌, ◌<◌, ◌≤◌, List, [], ◌∷◌, ◌++◌, length, take, drop, Contains, slice_index_or, Result, Ok, Err, IsErr, MatchResult}
 use Rattle.std.proofs.Common.{refl, sym, ◌∙◌, ap, subst, arith, append_assoc, append-nil}
 use Rattle.grouping_model.specs.Datum.{Datum, Kind, Row, IsText, HasKind, HasKinds, null_field, Bigint_kind}

@@ -1,4 +1,4 @@
--- What each check that fails gives.
+-- What the checks of kinds and of grouping give where they fail.
 use Rattle.std.proofs.Common.{◌≡◌, ◌≢◌, ℕ, true, false, List, refl}
 use Rattle.std.specs.Prelude.{Err}
 use Rattle.packed_rows.specs.Columns.{Column, kinds}
@@ -7,7 +7,6 @@ use Rattle.query_checks.specs.declared.error.QueryError.TheVariants.{NoMemory}
 use Rattle.query_checks.specs.Forms.{Written}
 use Rattle.query_checks.specs.Checks.{are_plain, is_grouped, checked_places, kinds_fit}
 
--- what the last three checks give
 pub gives_mismatch : (columns : List Column) (q : Written ℕ) → are_plain q ≡ true → kinds_fit (kinds columns) q ≡ false → error.TypeMismatch ≢ NoMemory → checked_places columns q ≡ Err error.TypeMismatch
 unfolding checked_places
 gives_mismatch columns q plain fit _ = rw plain (rw fit refl)

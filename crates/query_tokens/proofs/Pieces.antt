@@ -1,7 +1,6 @@
 -- A text of spelled lexemes and spaces is read again.
-use Rattle.std.proofs.Common.{◌≡◌, ℕ, ◌-◌, List, [], Ok, Err, refl, ap}
+use Rattle.std.proofs.Common.{◌≡◌, ℕ, List, [], Ok, Err, refl, ap}
 use Rattle.query_tokens.specs.declared.fault.Fault.{Fault}
-use Rattle.query_tokens.specs.declared.word.Symbol.TheVariants as symbols
 use Rattle.query_tokens.specs.Words.{Lexeme, Placed}
 use Rattle.query_tokens.specs.Tokens.{tokens_in}
 use Rattle.query_tokens.specs.Spelling.{IsLexeme, AreApart, Piece, spell, text_of, lexemes_in, lexemes_of}

@@ -1,4 +1,4 @@
--- The fields of a record, and the commands of a list of records.
+-- Requests by how many fields a record has, the commands of a list of records, and texts that are UTF-8.
 use Rattle.std.proofs.Common.{◌≡◌, ◌≢◌, ℕ, zero, suc, List, [], ◌∷◌, length, drop, get_or, refl, ap, arith, false, IsTrue, IsUtf8}
 use Rattle.std.proofs.lemmas.Bool.{false_from_ne_true}
 use Rattle.std.proofs.lemmas.Str.{is_utf8-from_IsUtf8, IsUtf8-from_is_utf8}

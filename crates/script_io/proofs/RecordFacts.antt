@@ -1,4 +1,4 @@
--- Each record takes a byte at least, so as many turns as a text has bytes read all of its records.
+-- Each record takes a byte at least, so one turn more than a text has bytes reads all of its records. The same of a reader over memory; and the field at a place.
 use Rattle.std.proofs.Common.{◌≡◌, ◌≤◌, ◌<◌, ◌+◌, ℕ, zero, suc, List, [], ◌∷◌, length, get_or, Option, Some, None, Bool, true, false, not, MatchBool, if◌then◌else◌, refl, sym, ap, subst, arith, ◌∙◌, add-one}
 use Rattle.csv.specs.Machine.{Read, ends_at_end, field_after, fields_after, is_end, next_record, step}
 use Rattle.csv.specs.Reading.{default_config, records_from, records_next, Reached, ReadRecord, source_of}

@@ -67,7 +67,6 @@ own_bytes n xs fits l =
     same_bytes n xs (bytes_high_first n (big_from 0 n xs)) fits (bytes_below n (big_from 0 n xs)) l (length-bytes_high_first n (big_from 0 n xs))
     (sym (reads_all n (big_from 0 n xs) (bytes_high_first n (big_from 0 n xs)) (big_from-lt 0 n xs fits) refl))
 
--- ---- counts
 -- ---- totals
 pub total_fits : (n : ℕ) (z : ℤ) → n ≤ most_rows → IsTotal n z → FitsSigned w128 z
 total_fits n (pos k) few t = let high = t.1 in record { sfits = omega (arith, ints) }
@@ -121,7 +120,6 @@ number_made m bytes n z fits l one number value =
     own_bytes 8 (drop 1 bytes) below (omega (arith, length-drop 1 bytes)) ∙ ap (bytes_high_first 8) same in
     (subst (λ y. FitsSigned w64 y) (sym value) (sfits_to_z {w = w64} (record { fits = wide })), parted bytes (omega arith) ∙ (λ j. one j ∷ back j))
 
--- ---- truth values that may be absent
 -- the bytes of a number that is there, as they are written
 pub number_written : (bytes back : List ℕ) (z : ℤ) → length bytes ≡ 9 → back ≡ bytes_high_first 8 (cast_unsigned w64 z) ++ drop 8 (take (length (slice_set bytes 0 1) - 1) (drop 1 (slice_set bytes 0 1))) → put_mid 1 (length (slice_set bytes 0 1) - 1) (slice_set bytes 0 1) back ≡ bytes_of (Number (Some z))
 number_written [] back z l e = absurd (omega arith)

@@ -1,4 +1,4 @@
--- What an aggregation costs: its bounds, and the cost of a pass by those of the passes that it leaves.
+-- How many passes there are at most, the cost of some passes and others, and keys that fit by themselves.
 use Rattle.std.specs.Prelude.{◌≡◌, refl, ℕ, zero, suc, ◌+◌, ◌-◌, ◌≤◌, max, true, false, not, List, [], ◌∷◌, ◌++◌, filter, flat_map, length, All}
 use Rattle.std.proofs.Common.{sym, ◌∙◌, ap, subst, arith}
 use Rattle.std.specs.List.{AllByRecursion, sum_by}
@@ -57,7 +57,7 @@ passes_few setting records fit some =
     filled [] some = absurd (omega arith)
     filled (entry ∷ records) some = refl
 
--- ---- a pass, and those that it leaves
+-- ---- some passes and others
 
 pub greatest-append : (ms ns : List ℕ) → greatest (ms ++ ns) ≡ max (greatest ms) (greatest ns)
 greatest-append [] ns = omega arith
@@ -71,6 +71,8 @@ cost_of-append setting xs ys =
       pages = sum_by-append (pages_by setting) xs ys i;
       most_held = (ap greatest (flat_map-append (needs_by setting) xs ys) ∙ greatest-append (flat_map (needs_by setting) xs) (flat_map (needs_by setting) ys)) i;
     }
+
+-- ---- keys that fit by themselves
 
 pub one_fits : (setting : Setting) (key : Key) → 16384 + max 8192 (rounded (length key)) + max 8192 (8 + rounded setting.width) ≤ setting.limit → fits setting (key ∷ []) ≡ true
 one_fits setting key room = grind (arith, nat_tests, common_steps)

@@ -31,6 +31,8 @@ no_longer p (suc n) (x ∷ xs) within (hit, pass) =
     let more : suc n ≤ 1 + prefix_len p xs = omega arith in
     subst (λ b. suc n ≤ cond b (1 + prefix_len p xs) 0) (sym hit) more
 
+-- ---- the keys that are taken
+
 -- where all fit, all are taken
 pub all_taken : (setting : Setting) (keys : List Key) → AllFit setting keys → taken setting keys ≡ keys
 all_taken setting keys fit =

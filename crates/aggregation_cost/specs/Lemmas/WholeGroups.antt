@@ -1,4 +1,4 @@
--- Each pass has all records of a key, or none.
+-- A key is one of the keys of some records exactly if one of them has it.
 use Rattle.std.specs.Prelude.{◌≡◌, refl, true, false, cond, not, ◌||◌, List, [], ◌∷◌}
 use Rattle.aggregation_cost.specs.Space.{Key}
 use Rattle.aggregation_cost.specs.Passes.{Record, keys_of, same_key, is_one_of, of_key, is_empty}

@@ -1,4 +1,4 @@
--- Passes that are still to be made: their cost, in any order, and how they come to an end.
+-- Passes that are still to be made: their cost, the next one first and in any order; and that each key fits further down.
 use Rattle.std.specs.Prelude.{◌≡◌, ℕ, ◌+◌, ◌≤◌, max, List, [], ◌∷◌, ◌++◌, flat_map, length, All, IsPermutation}
 use Rattle.std.proofs.Common.{sym, ◌∙◌, ap, arith}
 use Rattle.std.specs.List.{AllByRecursion, sum_by}
@@ -69,6 +69,8 @@ cost_reordered setting xs ys same =
           ∙ greatest_reordered (λ pass. flat_map (needs_by setting) (passes_from setting pass)) xs ys same
           ∙ ap greatest (sym (flat_map-flat_map (needs_by setting) (passes_from setting) xs))) i;
     }
+
+-- ---- each key fits further down
 
 pub fits_further_down : (setting : Setting) (pass : Pass) → EachFits setting pass.records → All (λ next. EachFits setting next.records) (left_by setting pass)
 fits_further_down setting pass fit =

@@ -1,11 +1,10 @@
--- Fields of a record one by one, and records one by one.
+-- The first records stand for rows: one record more, and all of them.
 use Rattle.std.specs.Prelude.{◌≡◌, ℕ, ◌+◌, ◌<◌, List, [], ◌∷◌, ◌++◌, take, length, slice_index_or}
 use Rattle.std.proofs.Common.{sym, ◌∙◌, ap, subst, arith}
 use Rattle.std.proofs.lemmas.List.{map-append, take_more, take_all}
 use Rattle.grouping_model.specs.Datum.{Kind, Row}
 use Rattle.packed_rows.specs.Field.{ReadsRow}
 use Rattle.packed_rows.specs.Packing.{packing}
-use Rattle.packed_rows.specs.declared.value.ValueKind.TheVariants as kind
 use Rattle.batch_reader.specs.Rows.{ReadsRows, packings}
 
 -- the first records stand for rows, and these are the rows' packings

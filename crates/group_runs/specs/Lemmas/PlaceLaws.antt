@@ -12,8 +12,7 @@ use Rattle.group_runs.specs.Runs.{Entry, packed_keys, Rises}
 use Rattle.group_runs.specs.Places.{IsBelow, AllBelow, AllAbove}
 use Rattle.group_runs.specs.PlaceLaws.{key_total}
 
--- ---- below a key
--- the key of a group that is below one of a list that rises
+-- up to a group below a key, all groups of a run that rises are below it
 before_below : (run : List Entry) (i : ℕ) (e : Entry) (key : List ℕ) → Rises run → slice_get run i ≡ Some e → IsBelow key e → AllBelow key (take (i + 1) run)
 unfolding IsStrictlySortedBy
 before_below [] i e key rises at below = absurd cc

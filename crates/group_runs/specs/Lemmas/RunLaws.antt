@@ -1,5 +1,4 @@
 -- Runs and the groups that they stand for.
--- ---- places in lists
 use Rattle.std.specs.Prelude.{◌≡◌, ℕ, List, [], ◌∷◌, map}
 use Rattle.std.proofs.Common.{sym, ◌∙◌, subst, append-nil}
 use Rattle.std.specs.declared.cmp.Ordering.TheVariants.{Less}

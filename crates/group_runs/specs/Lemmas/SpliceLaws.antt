@@ -1,4 +1,4 @@
--- Groups that come to their place in a run.
+-- Groups with rising keys make a run that rises.
 use Rattle.std.specs.Prelude.{◌≡◌, ℕ, List, [], ◌∷◌, map}
 use Rattle.std.proofs.Common.{sym, ◌∙◌, subst}
 use Rattle.std.specs.declared.cmp.Ordering.TheVariants.{Less}
@@ -15,7 +15,6 @@ use Rattle.packed_rows.specs.Lemmas.PackingOrder.{packed_order}
 use Rattle.having_filter.specs.Kept.{key_kinds}
 use Rattle.group_runs.specs.Runs.{Entry, Rises}
 use Rattle.group_runs.specs.Standing.{AreGroups}
-use Rattle.group_runs.specs.Places as places
 use Rattle.group_runs.specs.StandingLaws.{keys_packed, keys_of_kinds}
 
 -- groups with rising keys have rising packed keys

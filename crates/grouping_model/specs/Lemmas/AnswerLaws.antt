@@ -1,4 +1,4 @@
--- Answers depend on what is known alone, and what is known is a set.
+-- An answer depends on what is known of a world alone; and laws of members and of counting up for it.
 use Rattle.std.specs.Prelude.{◌≡◌, refl, ℕ, zero, suc, ◌+◌, ◌≤◌, ◌<◌, List, [], ◌∷◌, ◌++◌, flat_map, unwrap_or, IsTrue}
 use Rattle.std.proofs.Common.{ap, inl, inr, arith}
 use Rattle.grouping_model.specs.Query.{Query}

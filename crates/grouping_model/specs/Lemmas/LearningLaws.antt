@@ -1,4 +1,4 @@
--- What is known after one more batch: its members, and its prefixes.
+-- Where an origin's prefix ends: at the number whose next one is not known.
 use Rattle.std.specs.Prelude.{◌≡◌, refl, ℕ, ◌+◌, true, false, IsTrue}
 use Rattle.std.proofs.Common.{sym, ◌∙◌, inl, inr, arith}
 use Rattle.std.proofs.lemmas.Bool.{cases_lt}

@@ -1,7 +1,7 @@
--- What a union tells of an origin: its prefix, its early numbers, its rows, and the origins.
-use Rattle.std.specs.Prelude.{◌≡◌, ℕ, zero, suc, ◌+◌, ◌-◌, ◌∷◌, ◌++◌}
+-- Counting up in two parts.
+use Rattle.std.specs.Prelude.{◌≡◌, ℕ, zero, suc, ◌+◌, ◌∷◌, ◌++◌}
 use Rattle.std.proofs.Common.{◌∙◌, ap, arith}
-use Rattle.grouping_model.specs.World.{union, prefix, early, origins, count_up}
+use Rattle.grouping_model.specs.World.{count_up}
 
 -- counting on from where counting stopped
 pub counted_on : (first p q : ℕ) → count_up first (p + q) ≡ count_up first p ++ count_up (first + p) q

@@ -1,4 +1,4 @@
--- A run that takes the groups of another.
+-- The groups of a run that rises have rising keys.
 use Rattle.std.specs.Prelude.{ℕ, List}
 use Rattle.std.proofs.Common.{subst}
 use Rattle.std.specs.List.Sorted.{IsStrictlySortedBy}

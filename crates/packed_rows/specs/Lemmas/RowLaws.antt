@@ -1,4 +1,4 @@
--- Rows that are read or unpacked value by value.
+-- Fields that are read one after another, and the bytes of their values.
 use Rattle.std.specs.Prelude.{◌≡◌, ℕ, ◌+◌, ◌<◌, List, [], ◌∷◌, ◌++◌, length, take, slice_index_or}
 use Rattle.std.proofs.Common.{sym, ◌∙◌, ap, subst, arith, append-nil}
 use Rattle.grouping_model.specs.Datum.{Datum, Kind, Row}
@@ -7,8 +7,6 @@ use Rattle.std.proofs.lemmas.List.Concat.{flat_map-append}
 use Rattle.packed_rows.specs.Packing.{value_packing, packing}
 use Rattle.std.proofs.lemmas.List.{take_more, take_all}
 use Rattle.packed_rows.specs.declared.value.ValueKind.TheVariants as kind
-
--- ---- fields that are read one after another
 
 -- the first fields stand for values, and these are the values' bytes
 abbrev pub PackedSoFar : List Kind → List (List ℕ) → ℕ → List ℕ → Type 0

@@ -1,8 +1,7 @@
--- What each check that fails gives.
+-- A query that passes the last checks is given as it is.
 use Rattle.std.proofs.Common.{◌≡◌, ℕ, true, List, refl}
 use Rattle.std.specs.Prelude.{Ok}
 use Rattle.packed_rows.specs.Columns.{Column, kinds}
-use Rattle.query_checks.specs.declared.error.QueryError.TheVariants as error
 use Rattle.query_checks.specs.Forms.{Written}
 use Rattle.query_checks.specs.Checks.{are_plain, is_grouped, checked_places, kinds_fit}
 

@@ -1,7 +1,6 @@
--- Reading tokens one after the other, as a loop does.
+-- The bytes of a token that was read are passed over, and what a reader leaves is an end of the bytes.
 use Rattle.std.proofs.Common.{◌≡◌, ℕ, zero, suc, ◌+◌, ◌-◌, ◌≤◌, Bool, true, false, cond, ltb, List, [], ◌∷◌, length, drop, take, map, Option, Some, None, Result, Ok, Err, refl, ap, ◌∙◌, arith}
 use Rattle.query_tokens.specs.declared.fault.Fault.{Fault}
-use Rattle.query_tokens.specs.declared.fault.TokenError.TheVariants as errors
 use Rattle.query_tokens.specs.declared.fault.Fault.TheVariants.{Syntax}
 use Rattle.query_tokens.specs.Words.{Lexeme, Name}
 use Rattle.std.specs.Prelude.{ℤ, ◌==◌, ◌&&◌}

@@ -1,12 +1,10 @@
--- The fields of a record, and the commands of a list of records.
+-- A feed owns as many records as it tells.
 use Rattle.std.proofs.Common.{◌≡◌, ◌≢◌, ℕ, List, [], ◌∷◌, ◌&&◌, Bool, true, false, if◌then◌else◌, Option, Some, None, codes, unwrap_or}
 use Rattle.std.specs.Option.{option_map_or}
 use Rattle.std.specs.Str.{bytes_eq, is_utf8}
 use Rattle.script_io.specs.Records.{Record}
 use Rattle.script_io.specs.Digits.{row_count, limit_told}
 use Rattle.script_commands.specs.Commands.{Request, Limit, Feed, Unknown, is_name, name_request, names_request, one_field, owned_by, request_of, two_fields}
-
--- ---- a feed owns as many records as it tells
 
 abbrev pub IsNoFeed : Request → Type 0
 IsNoFeed request = (name origin number : List ℕ) (told : ℕ) → request ≢ Feed name origin number told

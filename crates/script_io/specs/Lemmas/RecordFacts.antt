@@ -1,4 +1,4 @@
--- Each record takes a byte at least, so as many turns as a text has bytes read all of its records.
+-- A text has no more records than bytes, and one.
 use Rattle.std.proofs.Common.{◌≤◌, ◌+◌, ℕ, zero, suc, List, [], ◌∷◌, length, Option, Some, None, arith}
 use Rattle.csv.specs.Machine.{Read, next_record}
 use Rattle.csv.specs.Reading.{default_config, records_from, records_next, strip_bom}
@@ -11,7 +11,7 @@ few_next : (n : ℕ) (o : Option Read) → ((r : Read) → length (records_from 
 few_next n None h = omega arith
 few_next n (Some r) h = let short = h r in omega arith
 
--- a text has no more records than bytes, and one
+-- so many turns read no more records
 pub records-few : (n : ℕ) (s : State) (text : List ℕ) → length (records_from default_config n s text) ≤ n
 unfolding records_from
 records-few zero s text = omega arith

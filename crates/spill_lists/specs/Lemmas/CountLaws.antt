@@ -1,8 +1,7 @@
--- How many records a pass spilled.
-use Rattle.std.specs.Prelude.{◌≡◌, ℕ, ◌<◌, ◌≤◌, ◌==◌, ◌-◌, true, false}
+-- What a test of equality tells of two places.
+use Rattle.std.specs.Prelude.{◌≡◌, ℕ, ◌<◌, ◌≤◌, ◌==◌, true, false}
 use Rattle.std.proofs.Common.{arith}
 use Rattle.std.proofs.lemmas.Bool.Decides.{nat_tests}
-use Rattle.spill_lists.specs.Lists.{lists}
 
 -- places of lists, as tests tell them
 pub is_not : (n i : ℕ) → n < i → (n == i) ≡ false
