@@ -15,8 +15,8 @@ part-requires-2-clause-rises c = (range_found c.args.keys.now c.args.states.now 
 pub part-requires-2-clause-within : goal.part-requires-2-clause-within
 part-requires-2-clause-within c = (range_found c.args.keys.now c.args.states.now c.args.ends.now (all_cut c.args.keys.now c.args.states.now c.args.ends.now) c.args.from c.args.to c.bound-start.result c.bound-end.result c.requires.lie (cut_long c.args.keys.now c.args.states.now (0, 0) c.args.ends.now) c.requires.rises c.requires.within c.bound-start.ensures c.bound-end.ensures).states_high
 
-pub returns-clause-keys : goal.returns-clause-keys
-returns-clause-keys c = c.part.ensures ∙ (range_found c.args.keys.now c.args.states.now c.args.ends.now (all_cut c.args.keys.now c.args.states.now c.args.ends.now) c.args.from c.args.to c.bound-start.result c.bound-end.result c.requires.lie (cut_long c.args.keys.now c.args.states.now (0, 0) c.args.ends.now) c.requires.rises c.requires.within c.bound-start.ensures c.bound-end.ensures).keys_there
-
-pub returns-clause-states : goal.returns-clause-states
-returns-clause-states c = c.part-2.ensures ∙ (range_found c.args.keys.now c.args.states.now c.args.ends.now (all_cut c.args.keys.now c.args.states.now c.args.ends.now) c.args.from c.args.to c.bound-start.result c.bound-end.result c.requires.lie (cut_long c.args.keys.now c.args.states.now (0, 0) c.args.ends.now) c.requires.rises c.requires.within c.bound-start.ensures c.bound-end.ensures).states_there
+pub returns : goal.returns
+returns c = record {
+  keys = c.part.ensures ∙ (range_found c.args.keys.now c.args.states.now c.args.ends.now (all_cut c.args.keys.now c.args.states.now c.args.ends.now) c.args.from c.args.to c.bound-start.result c.bound-end.result c.requires.lie (cut_long c.args.keys.now c.args.states.now (0, 0) c.args.ends.now) c.requires.rises c.requires.within c.bound-start.ensures c.bound-end.ensures).keys_there;
+  states = c.part-2.ensures ∙ (range_found c.args.keys.now c.args.states.now c.args.ends.now (all_cut c.args.keys.now c.args.states.now c.args.ends.now) c.args.from c.args.to c.bound-start.result c.bound-end.result c.requires.lie (cut_long c.args.keys.now c.args.states.now (0, 0) c.args.ends.now) c.requires.rises c.requires.within c.bound-start.ensures c.bound-end.ensures).states_there;
+}

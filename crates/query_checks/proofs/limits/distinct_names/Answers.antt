@@ -6,14 +6,14 @@ use Rattle.query_checks.specs.Sameness.{first_of_each}
 use Rattle.query_checks.proofs.DistinctLaws.{distinct_mapped, images_longer}
 use Rattle.query_checks.proofs.limits.distinct_names.Goals as goal
 
-pub returns-clause-all : goal.returns-clause-all
-returns-clause-all c =
-    λ few.
-    ap texts_of (c.in_ok-found.ensures.all few) ∙ distinct_mapped bytes_eq (λ (name : Bor (List ℕ)). name.now) c.deref.result.now
-    ∙ ap (λ names. first_of_each bytes_eq (texts_of names)) c.deref.ensures.value ∙ ap (first_of_each bytes_eq) c.in_ok-borrowed.ensures
-
-pub returns-clause-more : goal.returns-clause-more
-returns-clause-more c =
-    λ many.
-    subst (λ (names : List (List ℕ)). MOST_KEYS < length (first_of_each bytes_eq names)) (ap texts_of c.deref.ensures.value ∙ c.in_ok-borrowed.ensures)
-    (images_longer bytes_eq (λ (name : Bor (List ℕ)). name.now) c.deref.result.now MOST_KEYS (c.in_ok-found.ensures.more many))
+pub returns : goal.returns
+returns c = record {
+  all =
+      λ few.
+      ap texts_of (c.in_ok-found.ensures.all few) ∙ distinct_mapped bytes_eq (λ (name : Bor (List ℕ)). name.now) c.deref.result.now
+      ∙ ap (λ names. first_of_each bytes_eq (texts_of names)) c.deref.ensures.value ∙ ap (first_of_each bytes_eq) c.in_ok-borrowed.ensures;
+  more =
+      λ many.
+      subst (λ (names : List (List ℕ)). MOST_KEYS < length (first_of_each bytes_eq names)) (ap texts_of c.deref.ensures.value ∙ c.in_ok-borrowed.ensures)
+      (images_longer bytes_eq (λ (name : Bor (List ℕ)). name.now) c.deref.result.now MOST_KEYS (c.in_ok-found.ensures.more many));
+}

@@ -30,18 +30,14 @@ told_in {world} {query} {a} {b} {ab} m = merges_told true query a b ab m.own_hel
 fits_in : {world : World} {query : Checked} {a b ab : Parts} → MergesIn world query a b ab → Fits world (record { query = query; parts = ab })
 fits_in {world} {query} {a} {b} {ab} m = merges_fit true refl query a b ab m.merges world m.of_columns m.own_fits m.their_fits
 
-pub returns-clause-same : goal.returns-clause-same
-returns-clause-same c = same_bytes
-
-pub returns-clause-commutative : goal.returns-clause-commutative
-returns-clause-commutative c = λ world query a b ab ba bytes those one two.
-    same_bytes world query ab ba bytes those one.new_held two.new_held (fits_in one) (fits_in two) (told_in one ∙ union_commutes (told a) (told b) ∙ sym (told_in two))
-
-pub returns-clause-associative : goal.returns-clause-associative
-returns-clause-associative c = λ world query a b d ab bd left right bytes those one two three four.
-    same_bytes world query left right bytes those two.new_held four.new_held (fits_in two) (fits_in four)
-    (told_in two ∙ ap (λ t. union t (told d)) (told_in one) ∙ union_associates (told a) (told b) (told d) ∙ sym (told_in four ∙ ap (union (told a)) (told_in three)))
-
-pub returns-clause-idempotent : goal.returns-clause-idempotent
-returns-clause-idempotent c = λ world query a aa bytes those one.
-    same_bytes world query aa a bytes those one.new_held one.own_held (fits_in one) one.own_fits (told_in one ∙ union_itself (told a))
+pub returns : goal.returns
+returns c = record {
+  same = same_bytes;
+  commutative = λ world query a b ab ba bytes those one two.
+      same_bytes world query ab ba bytes those one.new_held two.new_held (fits_in one) (fits_in two) (told_in one ∙ union_commutes (told a) (told b) ∙ sym (told_in two));
+  associative = λ world query a b d ab bd left right bytes those one two three four.
+      same_bytes world query left right bytes those two.new_held four.new_held (fits_in two) (fits_in four)
+      (told_in two ∙ ap (λ t. union t (told d)) (told_in one) ∙ union_associates (told a) (told b) (told d) ∙ sym (told_in four ∙ ap (union (told a)) (told_in three)));
+  idempotent = λ world query a aa bytes those one.
+      same_bytes world query aa a bytes those one.new_held one.own_held (fits_in one) one.own_fits (told_in one ∙ union_itself (told a));
+}

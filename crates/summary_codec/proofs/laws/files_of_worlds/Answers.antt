@@ -4,12 +4,10 @@ use Rattle.summary_codec.specs.Worlds.{world_parts}
 use Rattle.summary_codec.specs.Lemmas.WorldLaws.{part_fits, second_keeps, world_read}
 use Rattle.summary_codec.proofs.laws.files_of_worlds.Goals as goal
 
-pub returns-clause-read : goal.returns-clause-read
-returns-clause-read c = λ version query world known bytes is_query utf8 is_world keeps is.
-    subst (λ b. IsSummaryIn version b query (world_parts query world known)) (sym is.bytes_are) (world_read query world known is_query is_world is.of_world version keeps utf8)
-
-pub returns-clause-second : goal.returns-clause-second
-returns-clause-second c = second_keeps
-
-pub returns-clause-fits : goal.returns-clause-fits
-returns-clause-fits c = part_fits
+pub returns : goal.returns
+returns c = record {
+  read = λ version query world known bytes is_query utf8 is_world keeps is.
+      subst (λ b. IsSummaryIn version b query (world_parts query world known)) (sym is.bytes_are) (world_read query world known is_query is_world is.of_world version keeps utf8);
+  second = second_keeps;
+  fits = part_fits;
+}

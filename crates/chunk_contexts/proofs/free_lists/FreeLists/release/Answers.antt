@@ -7,11 +7,11 @@ use Rattle.chunk_contexts.proofs.free_lists.FreeLists.release.Goals as goal
 pub put_first-requires-clause-there : goal.put_first-requires-clause-there
 put_first-requires-clause-there c = grind (arith, nat_tests, common_steps, was_live)
 
-pub returns-clause-freed : goal.returns-clause-freed
-returns-clause-freed c = grind (arith, nat_tests, common_steps, head-released)
-
-pub returns-clause-lists : goal.returns-clause-lists
-returns-clause-lists c = grind (arith, nat_tests, common_steps, head-released, lists-released)
+pub returns : goal.returns
+returns c = record {
+  freed = grind (arith, nat_tests, common_steps, head-released);
+  lists = grind (arith, nat_tests, common_steps, head-released, lists-released);
+}
 
 pub class_of-class-requires : goal.class_of-class-requires
 class_of-class-requires c = in-small c.args.room c.requires.known

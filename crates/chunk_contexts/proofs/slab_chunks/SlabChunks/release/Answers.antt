@@ -36,19 +36,19 @@ index_mut-requires c = omega (arith, low-kept c.args.self.now c.requires.chunks 
 pub unmark-requires : goal.unmark-requires
 unmark-requires c = low-marks c.args.self.now c.requires.chunks c.args.place c.requires.there
 
-pub returns-then-entry-eq1-clause-chunks : goal.returns-then-entry-eq1-clause-chunks
-returns-then-entry-eq1-clause-chunks c =
-    let s = c.args.self.now in let was = read s c.requires.chunks c.args.place c.requires.there c.index-entry.result.now c.index-entry.ensures in
-    slab-back s.size s.per s.layout s.blocks.items s.spare c.requires.chunks c.args.place c.requires.there (ap (λ (b : SlabBlock). b.live) (sym was) ∙ c.if-entry-eq1.true) c.give_back.new.self c.give_back.ensures c.unmark.new.self c.unmark.ensures.long c.unmark.ensures.marked
-
-pub returns-then-entry-eq1-clause-freed : goal.returns-then-entry-eq1-clause-freed
-returns-then-entry-eq1-clause-freed c =
-    let s = c.args.self.now in let place = c.args.place in let was = read s c.requires.chunks place c.requires.there c.index-entry.result.now c.index-entry.ensures in
-    let last = ap (λ (b : SlabBlock). b.live) (sym was) ∙ c.if-entry-eq1.true in
-    let none : in_block (without (live s.layout.pieces) place) place.block ≡ 0 = omega (arith, left s c.requires.chunks place c.requires.there, last) in
-    let blocks = cond-true (in_block (without (live s.layout.pieces) place) place.block == 0) (Rattle.std.proofs.Common.set s.layout.blocks place.block None) s.layout.blocks (eq-eqb (in_block (without (live s.layout.pieces) place) place.block) 0 none) in
-    let chunks = ap (λ (l : Layout). live l.pieces) c.give_back.ensures ∙ chunks-back s.size s.per s.layout s.blocks.items s.spare c.requires.chunks place c.requires.there last c.give_back.new.self c.give_back.ensures c.unmark.new.self c.unmark.ensures.long c.unmark.ensures.marked in
-    λ i. record { size = s.size; chunks = chunks i; blocks = (ap (λ (l : Layout). l.blocks) c.give_back.ensures ∙ sym blocks) i }
+pub returns-then-entry-eq1 : goal.returns-then-entry-eq1
+returns-then-entry-eq1 c = record {
+  chunks =
+      let s = c.args.self.now in let was = read s c.requires.chunks c.args.place c.requires.there c.index-entry.result.now c.index-entry.ensures in
+      slab-back s.size s.per s.layout s.blocks.items s.spare c.requires.chunks c.args.place c.requires.there (ap (λ (b : SlabBlock). b.live) (sym was) ∙ c.if-entry-eq1.true) c.give_back.new.self c.give_back.ensures c.unmark.new.self c.unmark.ensures.long c.unmark.ensures.marked;
+  freed =
+      let s = c.args.self.now in let place = c.args.place in let was = read s c.requires.chunks place c.requires.there c.index-entry.result.now c.index-entry.ensures in
+      let last = ap (λ (b : SlabBlock). b.live) (sym was) ∙ c.if-entry-eq1.true in
+      let none : in_block (without (live s.layout.pieces) place) place.block ≡ 0 = omega (arith, left s c.requires.chunks place c.requires.there, last) in
+      let blocks = cond-true (in_block (without (live s.layout.pieces) place) place.block == 0) (Rattle.std.proofs.Common.set s.layout.blocks place.block None) s.layout.blocks (eq-eqb (in_block (without (live s.layout.pieces) place) place.block) 0 none) in
+      let chunks = ap (λ (l : Layout). live l.pieces) c.give_back.ensures ∙ chunks-back s.size s.per s.layout s.blocks.items s.spare c.requires.chunks place c.requires.there last c.give_back.new.self c.give_back.ensures c.unmark.new.self c.unmark.ensures.long c.unmark.ensures.marked in
+      λ i. record { size = s.size; chunks = chunks i; blocks = (ap (λ (l : Layout). l.blocks) c.give_back.ensures ∙ sym blocks) i };
+}
 
 pub put_first-requires-clause-there : goal.put_first-requires-clause-there
 put_first-requires-clause-there c = let s = c.args.self.now in live-there s.size s.per s.layout s.blocks.items s.spare c.requires.chunks c.args.place c.requires.there

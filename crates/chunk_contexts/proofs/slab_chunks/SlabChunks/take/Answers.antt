@@ -43,22 +43,18 @@ index_mut-requires c = grind (arith, nat_tests, common_steps)
 pub unmark-requires : goal.unmark-requires
 unmark-requires c = grind (arith, nat_tests, common_steps)
 
-pub returns-then-entry-self-clause-chunks : goal.returns-then-entry-self-clause-chunks
-returns-then-entry-self-clause-chunks c =
-    let s = c.args.self.now in let t = c.take_chunk-place.ensures in
-    some-left s.size s.per s.layout s.blocks.items s.spare c.requires.chunks c.args.block c.requires.spare c.take_chunk-place.new.layout c.take_chunk-place.new.entry t.layout t.entry t.others t.blocks c.if-entry-self.true
-
 pub returns-clause-chunks : goal.returns-clause-chunks
 returns-clause-chunks c = grind (arith, nat_tests, get_or_read, none-left)
 
-pub returns-then-entry-self-clause-taken : goal.returns-then-entry-self-clause-taken
-returns-then-entry-self-clause-taken c = λ i. record { size = c.args.self.now.size; chunks = c.take_chunk-place.ensures.taken i; blocks = c.take_chunk-place.ensures.blocks i }
-
-pub returns-then-entry-self-clause-fresh : goal.returns-then-entry-self-clause-fresh
-returns-then-entry-self-clause-fresh c = c.take_chunk-place.ensures.fresh
-
-pub returns-then-entry-self-clause-block : goal.returns-then-entry-self-clause-block
-returns-then-entry-self-clause-block c = c.take_chunk-place.ensures.block
+pub returns-then-entry-self : goal.returns-then-entry-self
+returns-then-entry-self c = record {
+  chunks =
+      let s = c.args.self.now in let t = c.take_chunk-place.ensures in
+      some-left s.size s.per s.layout s.blocks.items s.spare c.requires.chunks c.args.block c.requires.spare c.take_chunk-place.new.layout c.take_chunk-place.new.entry t.layout t.entry t.others t.blocks c.if-entry-self.true;
+  taken = λ i. record { size = c.args.self.now.size; chunks = c.take_chunk-place.ensures.taken i; blocks = c.take_chunk-place.ensures.blocks i };
+  fresh = c.take_chunk-place.ensures.fresh;
+  block = c.take_chunk-place.ensures.block;
+}
 
 pub returns-clause-taken : goal.returns-clause-taken
 returns-clause-taken c = λ i. record { size = c.args.self.now.size; chunks = c.take_chunk-place.ensures.taken i; blocks = c.take_chunk-place.ensures.blocks i }

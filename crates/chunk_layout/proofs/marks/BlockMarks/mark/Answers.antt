@@ -5,19 +5,6 @@ use Rattle.std.proofs.lemmas.List.{get_or_read, length-map}
 use Rattle.chunk_layout.proofs.MarkLaws.{mark-more, marked-already, marked-in}
 use Rattle.chunk_layout.proofs.marks.BlockMarks.mark.Goals as goal
 
-pub returns-clause-marked : goal.returns-clause-marked
-returns-clause-marked c = λ k.
-    let m = c.self.inside in let is = c.self.invariant.arranged in let n = c.args.number in let order = m.order.items in let places = m.places.items in let d = c.self.inside.count in
-    let numbers : length places ≡ length c.args.self.now = sym (length-map {A = ℕ} places (λ (q : ℕ). nat_lt q m.count)) ∙ ap (λ (bs : List Bool). length bs) c.self.view_is in
-    let n-low : n < length order = omega (arith, c.requires, numbers, is.long) in
-    let at : c.index.result.now ≡ get_or places n 0 = get_or_read places n c.index.result.now (omega (arith, n-low, is.long)) c.index.ensures 0 in
-    let d-low : d < length order = omega (arith, (is.back n n-low).0, at, c.if-place-self.false, c.self.invariant.count) in
-    let moved : (j : ℕ) → get_or c.exchange.new.places.items j 0 ≡ cond (j == get_or order (get_or places n 0) 0) d (cond (j == get_or order d 0) (get_or places n 0) (get_or places j 0)) =
-    λ j. c.exchange.ensures.moved j ∙ (λ i. cond (j == get_or order (at i) 0) d (cond (j == get_or order d 0) (at i) (get_or places j 0))) in
-    let long : length c.exchange.new.places.items ≡ length places = c.exchange.ensures.arranged.long ∙ c.exchange.ensures.long ∙ sym is.long in
-    mark-more order places c.exchange.new.places.items is n d n-low d-low long moved (omega (arith, at, c.if-place-self.false)) k
-    ∙ ap (λ (bs : List Bool). cond (k == n) true (get_or bs k false)) c.self.view_is
-
 pub returns-then-place-self : goal.returns-then-place-self
 returns-then-place-self c =
     let m = c.self.inside in let n = c.args.number in let places = m.places.items in
@@ -40,12 +27,25 @@ exchange-requires c =
     let there = is.back n (omega (arith, low, is.long)) in
     record { arranged = is; a_there = omega (arith, there.0, at); b_there = omega (arith, there.0, at, c.if-place-self.false) }
 
-pub returns-clause-long : goal.returns-clause-long
-returns-clause-long c =
-    let m = c.self.inside in
-    let before = ap (λ (bs : List Bool). length bs) c.self.view_is in
-    let after = c.exchange.ensures.arranged.long ∙ c.exchange.ensures.long ∙ sym c.self.invariant.arranged.long in
-    omega (arith, before, after, length-map {A = ℕ} m.places.items (λ (q : ℕ). nat_lt q m.count), length-map {A = ℕ} c.exchange.new.places.items (λ (q : ℕ). nat_lt q (m.count + 1)))
+pub returns : goal.returns
+returns c = record {
+  marked = λ k.
+      let m = c.self.inside in let is = c.self.invariant.arranged in let n = c.args.number in let order = m.order.items in let places = m.places.items in let d = c.self.inside.count in
+      let numbers : length places ≡ length c.args.self.now = sym (length-map {A = ℕ} places (λ (q : ℕ). nat_lt q m.count)) ∙ ap (λ (bs : List Bool). length bs) c.self.view_is in
+      let n-low : n < length order = omega (arith, c.requires, numbers, is.long) in
+      let at : c.index.result.now ≡ get_or places n 0 = get_or_read places n c.index.result.now (omega (arith, n-low, is.long)) c.index.ensures 0 in
+      let d-low : d < length order = omega (arith, (is.back n n-low).0, at, c.if-place-self.false, c.self.invariant.count) in
+      let moved : (j : ℕ) → get_or c.exchange.new.places.items j 0 ≡ cond (j == get_or order (get_or places n 0) 0) d (cond (j == get_or order d 0) (get_or places n 0) (get_or places j 0)) =
+      λ j. c.exchange.ensures.moved j ∙ (λ i. cond (j == get_or order (at i) 0) d (cond (j == get_or order d 0) (at i) (get_or places j 0))) in
+      let long : length c.exchange.new.places.items ≡ length places = c.exchange.ensures.arranged.long ∙ c.exchange.ensures.long ∙ sym is.long in
+      mark-more order places c.exchange.new.places.items is n d n-low d-low long moved (omega (arith, at, c.if-place-self.false)) k
+      ∙ ap (λ (bs : List Bool). cond (k == n) true (get_or bs k false)) c.self.view_is;
+  long =
+      let m = c.self.inside in
+      let before = ap (λ (bs : List Bool). length bs) c.self.view_is in
+      let after = c.exchange.ensures.arranged.long ∙ c.exchange.ensures.long ∙ sym c.self.invariant.arranged.long in
+      omega (arith, before, after, length-map {A = ℕ} m.places.items (λ (q : ℕ). nat_lt q m.count), length-map {A = ℕ} c.exchange.new.places.items (λ (q : ℕ). nat_lt q (m.count + 1)));
+}
 
 pub invariant_of-self : goal.invariant_of-self
 invariant_of-self c =

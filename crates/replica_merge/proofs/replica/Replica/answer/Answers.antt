@@ -17,21 +17,21 @@ show-requires c =
     let all : brought_by c.deref.result.now ≡ map counted_part held.parts = ap brought_by c.deref.ensures.value ∙ c.in_ok-parts.ensures in
     shows held c.in-Some.run'.now (only_run held c.deref.result.now c.in-Some.run'.now c.self.invariant all c.in-Some.ensures.alone)
 
-pub returns-in-Some-clause-width : goal.returns-in-Some-clause-width
-returns-in-Some-clause-width c =
-    let held : Held = record { query = c.self.inside.query; parts = c.self.inside.parts.entries } in
-    let all : brought_by c.deref.result.now ≡ map counted_part held.parts = ap brought_by c.deref.ensures.value ∙ c.in_ok-parts.ensures in
-    let of : IsOfParts held c.in-Some.run'.now = only_run held c.deref.result.now c.in-Some.run'.now c.self.invariant all c.in-Some.ensures.alone in
-    subst (λ (h : Held). IfOk c.show.result (All (λ (row : List Outcome). length row ≡ length (meaning h.query).items))) c.self.view_is
-    (IfOk-weaker c.show.result _ _ (λ rows shown. shown_wide held c.in-Some.run'.now rows of shown) c.show.ensures)
-
-pub returns-in-Some-clause-answer : goal.returns-in-Some-clause-answer
-returns-in-Some-clause-answer c =
-    let held : Held = record { query = c.self.inside.query; parts = c.self.inside.parts.entries } in
-    let all : brought_by c.deref.result.now ≡ map counted_part held.parts = ap brought_by c.deref.ensures.value ∙ c.in_ok-parts.ensures in
-    let of : IsOfParts held c.in-Some.run'.now = only_run held c.deref.result.now c.in-Some.run'.now c.self.invariant all c.in-Some.ensures.alone in
-    subst (λ (h : Held). IfOk c.show.result (λ rows. (world : World) → IsWorld (kinds h.query.columns) world → Fits world h → rows ≡ answer (meaning h.query) world (told h.parts))) c.self.view_is
-    (IfOk-weaker c.show.result _ _ (λ rows shown world is fits. shown_answer held c.in-Some.run'.now rows of shown world fits) c.show.ensures)
+pub returns-in-Some : goal.returns-in-Some
+returns-in-Some c = record {
+  width =
+      let held : Held = record { query = c.self.inside.query; parts = c.self.inside.parts.entries } in
+      let all : brought_by c.deref.result.now ≡ map counted_part held.parts = ap brought_by c.deref.ensures.value ∙ c.in_ok-parts.ensures in
+      let of : IsOfParts held c.in-Some.run'.now = only_run held c.deref.result.now c.in-Some.run'.now c.self.invariant all c.in-Some.ensures.alone in
+      subst (λ (h : Held). IfOk c.show.result (All (λ (row : List Outcome). length row ≡ length (meaning h.query).items))) c.self.view_is
+      (IfOk-weaker c.show.result _ _ (λ rows shown. shown_wide held c.in-Some.run'.now rows of shown) c.show.ensures);
+  answer =
+      let held : Held = record { query = c.self.inside.query; parts = c.self.inside.parts.entries } in
+      let all : brought_by c.deref.result.now ≡ map counted_part held.parts = ap brought_by c.deref.ensures.value ∙ c.in_ok-parts.ensures in
+      let of : IsOfParts held c.in-Some.run'.now = only_run held c.deref.result.now c.in-Some.run'.now c.self.invariant all c.in-Some.ensures.alone in
+      subst (λ (h : Held). IfOk c.show.result (λ rows. (world : World) → IsWorld (kinds h.query.columns) world → Fits world h → rows ≡ answer (meaning h.query) world (told h.parts))) c.self.view_is
+      (IfOk-weaker c.show.result _ _ (λ rows shown world is fits. shown_answer held c.in-Some.run'.now rows of shown world fits) c.show.ensures);
+}
 
 pub united-requires-clause-inputs : goal.united-requires-clause-inputs
 united-requires-clause-inputs c =

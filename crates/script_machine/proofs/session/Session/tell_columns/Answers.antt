@@ -19,10 +19,10 @@ returns-in-Ok-clause-answers c = λ honest owned.
     subst (λ s. Steps honest (ask.Columns c.args.text.now) owned s (says.Columns c.width-count.result) new) c.self.view_is
     (columns_told _ c.args.text.now owned c.in-Ok.schema c.width-count.result (sym c.is_some.ensures ∙ c.if-is_some.false) c.in-Ok.ensures.parsed c.width-count.ensures.width)
 
-pub returns-in-Err-clause-answers : goal.returns-in-Err-clause-answers
-returns-in-Err-clause-answers c = λ honest owned. no_schema c.args.self.now c.args.text.now owned c.in-Err.error c.from.result
-    (ap (λ (s : Store). is_some s.columns) (sym c.self.view_is) ∙ sym c.is_some.ensures ∙ c.if-is_some.false)
-    c.in-Err.ensures.refused c.from.ensures
-
-pub returns-in-Err-clause-faultless : goal.returns-in-Err-clause-faultless
-returns-in-Err-clause-faultless c = subst (λ w. is_tape_fault (says.Refused w) ≡ false) (sym c.from.ensures) (row_tells c.in-Err.error)
+pub returns-in-Err : goal.returns-in-Err
+returns-in-Err c = record {
+  answers = λ honest owned. no_schema c.args.self.now c.args.text.now owned c.in-Err.error c.from.result
+      (ap (λ (s : Store). is_some s.columns) (sym c.self.view_is) ∙ sym c.is_some.ensures ∙ c.if-is_some.false)
+      c.in-Err.ensures.refused c.from.ensures;
+  faultless = subst (λ w. is_tape_fault (says.Refused w) ≡ false) (sym c.from.ensures) (row_tells c.in-Err.error);
+}
