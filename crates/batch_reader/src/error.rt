@@ -4,7 +4,7 @@ ghost use Rattle.std.specs.Prelude.{◌≡◌};
 ghost use Rattle.batch_reader.specs.Names.{batch_name};
 ghost use Rattle.batch_reader.specs.declared.error.BatchError.TheVariants.{NoMemory};
 
-use std::alloc::{AllocError, AllocFailed};
+use std::alloc::AllocError;
 use thiserror::Error;
 
 /// Why a batch is refused. The first that applies is told, in this order, `NoMemory` aside; `WrongWidth` and
@@ -51,14 +51,6 @@ impl From<AllocError> for BatchError {
     ghost from_gives = { λ _ e. e ≡ NoMemory };
 
     fn from(_error: AllocError) -> BatchError {
-        BatchError::NoMemory
-    }
-}
-
-impl<T: Drop> From<AllocFailed<T>> for BatchError {
-    ghost from_gives = { λ _ e. e ≡ NoMemory };
-
-    fn from(_error: AllocFailed<T>) -> BatchError {
         BatchError::NoMemory
     }
 }

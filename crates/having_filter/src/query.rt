@@ -128,6 +128,13 @@ fn placed_with_plan(
     }
 }
 
+/// What is kept of a query, once for all its copies. The only error is a failed allocation.
+fn shared(alloc: Global, kept: Kept) -> Result<Rc<Kept>, AllocError>
+    ensures ok { IfOk result (λ shared. shared ≡ kept) }
+{
+    Ok(Rc::new(alloc, kept)?)
+}
+
 impl Query {
     /// The query that a text says, over the columns of a schema. A repeated column of GROUP BY counts once, an alias that is
     /// the item's own name is as none, and so is a term of ORDER BY whose item an earlier one names.
@@ -150,15 +157,13 @@ impl Query {
         let columns = schema.try_clone()?;
         let (parts, plan) = placed_with_plan(alloc, schema, raw)?;
         check_order(raw)?;
-        let kept = Rc::new(
-            alloc,
-            Kept {
-                schema: columns,
-                texts,
-                parts,
-                plan,
-            },
-        )?;
+        let kept = Kept {
+            schema: columns,
+            texts,
+            parts,
+            plan,
+        };
+        let kept = shared(alloc, kept)?;
         Ok(Query { kept })
     }
 

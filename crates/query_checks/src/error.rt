@@ -4,7 +4,7 @@ ghost use Rattle.std.specs.Prelude.{◌≡◌};
 ghost use Rattle.query_checks.specs.Names.{query_name};
 ghost use Rattle.query_checks.specs.declared.error.QueryError.TheVariants.{NoMemory};
 
-use std::alloc::{AllocError, AllocFailed};
+use std::alloc::AllocError;
 use thiserror::Error;
 
 /// Why a query is refused.
@@ -58,14 +58,6 @@ impl From<AllocError> for QueryError {
     ghost from_gives = { λ _ e. e ≡ NoMemory };
 
     fn from(_error: AllocError) -> QueryError {
-        QueryError::NoMemory
-    }
-}
-
-impl<T: Drop> From<AllocFailed<T>> for QueryError {
-    ghost from_gives = { λ _ e. e ≡ NoMemory };
-
-    fn from(_error: AllocFailed<T>) -> QueryError {
         QueryError::NoMemory
     }
 }

@@ -4,7 +4,7 @@ ghost use Rattle.std.specs.Prelude.{◌≡◌};
 ghost use Rattle.replica_merge.specs.declared.error.MergeError.TheVariants.{NoMemory};
 
 use origin_prefix::JoinError;
-use std::alloc::{AllocError, AllocFailed};
+use std::alloc::AllocError;
 use thiserror::Error;
 
 /// Why replicas are not merged.
@@ -30,14 +30,6 @@ impl From<AllocError> for MergeError {
     ghost from_gives = { λ _ e. e ≡ NoMemory };
 
     fn from(_error: AllocError) -> MergeError {
-        MergeError::NoMemory
-    }
-}
-
-impl<T: Drop> From<AllocFailed<T>> for MergeError {
-    ghost from_gives = { λ _ e. e ≡ NoMemory };
-
-    fn from(_error: AllocFailed<T>) -> MergeError {
         MergeError::NoMemory
     }
 }

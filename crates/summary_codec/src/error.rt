@@ -5,7 +5,7 @@ ghost use Rattle.summary_codec.specs.Names.{summary_name};
 ghost use Rattle.summary_codec.specs.declared.error.SummaryError.TheVariants.{NoMemory};
 
 use group_parser::ParseError;
-use std::alloc::{AllocError, AllocFailed};
+use std::alloc::AllocError;
 use thiserror::Error;
 
 /// Why bytes are no summary file: the first fault from the left is told, `NoMemory` aside.
@@ -67,14 +67,6 @@ impl From<AllocError> for SummaryError {
     ghost from_gives = { λ _ e. e ≡ NoMemory };
 
     fn from(_error: AllocError) -> SummaryError {
-        SummaryError::NoMemory
-    }
-}
-
-impl<T: Drop> From<AllocFailed<T>> for SummaryError {
-    ghost from_gives = { λ _ e. e ≡ NoMemory };
-
-    fn from(_error: AllocFailed<T>) -> SummaryError {
         SummaryError::NoMemory
     }
 }
