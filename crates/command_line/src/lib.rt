@@ -14,7 +14,7 @@ pub use command_streams::Terminals;
 use command_streams::{Problem, Streams, say};
 use command_words::{SPILL, Task, parse_words};
 use replies::{Ending, status};
-use script_io::FusedWriter;
+use script_io::Fused;
 use std::alloc::Global;
 use std::io::{BufWriter, Read, Write};
 use std::random::RandomSource;
@@ -75,7 +75,7 @@ fn run_words<R: Files + AllocGlobal + RandomSource, I: Read, W: Write, E: Write>
     rt: &R,
     words: &[String],
     reader: &mut I,
-    writer: &mut FusedWriter<W>,
+    writer: &mut Fused<W>,
     errors: &mut E,
     terminals: Terminals,
 ) -> Ending {
@@ -102,7 +102,7 @@ fn run_words<R: Files + AllocGlobal + RandomSource, I: Read, W: Write, E: Write>
 /// Sends out what was gathered. A fault is told, unless one was told before, or nobody reads any more.
 fn send_out<W: Write, E: Write>(
     alloc: Global,
-    gathered: &mut FusedWriter<W>,
+    gathered: &mut Fused<W>,
     ending: Ending,
     errors: &mut E,
 ) -> Ending {
@@ -127,7 +127,7 @@ fn run_through<R: Files + AllocGlobal + RandomSource, I: Read, W: Write + Drop, 
     errors: &mut E,
     terminals: Terminals,
 ) -> Ending {
-    let mut gathered = FusedWriter::new(writer);
+    let mut gathered = Fused::new(writer);
     let ending = run_words(rt, words, reader, &mut gathered, errors, terminals);
     send_out(rt.alloc(), &mut gathered, ending, errors)
 }

@@ -10,7 +10,7 @@ use fault_sentences::{
 };
 use hash_agg::{Seed, TapeDisk};
 use replies::{Ending, Refusal, Reply, RunError, put_reply, refusal_ending, run_ending};
-use script_io::FusedReader;
+use script_io::Fused;
 use script_machine::{Observer, run_observed};
 use std::alloc::{AllocError, Global};
 use std::io::{Read, Write};
@@ -137,7 +137,7 @@ fn run_over<I: Read, W: Write, E: Write, D: TapeDisk>(
     seed: Seed,
 ) -> Ending {
     let alloc = streams.alloc;
-    let mut script = FusedReader::new(&mut *reader);
+    let mut script = Fused::new(&mut *reader);
     let mut complaints = Complaints {
         alloc,
         errors: &mut *streams.errors,

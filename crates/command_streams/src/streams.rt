@@ -1,7 +1,7 @@
 //! The streams of a command, and what is said on them.
 
 use crate::problem::Problem;
-use script_io::FusedWriter;
+use script_io::Fused;
 use std::alloc::Global;
 use std::fmt::Display;
 use std::io::Write;
@@ -42,7 +42,7 @@ pub fn say<E: Write, T: Display>(alloc: Global, errors: &mut E, sentence: &T) {
 #[derive(Drop)]
 pub struct Streams<'s, W, E> {
     pub alloc: Global,
-    pub writer: &'s mut FusedWriter<W>,
+    pub writer: &'s mut Fused<W>,
     pub errors: &'s mut E,
     pub terminals: Terminals,
 }

@@ -2,7 +2,7 @@
 
 use fault_sentences::Plain;
 use replies::{Reply, put_reply};
-use script_io::FusedWriter;
+use script_io::Fused;
 use std::alloc::{AllocError, Global};
 use std::{fmt, str};
 
@@ -26,7 +26,7 @@ impl fmt::Display for Progress<'_> {
 /// A reply as a text without the end of its line.
 pub fn text_of(alloc: Global, reply: &Reply<'_>) -> Result<String, AllocError> {
     let mut bytes = Vec::new(alloc);
-    if put_reply(&mut FusedWriter::new(&mut bytes), reply).is_err() {
+    if put_reply(&mut Fused::new(&mut bytes), reply).is_err() {
         return Err(AllocError);
     }
     let text = str::from_utf8(&bytes).unwrap_or("").trim_end();

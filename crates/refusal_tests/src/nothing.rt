@@ -8,7 +8,7 @@ use group_table::GroupTable;
 use hash_agg::{Fnv1a, Means, MemDisk, Work};
 use replica_merge::{Delivered, Replica};
 use replies::{Refusal, Reply, put_reply};
-use script_io::FusedWriter;
+use script_io::Fused;
 use spill_tapes::{TapeError, TapeId, Tapes};
 use std::alloc::{AllocError, Global};
 use std::test::*;
@@ -203,7 +203,7 @@ fn known_batches_are_known(rt: HostRuntime) -> Result<(), Fail> {
 fn replies(alloc: Global, hoard: &mut Hoard) -> Result<Vec<u8>, AllocError> {
     let mut written = Vec::with_capacity(alloc, 100)?;
     hoard.leave(0)?;
-    let mut writer = FusedWriter::new(&mut written);
+    let mut writer = Fused::new(&mut written);
     let refused = put_reply(&mut writer, &Reply::Refused(Refusal::NoMemory));
     let saved = put_reply(&mut writer, &Reply::Saved(180));
     hoard.give_back();

@@ -7,15 +7,11 @@ ghost use Rattle.replies.specs.Text.{line, delivered_text, answer_text, said_tex
 use crate::reply::Reply;
 use itoa::Buffer;
 use replica_merge::Delivered;
-use script_io::{FusedWriter, WriteFault, put_all};
+use script_io::{Fused, WriteFault, put_all};
 use std::io::Write;
 
 /// Writes two pieces, one after the other.
-fn put_two<W: Write>(
-    writer: &mut FusedWriter<W>,
-    first: &[u8],
-    second: &[u8],
-) -> Result<(), WriteFault>
+fn put_two<W: Write>(writer: &mut Fused<W>, first: &[u8], second: &[u8]) -> Result<(), WriteFault>
     ensures { IsPut W.contents writer.old writer.new result (first.now ++ second.now) }
 {
     put_all(writer, first)?;
@@ -23,11 +19,7 @@ fn put_two<W: Write>(
 }
 
 /// Writes a line of a word and what follows it.
-fn put_line<W: Write>(
-    writer: &mut FusedWriter<W>,
-    word: &[u8],
-    rest: &[u8],
-) -> Result<(), WriteFault>
+fn put_line<W: Write>(writer: &mut Fused<W>, word: &[u8], rest: &[u8]) -> Result<(), WriteFault>
     ensures { IsPut W.contents writer.old writer.new result (line word.now rest.now) }
 {
     put_two(writer, word, rest)?;
@@ -35,21 +27,14 @@ fn put_line<W: Write>(
 }
 
 /// Writes a line of a word and a number.
-fn put_count<W: Write>(
-    writer: &mut FusedWriter<W>,
-    word: &[u8],
-    count: usize,
-) -> Result<(), WriteFault>
+fn put_count<W: Write>(writer: &mut Fused<W>, word: &[u8], count: usize) -> Result<(), WriteFault>
     ensures { IsPut W.contents writer.old writer.new result (line word.now (decimal count)) }
 {
     put_line(writer, word, Buffer::new().format(count).as_bytes())
 }
 
 /// Writes what became of a batch.
-fn put_delivered<W: Write>(
-    writer: &mut FusedWriter<W>,
-    delivered: Delivered,
-) -> Result<(), WriteFault>
+fn put_delivered<W: Write>(writer: &mut Fused<W>, delivered: Delivered) -> Result<(), WriteFault>
     ensures { IsPut W.contents writer.old writer.new result (delivered_text delivered) }
 {
     match delivered {
@@ -60,11 +45,7 @@ fn put_delivered<W: Write>(
 }
 
 /// Writes an answer: how many rows it has, and its table.
-fn put_answer<W: Write>(
-    writer: &mut FusedWriter<W>,
-    rows: usize,
-    table: &[u8],
-) -> Result<(), WriteFault>
+fn put_answer<W: Write>(writer: &mut Fused<W>, rows: usize, table: &[u8]) -> Result<(), WriteFault>
     ensures { IsPut W.contents writer.old writer.new result (answer_text rows table.now) }
 {
     put_count(writer, b"answer ", rows)?;
@@ -72,7 +53,7 @@ fn put_answer<W: Write>(
 }
 
 /// Writes the text of a reply. It takes no memory.
-pub fn put_reply<W: Write>(writer: &mut FusedWriter<W>, reply: &Reply<'_>) -> Result<(), WriteFault>
+pub fn put_reply<W: Write>(writer: &mut Fused<W>, reply: &Reply<'_>) -> Result<(), WriteFault>
     ensures { IsPut W.contents writer.old writer.new result (said_text reply.now) }
 {
     match reply {

@@ -1,20 +1,28 @@
--- What is seen of a reader that stays failed.
-use Rattle.std.specs.Prelude.{ℕ, Bool, is_some, List, Option}
+-- What is seen of a stream that stays failed.
+use Rattle.std.specs.Prelude.{ℕ, ◌≡◌, Bool, false, is_some, List, Option}
 use Rattle.std.specs.declared.io.Error.{Error}
-use Rattle.script_io.specs.declared.fused.FusedReader.{FusedReader}
+use Rattle.script_io.specs.declared.fused.Fused.{Fused}
 
 -- own: the error of the call that failed, if one did
-abbrev pub fault_of : {R : Type 0} → FusedReader R → Option Error
+abbrev pub fault_of : {S : Type 0} → Fused S → Option Error
 fault_of fused = fused.fault
 
--- own: the reader that it asks, where none has failed
-abbrev pub reader_behind : {R : Type 0} → FusedReader R → R
-reader_behind fused = fused.reader
+-- own: the stream that it asks, where none has failed
+abbrev pub behind : {S : Type 0} → Fused S → S
+behind fused = fused.stream
 
 -- own: whether a call of it failed
-abbrev pub has_failed : {R : Type 0} → FusedReader R → Bool
+abbrev pub has_failed : {S : Type 0} → Fused S → Bool
 has_failed fused = is_some (fault_of fused)
 
--- the bytes that it has left, where those of the reader behind are known
-abbrev pub unread : {R : Type 0} → (R → Option (List ℕ)) → FusedReader R → Option (List ℕ)
-unread remaining fused = remaining (reader_behind fused)
+-- the bytes that a reader has left, where those of the reader behind are known
+abbrev pub unread : {R : Type 0} → (R → Option (List ℕ)) → Fused R → Option (List ℕ)
+unread remaining fused = remaining (behind fused)
+
+-- the bytes that a writer holds, where those of the writer behind are known
+abbrev pub written : {W : Type 0} → (W → Option (List ℕ)) → Fused W → Option (List ℕ)
+written contents fused = contents (behind fused)
+
+-- own: a stream that had not failed has failed now exactly where that is told
+abbrev pub FailsAsTold : {S : Type 0} → Fused S → Fused S → Bool → Type 0
+FailsAsTold old new told = has_failed old ≡ false → told ≡ has_failed new

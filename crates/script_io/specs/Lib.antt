@@ -1,5 +1,4 @@
 pub mod Fused
-pub mod FusedWriter
 pub mod Input
 pub mod Records
 pub mod Digits

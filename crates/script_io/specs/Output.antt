@@ -2,8 +2,8 @@
 use Rattle.std.specs.Prelude.{ℕ, ◌≡◌, ◌<◌, List, ◌++◌, length, Option, Result, MatchResult}
 use Rattle.std.specs.Io.KnownBytes.{Appends}
 use Rattle.std.specs.Result.{is_err}
-use Rattle.script_io.specs.declared.fused_writer.FusedWriter.{FusedWriter}
-use Rattle.script_io.specs.FusedWriter.{FailsAsTold, written}
+use Rattle.script_io.specs.declared.fused.Fused.{Fused}
+use Rattle.script_io.specs.Fused.{FailsAsTold, written}
 
 -- own: a writer took the front of these bytes, and nothing else
 abbrev pub TakesFront : Option (List ℕ) → Option (List ℕ) → List ℕ → Type 0
@@ -15,7 +15,7 @@ StopsShort old new bytes = (front rest : List ℕ) × (bytes ≡ front ++ rest) 
     × Appends old new front
 
 -- own: what a call makes of some bytes: all are written, or it stops short of the last; and it stops exactly where the writer failed
-abbrev pub IsPut : {W A E : Type 0} → (W → Option (List ℕ)) → FusedWriter W → FusedWriter W → Result A E → List ℕ → Type 0
+abbrev pub IsPut : {W A E : Type 0} → (W → Option (List ℕ)) → Fused W → Fused W → Result A E → List ℕ → Type 0
 IsPut contents old new result bytes =
     MatchResult result (λ _. Appends (written contents old) (written contents new) bytes)
     (λ _. StopsShort (written contents old) (written contents new) bytes) × FailsAsTold old new (is_err result)

@@ -3,8 +3,8 @@ use Rattle.std.proofs.Common.{ℕ, Bool, false, ◌<◌, List, ◌++◌, length,
 use Rattle.std.proofs.Math.Nat.{le_trans, le-add_right}
 use Rattle.std.specs.Io.KnownBytes.{Appends}
 use Rattle.std.proofs.KnownBytes.{Appends-trans}
-use Rattle.script_io.specs.declared.fused_writer.FusedWriter.{FusedWriter}
-use Rattle.script_io.specs.FusedWriter.{FailsAsTold}
+use Rattle.script_io.specs.declared.fused.Fused.{Fused}
+use Rattle.script_io.specs.Fused.{FailsAsTold}
 use Rattle.script_io.specs.Output.{TakesFront, StopsShort}
 
 -- the front of the first bytes is the front of both
@@ -24,5 +24,5 @@ pub short-second : (a b c : Option (List ℕ)) (xs ys : List ℕ) → Appends a 
 short-second a b c xs ys p q = (xs ++ q.0, q.1, ap (λ l. xs ++ l) q.2 ∙ sym (append_assoc xs q.0 q.1), q.3, Appends-trans a b c _ _ p q.4)
 
 -- two writes in turn, of which the first did not fail
-pub fails-second : {W : Type 0} (a b c : FusedWriter W) (told : Bool) → FailsAsTold a b false → FailsAsTold b c told → FailsAsTold a c told
+pub fails-second : {W : Type 0} (a b c : Fused W) (told : Bool) → FailsAsTold a b false → FailsAsTold b c told → FailsAsTold a c told
 fails-second a b c told first second sound = second (sym (first sound))

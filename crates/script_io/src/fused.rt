@@ -1,31 +1,31 @@
-//! A reader that stays failed.
+//! A stream that stays failed.
 
-ghost use Rattle.std.specs.Prelude.{◌≡◌, None, IfSome, Err};
-ghost use Rattle.std.specs.Io.{ReadsAtMost};
-ghost use Rattle.std.specs.Io.KnownBytes.{ReadConsumes};
+ghost use Rattle.std.specs.Prelude.{◌≡◌, ◌<◌, None, IfOk, IfSome, Err, length};
+ghost use Rattle.std.specs.Io.{ReadsAtMost, WritesAtMost};
+ghost use Rattle.std.specs.Io.KnownBytes.{Keeps, ReadConsumes, WriteAppends};
 ghost use Rattle.std.specs.Result.{result_err};
 
 use std::io;
-use std::io::Read;
+use std::io::{Error, ErrorKind, Read, Write};
 
-/// A reader that stays failed: once a call of it failed, or was interrupted, every later call answers the same error, and asks the reader
-/// behind no more. So it is known afterwards whether a read failed, and why.
+/// A reader or a writer that stays failed: once a call of it failed, or was interrupted, or took none of some bytes, every later call answers
+/// the same error, and asks the stream behind no more. So it is known afterwards whether a call failed, and why.
 #[derive(Drop)]
-pub struct FusedReader<R> {
-    reader: R,
+pub struct Fused<S> {
+    stream: S,
     fault: Option<io::Error>,
 }
 
-impl<R: Read> FusedReader<R> {
-    ghost use Rattle.script_io.specs.Fused.{fault_of, reader_behind};
+impl<S: Drop> Fused<S> {
+    ghost use Rattle.script_io.specs.Fused.{behind, fault_of};
 
-    /// A reader of which no call has failed yet.
-    pub fn new(reader: R) -> FusedReader<R>
-        ensures behind { reader_behind result ≡ reader }
+    /// A stream of which no call has failed yet.
+    pub fn new(stream: S) -> Fused<S>
+        ensures behind { behind result ≡ stream }
         ensures sound { fault_of result ≡ None }
     {
-        FusedReader {
-            reader,
+        Fused {
+            stream,
             fault: None,
         }
     }
@@ -38,8 +38,8 @@ impl<R: Read> FusedReader<R> {
     }
 }
 
-impl<R: Read> Read for FusedReader<R> {
-    ghost use Rattle.script_io.specs.Fused.{fault_of, reader_behind, unread};
+impl<R: Read> Read for Fused<R> {
+    ghost use Rattle.script_io.specs.Fused.{behind, fault_of, unread};
 
     ghost remaining = { unread R.remaining };
 
@@ -48,13 +48,52 @@ impl<R: Read> Read for FusedReader<R> {
         ensures bytes { ReadConsumes (unread R.remaining self.old) (unread R.remaining self.new) result buf.new }
         ensures fault { fault_of self.new ≡ result_err result }
         ensures stays { IfSome (fault_of self.old)
-            (λ error. (result ≡ Err error) × (reader_behind self.new ≡ reader_behind self.old)) }
+            (λ error. (result ≡ Err error) × (behind self.new ≡ behind self.old)) }
     {
         if let Some(error) = self.fault {
             return Err(error);
         }
-        let outcome = self.reader.read(buf);
+        let outcome = self.stream.read(buf);
         self.fault = outcome.err();
         outcome
+    }
+}
+
+impl<W: Write> Write for Fused<W> {
+    ghost use Rattle.script_io.specs.Fused.{behind, fault_of, written};
+
+    ghost contents = { written W.contents };
+
+    fn write(&mut self, buf: &[u8]) -> io::Result<usize>
+        ensures bound { WritesAtMost result buf.now }
+        ensures bytes { WriteAppends (written W.contents self.old) (written W.contents self.new) result buf.now }
+        ensures takes { IfOk result (λ count. 0 < length buf.now → 0 < count) }
+        ensures fault { fault_of self.new ≡ result_err result }
+        ensures stays { IfSome (fault_of self.old)
+            (λ error. (result ≡ Err error) × (behind self.new ≡ behind self.old)) }
+    {
+        if let Some(error) = self.fault {
+            return Err(error);
+        }
+        let taken = match self.stream.write(buf) {
+            Ok(0) if !buf.is_empty() => Err(Error::from(ErrorKind::WriteZero)),
+            outcome => outcome,
+        };
+        self.fault = taken.err();
+        taken
+    }
+
+    fn flush(&mut self) -> io::Result<()>
+        ensures bytes { Keeps (written W.contents self.old) (written W.contents self.new) }
+        ensures fault { fault_of self.new ≡ result_err result }
+        ensures stays { IfSome (fault_of self.old)
+            (λ error. (result ≡ Err error) × (behind self.new ≡ behind self.old)) }
+    {
+        if let Some(error) = self.fault {
+            return Err(error);
+        }
+        let flushed = self.stream.flush();
+        self.fault = flushed.err();
+        flushed
     }
 }

@@ -5,7 +5,7 @@ ghost use Rattle.std.specs.Io.KnownBytes.{Consumes, IsAtEnd};
 ghost use Rattle.script_io.specs.Fused.{has_failed, unread};
 ghost use Rattle.script_io.specs.Input.{ConsumesAtMost, StopsReading, fails_to_read};
 
-use crate::fused::FusedReader;
+use crate::fused::Fused;
 use std::alloc::Global;
 use std::io::Read;
 use thiserror::Error;
@@ -35,7 +35,7 @@ pub enum InputError {
 /// taken are lost.
 pub fn read_input<R: Read>(
     alloc: Global,
-    reader: &mut FusedReader<R>,
+    reader: &mut Fused<R>,
     most: usize,
 ) -> Result<Vec<u8>, InputError>
     requires { most < 2 ^ 63 }

@@ -5,15 +5,13 @@
 
 mod digits;
 mod fused;
-mod fused_writer;
 mod input;
 mod laws;
 mod output;
 mod records;
 
 pub use digits::{read_digits, read_limit, read_row_count};
-pub use fused::FusedReader;
-pub use fused_writer::FusedWriter;
+pub use fused::Fused;
 pub use input::{InputError, read_input};
 pub use laws::{fronts_range, reads_are_whole, records_are_few, writes_compose};
 pub use output::{WriteFault, put_all};

@@ -2,7 +2,7 @@
 
 ghost use Rattle.script_io.specs.Output.{IsPut};
 
-use crate::fused_writer::FusedWriter;
+use crate::fused::Fused;
 use std::io::Write;
 use thiserror::Error;
 
@@ -16,7 +16,7 @@ pub struct WriteFault;
 /// At an `Err` the writer took the front of the bytes, and at least the last byte is missing. A failed
 /// write is not tried again, also where it was interrupted: `WriteFault` is answered then, and then alone.
 /// To write no bytes makes no call.
-pub fn put_all<W: Write>(writer: &mut FusedWriter<W>, bytes: &[u8]) -> Result<(), WriteFault>
+pub fn put_all<W: Write>(writer: &mut Fused<W>, bytes: &[u8]) -> Result<(), WriteFault>
     ensures { IsPut W.contents writer.old writer.new result bytes.now }
 {
     let mut at = 0;

@@ -11,8 +11,8 @@ use Rattle.std.proofs.KnownBytes.{Appends-nil, Appends-trans, Keeps-refl}
 use Rattle.tape_disks.specs.Disk.{Leaves}
 use Rattle.tape_disks.specs.declared.disk.TapeDisk.{Ghosts}
 use Rattle.grouping_model.specs.World.{World}
-use Rattle.script_io.specs.declared.fused_writer.FusedWriter.{FusedWriter}
-use Rattle.script_io.specs.FusedWriter.{FailsAsTold}
+use Rattle.script_io.specs.declared.fused.Fused.{Fused}
+use Rattle.script_io.specs.Fused.{FailsAsTold}
 use Rattle.script_io.specs.Input.{StopsReading, is_read_fault}
 use Rattle.script_io.specs.Output.{StopsShort}
 use Rattle.script_io.specs.declared.input.InputError.{InputError}
@@ -312,13 +312,13 @@ faults_read disk commands (Err stop.WriteFault) P old new h = refl
 faults_read disk commands (Err stop.NoMemory) P old new h = refl
 
 -- what is told of a writer by an error passed on is what the error that it is tells
-pub fails_as : {W T : Type 0} (result : Result T RunError) (e : RunError) (old new : FusedWriter W) → IsErrAnd result (λ x. x ≡ e)
+pub fails_as : {W T : Type 0} (result : Result T RunError) (e : RunError) (old new : Fused W) → IsErrAnd result (λ x. x ≡ e)
     → FailsAsTold old new (tells_write_fault {A = T} (Err e)) → FailsAsTold old new (tells_write_fault result)
 fails_as (Ok x) e old new failed h = absurd failed
 fails_as {T = T} (Err x) e old new failed h = subst (λ y. FailsAsTold old new (tells_write_fault {A = T} (Err y))) (sym failed) h
 
 -- a script that was not read tells no fault of a writer
-pub fails_unread : {W T : Type 0} (result : Result T RunError) (e : InputError) (writer : FusedWriter W) → IsErrAnd result (λ x. x ≡ run_error e)
+pub fails_unread : {W T : Type 0} (result : Result T RunError) (e : InputError) (writer : Fused W) → IsErrAnd result (λ x. x ≡ run_error e)
     → FailsAsTold writer writer (tells_write_fault result)
 fails_unread result input.ReadFault writer passed = fails_as result stop.ReadFault writer writer passed (λ sound. sym sound)
 fails_unread result input.NoMemory writer passed = fails_as result stop.NoMemory writer writer passed (λ sound. sym sound)

@@ -2,8 +2,7 @@
 
 ghost use Rattle.std.specs.Prelude.{◌≡◌, ◌≤◌, ◌+◌, ℕ, length, IfErr, IfOk, MatchResult};
 ghost use Rattle.tape_disks.specs.Disk.{Leaves};
-ghost use Rattle.script_io.specs.Fused.{has_failed, unread};
-ghost use Rattle.script_io.specs.FusedWriter.{FailsAsTold, written};
+ghost use Rattle.script_io.specs.Fused.{FailsAsTold, has_failed, unread, written};
 ghost use Rattle.script_io.specs.Input.{ConsumesAtMost};
 ghost use Rattle.script_commands.specs.Commands.{commands_of};
 ghost use Rattle.script_machine.specs.Views.{empty};
@@ -16,7 +15,7 @@ use grouping_model::limits::LONGEST_INPUT;
 use hash_agg::{Seed, TapeDisk, USUAL_SEED};
 use replies::{Outcome, Refusal, Reply, RunError, put_reply};
 use script_commands::{Command, next_command};
-use script_io::{FusedReader, FusedWriter, Records, read_input};
+use script_io::{Fused, Records, read_input};
 use std::alloc::Global;
 use std::io::{Read, Write};
 
@@ -51,7 +50,7 @@ fn tell<O: Observer>(
 fn answer_all<W: Write, O: Observer, D: TapeDisk>(
     records: &mut Records<'_>,
     session: &mut Session,
-    writer: &mut FusedWriter<W>,
+    writer: &mut Fused<W>,
     observer: &mut O,
     lines: &mut Lines<'_>,
     disk: &mut D,
@@ -82,7 +81,7 @@ fn answer_all<W: Write, O: Observer, D: TapeDisk>(
 fn run_script<W: Write, O: Observer, D: TapeDisk>(
     alloc: Global,
     script: &[u8],
-    writer: &mut FusedWriter<W>,
+    writer: &mut Fused<W>,
     observer: &mut O,
     disk: &mut D,
     seed: Seed,
@@ -118,8 +117,8 @@ fn run_script<W: Write, O: Observer, D: TapeDisk>(
 /// the tables of groups is a fixed one.
 pub fn run<R: Read, W: Write, D: TapeDisk>(
     alloc: Global,
-    reader: &mut FusedReader<R>,
-    writer: &mut FusedWriter<W>,
+    reader: &mut Fused<R>,
+    writer: &mut Fused<W>,
     disk: &mut D,
 ) -> Result<Outcome, RunError>
     // No more is read than the longest script and one byte.
@@ -148,8 +147,8 @@ pub fn run<R: Read, W: Write, D: TapeDisk>(
 /// chosen that lie in one place of a table. All clauses hold with each seed.
 pub fn run_observed<R: Read, W: Write, O: Observer, D: TapeDisk>(
     alloc: Global,
-    reader: &mut FusedReader<R>,
-    writer: &mut FusedWriter<W>,
+    reader: &mut Fused<R>,
+    writer: &mut Fused<W>,
     observer: &mut O,
     disk: &mut D,
     seed: Seed,

@@ -2,7 +2,7 @@
 //! replies goes out, and left where a command is refused: of one that wants memory a run is told by what it writes.
 
 use replies::{Outcome, RunError};
-use script_io::{FusedReader, FusedWriter};
+use script_io::Fused;
 use script_machine::run;
 use spill_tapes::MemDisk;
 use std::alloc::{AllocError, Global};
@@ -104,8 +104,8 @@ fn run_in(
     if enter_at == 0 {
         replies.room.enter()?;
     }
-    let mut reader = FusedReader::new(script.as_bytes());
-    let mut writer = FusedWriter::new(&mut replies);
+    let mut reader = Fused::new(script.as_bytes());
+    let mut writer = Fused::new(&mut replies);
     let ended = run(alloc, &mut reader, &mut writer, &mut disk);
     replies.room.leave();
     drop(disk);

@@ -1,7 +1,7 @@
 use batch_reader::BatchError;
 use hash_agg::MemDisk;
 use replies::{Refusal, RunError};
-use script_io::{FusedReader, FusedWriter};
+use script_io::Fused;
 use script_machine::run;
 use std::alloc::{AllocError, Global};
 use std::io;
@@ -35,9 +35,9 @@ fn written_to(alloc: Global, room: &str) -> Result<String, AllocError> {
         taken: Vec::new(alloc),
         room: room.parse().unwrap_or(0),
     };
-    let mut writer = FusedWriter::new(&mut failing);
+    let mut writer = Fused::new(&mut failing);
     let mut disk = MemDisk::new(alloc);
-    let mut reader = FusedReader::new(SCRIPT.as_bytes());
+    let mut reader = Fused::new(SCRIPT.as_bytes());
     let outcome = run(alloc, &mut reader, &mut writer, &mut disk);
     drop(disk);
     let has_failed = writer.fault().is_some();
@@ -61,10 +61,10 @@ fn faults_of_writers_end_a_run(rt: HostRuntime) -> Result<(), Fail> {
 
 /// What becomes of the run of what a reader has, how many bytes are written, and whether the reader failed.
 fn ended<R: Read>(alloc: Global, reader: &mut R) -> Result<String, AllocError> {
-    let mut reader = FusedReader::new(&mut *reader);
+    let mut reader = Fused::new(&mut *reader);
     let mut written = Vec::new(alloc);
     let mut disk = MemDisk::new(alloc);
-    let mut writer = FusedWriter::new(&mut written);
+    let mut writer = Fused::new(&mut written);
     let outcome = run(alloc, &mut reader, &mut writer, &mut disk);
     drop(disk);
     let has_failed = reader.fault().is_some();

@@ -6,7 +6,7 @@ use file_commands::{create, feed, save};
 use hash_agg::{Fnv1a, LEAST_LIMIT, Means, MemDisk, Seed, TapeDisk, USUAL_SEED, Work};
 use replica_merge::Replica;
 use replies::{Refusal, RunError};
-use script_io::{FusedReader, FusedWriter};
+use script_io::Fused;
 use script_machine::{Observer, run_observed};
 use std::alloc::Global;
 use std::test::*;
@@ -45,8 +45,8 @@ fn replies_by(
     let mut replies = Vec::new(alloc);
     let run = run_observed(
         alloc,
-        &mut FusedReader::new(script.as_bytes()),
-        &mut FusedWriter::new(&mut replies),
+        &mut Fused::new(script.as_bytes()),
+        &mut Fused::new(&mut replies),
         &mut Unobserved,
         disk,
         seed,

@@ -2,7 +2,7 @@
 
 use hash_agg::{MemDisk, TapeDisk};
 use replies::{Outcome, RunError};
-use script_io::{FusedReader, FusedWriter};
+use script_io::Fused;
 use script_machine::run;
 use spill_tapes::{FailDisk, FileDisk};
 use std::alloc::{AllocError, Global};
@@ -60,8 +60,8 @@ fn run_over<D: TapeDisk>(
     disk: &mut D,
     replies: &mut Vec<u8>,
 ) -> Result<u64, RunError> {
-    let mut reader = FusedReader::new(script.as_bytes());
-    match run(alloc, &mut reader, &mut FusedWriter::new(replies), disk) {
+    let mut reader = Fused::new(script.as_bytes());
+    match run(alloc, &mut reader, &mut Fused::new(replies), disk) {
         Ok(Outcome { refused }) => Ok(refused),
         Err(error) => Err(error),
     }

@@ -1,5 +1,5 @@
 use csv::ByteRecord;
-use script_io::{FusedReader, FusedWriter, InputError, Records, put_all, read_input};
+use script_io::{Fused, InputError, Records, put_all, read_input};
 use std::alloc::{AllocError, Global};
 use std::io;
 use std::io::{Error, ErrorKind, Read, Write};
@@ -81,7 +81,7 @@ fn taken_of(alloc: Global, size: u32, most: u32) -> Result<String, AllocError> {
     let script = [b'x'; 20001];
     let script = script.get(..size as usize).unwrap_or(b"too long");
     let mut left = script;
-    let mut reader = FusedReader::new(&mut left);
+    let mut reader = Fused::new(&mut left);
     let read = read_input(alloc, &mut reader, most as usize);
     let is_sound = reader.fault().is_none();
     let taken = script.len().saturating_sub(left.len());
@@ -117,7 +117,7 @@ fn reads_up_to_the_limit(rt: HostRuntime) -> Result<(), Fail> {
 
 /// Whether a reader without an end is refused.
 fn is_refused(alloc: Global, most: u32) -> bool {
-    let mut reader = FusedReader::new(io::repeat(b'x'));
+    let mut reader = Fused::new(io::repeat(b'x'));
     let result = read_input(alloc, &mut reader, most as usize);
     matches!(&result, Err(InputError::TooLong)) && reader.fault().is_none()
 }
@@ -130,7 +130,7 @@ fn refuses_a_reader_without_an_end(rt: HostRuntime) {
 }
 
 /// Whether what a reader has left can't be read, for a fault of this kind.
-fn fails(alloc: Global, reader: &mut FusedReader<&mut StutteringReader>, kind: ErrorKind) -> bool {
+fn fails(alloc: Global, reader: &mut Fused<&mut StutteringReader>, kind: ErrorKind) -> bool {
     let result = read_input(alloc, reader, 10);
     let is_kind = match reader.fault() {
         Some(error) => error.kind() == kind,
@@ -147,7 +147,7 @@ fn stops(alloc: Global, sound: usize, kind: ErrorKind) -> bool {
         sound,
         kind,
     };
-    let mut reader = FusedReader::new(&mut stuttering);
+    let mut reader = Fused::new(&mut stuttering);
     let stops = fails(alloc, &mut reader, kind) && fails(alloc, &mut reader, kind);
     stops && stuttering.given == sound.wrapping_add(1)
 }
@@ -289,7 +289,7 @@ fn fills(rt: HostRuntime, text: &[u8], room: usize, a_call: usize, at_room: AtRo
         flushes: 0,
         at_room,
     };
-    let mut writer = FusedWriter::new(&mut short);
+    let mut writer = Fused::new(&mut short);
     let is_whole = put_all(&mut writer, text).is_ok();
     let is_told = is_whole == writer.fault().is_none() && is_whole == writer.flush().is_ok();
     let stays = is_whole || put_all(&mut writer, b"more").is_err();
@@ -334,7 +334,7 @@ fn flushes(rt: HostRuntime, room: usize) -> (bool, usize) {
         flushes: 0,
         at_room: AtRoom::Fail(ErrorKind::StorageFull),
     };
-    let mut writer = FusedWriter::new(&mut short);
+    let mut writer = Fused::new(&mut short);
     let text = b"count 0\n".get(..room).unwrap_or(b"count 0\n");
     let is_written = put_all(&mut writer, text).is_ok();
     let first = writer.flush().is_ok();
@@ -365,7 +365,7 @@ fn writes_nothing_without_a_call(rt: HostRuntime) {
         flushes: 0,
         at_room: AtRoom::TakeNone,
     };
-    let mut writer = FusedWriter::new(&mut short);
+    let mut writer = Fused::new(&mut short);
     assert!(rt; put_all(&mut writer, b"").is_ok());
     assert!(rt; writer.fault().is_none());
     assert_eq!(rt; short.calls, 0);
@@ -381,7 +381,7 @@ fn asks_a_failed_writer_no_more(rt: HostRuntime) {
         flushes: 0,
         at_room: AtRoom::TakeNone,
     };
-    let mut writer = FusedWriter::new(&mut short);
+    let mut writer = Fused::new(&mut short);
     assert!(rt; put_all(&mut writer, b"x").is_err());
     assert!(rt; put_all(&mut writer, b"x").is_err());
     assert!(rt; writer.flush().is_err());

@@ -3,7 +3,7 @@
 ghost use Rattle.std.specs.Prelude.{◌≤◌, IfOk, length};
 
 use grouping_model::limits::LONGEST_INPUT;
-use script_io::{FusedReader, InputError, read_input};
+use script_io::{Fused, InputError, read_input};
 use std::fs::Metadata;
 use std::os::unix::fs::MetadataExt;
 use std::rt::Files;
@@ -33,7 +33,7 @@ pub fn read_file<R: Files + AllocGlobal>(rt: &R, path: &str) -> Result<Vec<u8>, 
     ensures few { IfOk result (λ bytes. length bytes.items ≤ LONGEST_INPUT) }
 {
     let mut reader = match fs::open(rt, path) {
-        Ok(file) => FusedReader::new(file),
+        Ok(file) => Fused::new(file),
         Err(cause) => return Err(Unread::Failed(cause)),
     };
     match (

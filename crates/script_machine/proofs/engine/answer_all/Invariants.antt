@@ -1,6 +1,6 @@
 use Rattle.std.proofs.Common.{◌≡◌, ℕ, ◌+◌, ◌≤◌, false, length}
 use Rattle.tape_disks.specs.Disk.{Leaves}
-use Rattle.script_io.specs.FusedWriter.{has_write_failed, written}
+use Rattle.script_io.specs.Fused.{has_failed, written}
 use Rattle.script_commands.specs.Commands.{commands_of}
 use Rattle.script_machine.proofs.RunLaws.{Ran}
 use Rattle.script_machine.proofs.engine.answer_all.Given as goal
@@ -11,7 +11,7 @@ invariant-loop-command g l =
       room : l.refused + length l.records ≤ length l.fn.records;
       ran : Ran (record { honest = g.D.TapeDisk.honest l.fn.disk; failed = g.D.TapeDisk.failures l.fn.disk; failed_now = g.D.TapeDisk.failures l.disk })
           (commands_of l.fn.records) (written g.W.Write.contents l.fn.writer) (written g.W.Write.contents l.writer) l.refused (commands_of l.records) l.session;
-      sound : has_write_failed l.fn.writer ≡ false → has_write_failed l.writer ≡ false;
+      sound : has_failed l.fn.writer ≡ false → has_failed l.writer ≡ false;
       left : (faults : ℕ) × Leaves g.D.TapeDisk faults l.fn.disk l.disk;
     }
 
