@@ -5,8 +5,9 @@ ghost use Rattle.chunk_layout.specs.Pieces.{has, same_place, place_of, piece_at,
 ghost use Rattle.chunk_contexts.specs.Rooms.{rounded, rooms, room_of};
 ghost use Rattle.chunk_contexts.specs.Chunks.{chunk_of, IsNewBlock};
 ghost use Rattle.chunk_contexts.specs.Free.{is_in};
-ghost use Rattle.chunk_contexts.specs.Set.{new_set, set_growth, set_room, block_size, grown, carved, reused, dedicated, set_taken, set_freed, set_put, set_reset};
+ghost use Rattle.chunk_contexts.specs.Set.{new_set, set_growth, set_room, block_size, grown, carved, reused, dedicated, set_taken, set_freed, set_put, set_reset, SetState};
 ghost use Rattle.chunk_contexts.specs.SetRules.{GrowsByRule};
+ghost use Rattle.chunk_contexts.specs.SetFields.{set_of, AreFields};
 
 use crate::active::Active;
 use crate::context::ChunkContext;
@@ -29,11 +30,7 @@ pub struct AllocSet {
 }
 
 impl Model for AllocSet {
-    ghost use Rattle.chunk_contexts.specs.Set.{SetState};
-
     ghost Value = { SetState };
-
-    ghost use Rattle.chunk_contexts.specs.SetFields.{set_of, AreFields};
 
     ghost view = { set_of };
 

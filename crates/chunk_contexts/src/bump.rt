@@ -1,5 +1,7 @@
 //! `Bump`: chunks without headers, which go back all together.
 ghost use Rattle.std.specs.Prelude.{◌≡◌};
+ghost use Rattle.chunk_contexts.specs.Run.{RunState};
+ghost use Rattle.chunk_contexts.specs.BumpFields.{bump_of, AreFields};
 
 use crate::context::ChunkContext;
 use crate::error::ContextError;
@@ -15,11 +17,7 @@ pub struct Bump {
 }
 
 impl Model for Bump {
-    ghost use Rattle.chunk_contexts.specs.Run.{RunState};
-
     ghost Value = { RunState };
-
-    ghost use Rattle.chunk_contexts.specs.BumpFields.{bump_of, AreFields};
 
     ghost view = { bump_of };
 

@@ -1,6 +1,8 @@
 //! `Generation`: chunks one after the other, in blocks that go back with their last chunk.
 ghost use Rattle.std.specs.Prelude.{◌≡◌, ◌+◌, ◌<◌, ◌≤◌, ◌^◌, ℕ, IsTrue, IfOk, OnOk, OnErr, length, get_or, slice_set, ◌-◌};
 ghost use Rattle.chunk_layout.specs.Pieces.{has, same_place, piece_at, place_of, resized};
+ghost use Rattle.chunk_contexts.specs.Run.{RunState};
+ghost use Rattle.chunk_contexts.specs.GenerationFields.{generation_of, AreFields};
 
 use crate::context::ChunkContext;
 use crate::error::ContextError;
@@ -19,11 +21,7 @@ pub struct Generation {
 }
 
 impl Model for Generation {
-    ghost use Rattle.chunk_contexts.specs.Run.{RunState};
-
     ghost Value = { RunState };
-
-    ghost use Rattle.chunk_contexts.specs.GenerationFields.{generation_of, AreFields};
 
     ghost view = { generation_of };
 

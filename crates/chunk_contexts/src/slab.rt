@@ -1,7 +1,8 @@
 //! `Slab`: chunks of one size, in blocks that go back as soon as all their chunks are free.
 ghost use Rattle.std.specs.Prelude.{◌≡◌, ◌≤◌, ◌==◌, Some, None, MatchResult};
 ghost use Rattle.chunk_contexts.specs.Rooms.{over_most};
-ghost use Rattle.chunk_contexts.specs.Slab.{new_slab, slab_refusal_by};
+ghost use Rattle.chunk_contexts.specs.Slab.{new_slab, slab_refusal_by, SlabState};
+ghost use Rattle.chunk_contexts.specs.SlabFields.{slab_state, AreFields};
 
 use crate::context::ChunkContext;
 use crate::error::ContextError;
@@ -19,11 +20,7 @@ pub struct Slab {
 }
 
 impl Model for Slab {
-    ghost use Rattle.chunk_contexts.specs.Slab.{SlabState};
-
     ghost Value = { SlabState };
-
-    ghost use Rattle.chunk_contexts.specs.SlabFields.{slab_state, AreFields};
 
     ghost view = { slab_state };
 

@@ -3,7 +3,8 @@ ghost use Rattle.std.specs.Prelude.{◌≡◌, ◌+◌, ◌*◌, ◌-◌, ◌^�
 ghost use Rattle.std.specs.Borrow.{sem};
 ghost use Rattle.block_memory.specs.Cells.{zeros};
 ghost use Rattle.chunk_layout.specs.Every.{Every};
-ghost use Rattle.chunk_layout.specs.Pieces.{has, same_place, is_kept, piece_at, put_at, with_piece, without, outside, with_block, size_at, total, only, AreLaid, AreTaken, IsClear, resized};
+ghost use Rattle.chunk_layout.specs.Pieces.{has, same_place, is_kept, piece_at, put_at, with_piece, without, outside, with_block, size_at, total, only, AreLaid, AreTaken, IsClear, resized, Layout};
+ghost use Rattle.chunk_layout.specs.Fields.{layout_of, AreFields};
 
 use crate::blocks::{
     HEADER, block_len, drop_block, put_block, read_bytes, read_word, write_bytes, write_header,
@@ -30,11 +31,7 @@ pub struct ChunkLayout {
 }
 
 impl Model for ChunkLayout {
-    ghost use Rattle.chunk_layout.specs.Pieces.{Layout};
-
     ghost Value = { Layout };
-
-    ghost use Rattle.chunk_layout.specs.Fields.{layout_of, AreFields};
 
     ghost view = { layout_of };
 

@@ -7,9 +7,10 @@ ghost use Rattle.chunk_contexts.specs.Chunks.{lengths, chunk_of, Adds, Keeps, Ke
 ghost use Rattle.chunk_contexts.specs.declared.error.ContextError.TheVariants.{NoMemory, NotSupported};
 ghost use Rattle.context_tree.specs.Contexts.{chunks_of, blocks_of, room_in, refusal_of, growth_of, can_free, may_lie_in, with_chunk, with_bytes, with_resized, without_chunk, kind_refusal, no_context, has_chunk, chunk_bytes, held_by, IsCounted, IsGrownByRule};
 ghost use Rattle.context_tree.specs.Links.{is_under, placed, IsFull};
-ghost use Rattle.context_tree.specs.Tree.{new_tree, is_there, context_at, parent_id, id_in, with_context, with_new, without_slots, deleted, reset, held_below, held_from, held_by_all, IsBounded, IsWhole, IsRefusedBy, IsKept, IsNotMade};
+ghost use Rattle.context_tree.specs.Tree.{new_tree, is_there, context_at, parent_id, id_in, with_context, with_new, without_slots, deleted, reset, held_below, held_from, held_by_all, IsBounded, IsWhole, IsRefusedBy, IsKept, IsNotMade, TreeState};
 ghost use Rattle.context_tree.specs.declared.error.TreeError.TheVariants.{NoSuchContext};
 ghost use Rattle.context_tree.specs.declared.error.TreeError.TheVariants as error;
+ghost use Rattle.context_tree.specs.TreeFields.{tree_of, AreFields};
 
 use crate::context::Context;
 use crate::error::TreeError;
@@ -41,11 +42,7 @@ pub struct Tree {
 }
 
 impl Model for Tree {
-    ghost use Rattle.context_tree.specs.Tree.{TreeState};
-
     ghost Value = { TreeState };
-
-    ghost use Rattle.context_tree.specs.TreeFields.{tree_of, AreFields};
 
     ghost view = { tree_of };
 

@@ -6,10 +6,11 @@ ghost use Rattle.spill_tapes.specs.Errors.{tape_faults};
 ghost use Rattle.spill_tapes.specs.Pages.{UsesAgain, pages_for};
 ghost use Rattle.spill_tapes.specs.Records.{Record, tape_bytes};
 ghost use Rattle.spill_tapes.specs.Tape.{Gives, new_tape, no_tape};
-ghost use Rattle.spill_tapes.specs.Tapes.{tape_at, phase_of, is_open, is_written, is_read, written_len, AreOpenBefore, IsTape, KeepsOthers, DiesIfRefused, IsOpenRefusal, IsRefusal, IsReadRefusal, FreesPages, HasNoPageMore};
+ghost use Rattle.spill_tapes.specs.Tapes.{tape_at, phase_of, is_open, is_written, is_read, written_len, AreOpenBefore, IsTape, KeepsOthers, DiesIfRefused, IsOpenRefusal, IsRefusal, IsReadRefusal, FreesPages, HasNoPageMore, TapesState};
 ghost use Rattle.spill_tapes.specs.declared.error.TapeError.TheVariants.{TapeDamaged, TapesDead};
 ghost use Rattle.spill_tapes.specs.declared.tape.Phase.TheVariants.{Closed, Written, Read};
 ghost use Rattle.spill_tapes.specs.declared.tape_id.TapeId.{TapeId};
+ghost use Rattle.spill_tapes.specs.TapesFields.{tapes_of, AreFields};
 
 use crate::error::TapeError;
 use crate::header::Header;
@@ -37,11 +38,7 @@ pub struct Tapes {
 }
 
 impl Model for Tapes {
-    ghost use Rattle.spill_tapes.specs.Tapes.{TapesState};
-
     ghost Value = { TapesState };
-
-    ghost use Rattle.spill_tapes.specs.TapesFields.{tapes_of, AreFields};
 
     ghost view = { tapes_of };
 

@@ -1,8 +1,9 @@
 //! A disk in memory.
 ghost use Rattle.std.specs.Prelude.{◌≡◌, ◌+◌, ◌-◌, ◌%◌, ◌/◌, ◌<◌, ◌≤◌, ◌++◌, ℕ, Some, None, min, IsTrue, IfOk, IfErr, OnOk, length, take, drop};
 ghost use Rattle.chunk_contexts.specs.Chunks.{is_live, bytes_of, KeepsOthers};
-ghost use Rattle.tape_disks.specs.Memory.{name_of, byte_at, IsSame, IsSameBeside, AreAt};
+ghost use Rattle.tape_disks.specs.Memory.{name_of, byte_at, IsSame, IsSameBeside, AreAt, MemoryState};
 ghost use Rattle.tape_disks.specs.declared.disk.DiskError.TheVariants as disk_error;
+ghost use Rattle.tape_disks.specs.MemoryFields.{memory_of, AreFields};
 
 use crate::disk::{DiskError, TapeDisk};
 use crate::limits::PAGE;
@@ -24,11 +25,7 @@ pub struct MemDisk {
 }
 
 impl Model for MemDisk {
-    ghost use Rattle.tape_disks.specs.Memory.{MemoryState};
-
     ghost Value = { MemoryState };
-
-    ghost use Rattle.tape_disks.specs.MemoryFields.{memory_of, AreFields};
 
     ghost view = { memory_of };
 
