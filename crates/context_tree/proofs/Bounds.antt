@@ -7,14 +7,10 @@ use Rattle.chunk_contexts.specs.Set.{SetState, growth_by, set_growth, set_room}
 use Rattle.chunk_contexts.specs.Run.{RunState, run_growth, run_growth_by}
 use Rattle.chunk_contexts.specs.Slab.{SlabState, slab_refusal, slab_growth, slab_grows}
 use Rattle.chunk_contexts.specs.declared.error.ContextError.{ContextError}
-use Rattle.context_tree.specs.Contexts.{no_context, new_context, with_bytes, with_resized, held_by, growth_of, refusal_of}
-use Rattle.context_tree.specs.Links.{is_below, cleared, placed}
-use Rattle.context_tree.specs.Tree.{held_from, held_by_all}
-use Rattle.context_tree.specs.declared.context.Context.{Context}
+use Rattle.context_tree.proofs.Words.{no_context, new_context, with_bytes, with_resized, held_by, growth_of, refusal_of, is_below, cleared, placed, held_from, held_by_all, Context, Link}
 use Rattle.context_tree.specs.declared.context.Context.TheVariants.{AllocSet, Slab, Generation, Bump}
 use Rattle.context_tree.specs.declared.kind.Kind.{Kind}
 use Rattle.context_tree.specs.declared.kind.Kind.TheVariants as kind
-use Rattle.context_tree.specs.declared.links.Link.{Link}
 use Rattle.chunk_layout.specs.declared.place.Place.{Place}
 use Rattle.chunk_contexts.specs.declared.rooms.TheConstants.{BLOCK, LARGEST}
 

@@ -3,9 +3,8 @@ use Rattle.std.proofs.Common.{◌≡◌, ℕ, zero, suc, ◌+◌, ◌<◌, ◌�
 use Rattle.std.specs.Prelude.{◌==◌, ◌||◌, is_some}
 use Rattle.std.proofs.lemmas.Bool.{cases_Bool, cases_eq, cases_lt, cond-true, cond-false, eq-eqb, ne_eqb, false≢true}
 use Rattle.std.proofs.lemmas.List.{get_or-set_same, get_or-set_other, length-set, get_or_past, ext_get_or}
-use Rattle.context_tree.specs.Links.{is_below, is_under, cleared, IsForest, AreFree}
+use Rattle.context_tree.proofs.Words.{is_below, is_under, cleared, IsForest, AreFree, Link}
 use Rattle.context_tree.specs.LinkFields.{AreFields}
-use Rattle.context_tree.specs.declared.links.Link.{Link}
 use Rattle.context_tree.specs.declared.links.Links.TheInside.{Inside}
 use Rattle.chunk_layout.specs.declared.marks.BlockMarks.{BlockMarks}
 use Rattle.std.specs.List.{refill}

@@ -5,8 +5,7 @@ use Rattle.std.specs.List.{refill}
 use Rattle.std.proofs.lemmas.Bool.{cases_eq, cases_lt, cond-false, ne_eqb, false≢true}
 use Rattle.std.proofs.lemmas.List.{take_all, drop_all, append-nil, length-append}
 use Rattle.context_tree.specs.SlotLaws.{placed-here, placed-other}
-use Rattle.context_tree.specs.Links.{placed, IsFull, AreFree}
-use Rattle.context_tree.specs.declared.links.Link.{Link}
+use Rattle.context_tree.proofs.Words.{placed, IsFull, AreFree, Link}
 
 module _ {X : Type 0} where
   -- a list written over by one that is as long

@@ -3,12 +3,10 @@ use Rattle.std.proofs.Common.{◌≡◌, ℕ, zero, suc, ◌+◌, ◌<◌, ◌�
 use Rattle.std.specs.Prelude.{is_some, unwrap_or, Result, Ok, Err, IsErrAnd, IfErr}
 use Rattle.std.proofs.lemmas.Bool.{cases_Bool, cases_eq, cond-true, cond-false, false≢true}
 use Rattle.chunk_contexts.specs.declared.error.ContextError.{ContextError}
-use Rattle.context_tree.specs.Contexts.{no_context, new_context, held_by}
-use Rattle.context_tree.specs.Links.{stamp_of, is_below, cleared, placed}
+use Rattle.context_tree.proofs.Words.{no_context, new_context, held_by, stamp_of, is_below, cleared, placed, TreeState, Stamped, Emptied, IsRefusedBy, IsNotMade, has_stamp, is_there, context_at, with_context, without_slots, held_from, held_by_all, IsBounded, Context, Link}
 use Rattle.std.specs.List.{refill}
 use Rattle.std.proofs.lemmas.List.{get_or-set_same, get_or-set_other, get_or_default, get_or_read, length-set, set-get_or}
 use Rattle.context_tree.specs.SlotLaws.{placed-here, placed-other}
-use Rattle.context_tree.specs.Tree.{TreeState, Stamped, Emptied, IsRefusedBy, IsNotMade, has_stamp, is_there, context_at, with_context, without_slots, held_from, held_by_all, IsBounded}
 use Rattle.context_tree.specs.TreeFields.{tree_of, AreFields}
 use Rattle.context_tree.specs.declared.error.TreeError.{TreeError}
 use Rattle.context_tree.specs.declared.error.TreeError.TheVariants as error
@@ -18,8 +16,6 @@ use Rattle.context_tree.specs.declared.links.ContextId.{ContextId}
 use Rattle.context_tree.specs.declared.tree.Tree.TheInside.{Inside}
 use Rattle.context_tree.proofs.Bounds.{all-set, all-placed, all-cleared, nothing-held}
 use Rattle.context_tree.proofs.Clearing.{length-cleared, get_or-cleared, is-cleared, low-there}
-use Rattle.context_tree.specs.declared.context.Context.{Context}
-use Rattle.context_tree.specs.declared.links.Link.{Link}
 use Rattle.context_tree.proofs.Slots.{refill-whole, length-placed}
 
 -- no context has a later stamp than the last one

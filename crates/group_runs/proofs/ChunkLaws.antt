@@ -8,11 +8,8 @@ use Rattle.std.proofs.lemmas.Grind.{flat_map-append, common_steps}
 use Rattle.std.proofs.Math.Seq.{take-append_seam, drop-append_seam}
 use Rattle.std.specs.List.Sorted.{IsStrictlySortedBy}
 use Rattle.packed_rows.specs.RowsOnEndLaws.{ends_long, ends_append}
-use Rattle.grouping_model.specs.Aggregates.{Function}
-use Rattle.group_runs.specs.Runs.{Entry, Rises}
-use Rattle.group_runs.specs.Places.{HasStatesFor, CombinesAt}
-use Rattle.packed_rows.specs.RowsOnEnd.{on_end, ends_of}
-use Rattle.group_runs.specs.Chunks.{AreChunks, IsAmong, replaced}
+use Rattle.group_runs.proofs.Words.{Function, Entry, Rises, HasStatesFor, CombinesAt, on_end, AreChunks, IsAmong, replaced}
+use Rattle.packed_rows.specs.RowsOnEnd.{ends_of}
 use Rattle.group_runs.specs.PlaceLaws.{drop_at, take_found}
 use Rattle.group_runs.proofs.PlaceLaws.{rises_drop}
 use Rattle.group_runs.proofs.RunLaws.{run_front_rises}

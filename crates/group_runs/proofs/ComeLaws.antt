@@ -7,11 +7,8 @@ use Rattle.std.specs.declared.cmp.Ordering.TheVariants.{Less, Equal, Greater}
 use Rattle.std.specs.Ordering.{nat_cmp, ordering_reverse}
 use Rattle.std.specs.Cmp.Lexicographic.{slice_cmp}
 use Rattle.std.specs.List.{AllByRecursion}
-use Rattle.list_laws.specs.Each.{each_append, each_front, each_weaker}
-use Rattle.group_runs.specs.Runs.{Entry, Rises}
-use Rattle.group_runs.specs.Places.{IsBelow, IsNotBelow, AllBelow, IsPlaceOf}
-use Rattle.packed_rows.specs.RowsOnEnd.{on_end}
-use Rattle.group_runs.specs.Chunks.{IsAmong, AreBefore, ComeInto}
+use Rattle.group_runs.proofs.Words.{each_append, each_front, each_weaker, Entry, Rises, IsBelow, IsNotBelow, IsPlaceOf, on_end, IsAmong, AreBefore, ComeInto}
+use Rattle.group_runs.specs.Places.{AllBelow}
 use Rattle.group_runs.specs.PlaceLaws.{key_total, drop_at, all_at}
 use Rattle.group_runs.proofs.JoinLaws.{rises_before}
 use Rattle.group_runs.proofs.ChunkLaws.{got, got_low, get_taken, get_dropped, next_start, front_on_end, back_on_end, front_few, on_end-append}

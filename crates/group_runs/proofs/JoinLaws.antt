@@ -8,19 +8,8 @@ use Rattle.std.specs.Cmp.Lexicographic.{slice_cmp}
 use Rattle.std.specs.List.{AllByRecursion}
 use Rattle.std.specs.List.Sorted.{IsStrictlySortedBy}
 use Rattle.std.specs.BTreeMap.{insert_entry}
-use Rattle.list_laws.specs.Each.{each_weaker}
-use Rattle.grouping_model.specs.Datum.{Row, row_cmp, same_row}
-use Rattle.grouping_model.specs.Aggregates.{Partial}
-use Rattle.grouping_model.specs.Query.{Query}
-use Rattle.grouping_model.specs.Grouping.{Group}
-use Rattle.grouping_model.specs.Parts.{keys_of, partials_at}
+use Rattle.group_runs.proofs.Words.{each_weaker, Row, row_cmp, same_row, Partial, Query, Group, keys_of, partials_at, key_kinds, Entry, packed_keys, Rises, AreGroups, merged, group_added, groups_added, HasRoomForRun, AddsRun, AreBefore}
 use Rattle.grouping_model.specs.DatumOrderLaws.{row_cmp_total}
-use Rattle.having_filter.specs.Kept.{key_kinds}
-use Rattle.group_runs.specs.Runs.{Entry, packed_keys, Rises}
-use Rattle.group_runs.specs.Standing.{AreGroups}
-use Rattle.group_runs.specs.Adding.{merged, group_added, groups_added}
-use Rattle.group_runs.specs.Steps.{HasRoomForRun, AddsRun}
-use Rattle.group_runs.specs.Chunks.{AreBefore}
 use Rattle.group_runs.specs.StandingLaws.{groups_raised, groups_long, keys_packed, keys_of_kinds}
 use Rattle.group_runs.specs.MergeLaws.{puts_rise, keys_of-groups_added}
 use Rattle.group_runs.specs.Lemmas.MergeLaws.{puts_long}

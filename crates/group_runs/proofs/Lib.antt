@@ -1,3 +1,4 @@
+pub mod Words
 pub mod StateLaws
 pub mod EntryLaws
 pub mod RunLaws

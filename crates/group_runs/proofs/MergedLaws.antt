@@ -1,12 +1,7 @@
 -- A group that came to its place in a merge.
 use Rattle.std.specs.Prelude.{◌≡◌, ℕ, ◌+◌, ◌∷◌, ◌++◌, [], List, drop, slice_range}
 use Rattle.std.proofs.Common.{sym, ◌∙◌, ap, subst, append_assoc}
-use Rattle.list_laws.specs.Each.{each_append}
-use Rattle.grouping_model.specs.Query.{Query}
-use Rattle.grouping_model.specs.Parts.{functions}
-use Rattle.group_runs.specs.Runs.{Entry, Rises}
-use Rattle.group_runs.specs.Places.{AreUpTo}
-use Rattle.group_runs.specs.Steps.{AddsGroup, CombineWith}
+use Rattle.group_runs.proofs.Words.{each_append, Query, functions, Entry, Rises, AreUpTo, AddsGroup, CombineWith}
 use Rattle.group_runs.proofs.FlatLaws.{same_keys_rise}
 use Rattle.group_runs.specs.Lemmas.PlaceLaws.{Moves, Passes, rises_between}
 use Rattle.group_runs.proofs.PlaceLaws.{below_up_to, itself_up_to}

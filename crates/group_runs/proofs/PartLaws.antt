@@ -5,13 +5,8 @@ use Rattle.std.proofs.lemmas.List.{take-append-drop, length-take, take_all}
 use Rattle.std.proofs.lemmas.List.Folds.{drop_split}
 use Rattle.std.proofs.Math.Seq.{take-add}
 use Rattle.std.specs.List.{AllByRecursion}
-use Rattle.list_laws.specs.Each.{each_append, each_behind, each_front, each_weaker}
-use Rattle.grouping_model.specs.Query.{Query}
-use Rattle.group_runs.specs.Runs.{Entry, Rises}
-use Rattle.group_runs.specs.Places.{IsBelow, AllBelow}
-use Rattle.group_runs.specs.Steps.{AddsRun}
-use Rattle.packed_rows.specs.RowsOnEnd.{on_end}
-use Rattle.group_runs.specs.Chunks.{AreBefore, ComeInto, replaced, AddChunks}
+use Rattle.group_runs.proofs.Words.{each_append, each_behind, each_front, each_weaker, Query, Entry, Rises, IsBelow, AddsRun, on_end, AreBefore, ComeInto, replaced, AddChunks}
+use Rattle.group_runs.specs.Places.{AllBelow}
 use Rattle.group_runs.specs.PlaceLaws.{drop_at, take_found}
 use Rattle.group_runs.proofs.PlaceLaws.{range_more}
 use Rattle.group_runs.proofs.JoinLaws.{adds_both, adds_nothing, rises_before}

@@ -13,9 +13,8 @@ use Rattle.std.proofs.Math.Seq.{take-add, take-append_seam}
 use Rattle.std.specs.Cmp.Lexicographic.{slice_cmp}
 use Rattle.std.specs.List.{AllByRecursion}
 use Rattle.std.specs.List.Sorted.{IsStrictlySortedBy}
-use Rattle.list_laws.specs.Each.{each_append, each_weaker}
-use Rattle.group_runs.specs.Runs.{Entry, packed_keys, Rises}
-use Rattle.group_runs.specs.Places.{IsBelow, IsNotBelow, AllBelow, AllAbove, AreUpTo, HasKey, HasKeyAt, IsBetween, IsPlaceOf}
+use Rattle.group_runs.proofs.Words.{each_append, each_weaker, Entry, packed_keys, Rises, IsBelow, IsNotBelow, AllAbove, AreUpTo, HasKey, HasKeyAt, IsBetween, IsPlaceOf}
+use Rattle.group_runs.specs.Places.{AllBelow}
 use Rattle.group_runs.specs.PlaceLaws.{drop_at, key_total}
 use Rattle.group_runs.specs.Lemmas.PlaceLaws.{KeyStands, Moves, Passes}
 

@@ -8,16 +8,7 @@ use Rattle.std.specs.Ordering.{nat_cmp}
 use Rattle.std.specs.Cmp.Lexicographic.{slice_cmp}
 use Rattle.std.specs.List.{AllByRecursion}
 use Rattle.std.specs.List.Sorted.{IsStrictlySortedBy}
-use Rattle.grouping_model.specs.Datum.{Row, same_row}
-use Rattle.grouping_model.specs.Query.{Query}
-use Rattle.grouping_model.specs.Grouping.{Group}
-use Rattle.grouping_model.specs.Parts.{partials_at}
-use Rattle.agg_protocol.specs.States.{most_rows}
-use Rattle.agg_library.specs.StateRows.{AllWithin}
-use Rattle.group_runs.specs.Runs.{Entry, packed_keys, Rises}
-use Rattle.group_runs.specs.Standing.{AreGroups}
-use Rattle.group_runs.specs.Adding.{groups_added}
-use Rattle.group_runs.specs.Steps.{HasRoomForGroup, AddsGroup, HasRoomForRun, AddsRun}
+use Rattle.group_runs.proofs.Words.{Row, same_row, Query, Group, partials_at, most_rows, AllWithin, Entry, packed_keys, Rises, AreGroups, groups_added, HasRoomForGroup, AddsGroup, HasRoomForRun, AddsRun}
 use Rattle.group_runs.proofs.StateLaws.{all_within}
 use Rattle.group_runs.specs.Lemmas.MergeLaws.{found_still, none_before, groups_added_more}
 use Rattle.group_runs.specs.StandingLaws.{group_at, groups_long}

@@ -4,10 +4,8 @@ use Rattle.std.proofs.Common.{sym, ◌∙◌, ap, subst, arith}
 use Rattle.std.proofs.lemmas.List.{take-append-le, drop-append-le, length-drop}
 use Rattle.std.proofs.Math.Seq.{drop-append-add}
 use Rattle.std.specs.List.{AllByRecursion}
-use Rattle.list_laws.specs.Each.{each_append, each_behind}
-use Rattle.group_runs.specs.Runs.{Entry}
-use Rattle.group_runs.specs.Places.{IsNotBelow, AllBelow, IsPlaceOf}
-use Rattle.packed_rows.specs.RowsOnEnd.{on_end}
+use Rattle.group_runs.proofs.Words.{each_append, each_behind, Entry, IsNotBelow, IsPlaceOf, on_end}
+use Rattle.group_runs.specs.Places.{AllBelow}
 use Rattle.group_runs.proofs.ChunkLaws.{around, next_start, front_few}
 use Rattle.std.proofs.lemmas.Bool.Decides.{nat_tests}
 use Rattle.std.proofs.lemmas.Grind.{common_steps}

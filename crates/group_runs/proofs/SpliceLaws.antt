@@ -6,21 +6,10 @@ use Rattle.std.specs.Ordering.{match_ordering, is_eq, ordering_reverse}
 use Rattle.std.specs.Cmp.{tied_itself}
 use Rattle.std.specs.List.{AllByRecursion}
 use Rattle.std.specs.BTreeMap.{insert_entry}
-use Rattle.grouping_model.specs.Datum.{Row, HasKinds, row_cmp, same_row}
-use Rattle.grouping_model.specs.Aggregates.{Partial}
-use Rattle.grouping_model.specs.Combining.{combine_all}
-use Rattle.grouping_model.specs.Query.{Query}
-use Rattle.grouping_model.specs.Grouping.{Group}
-use Rattle.grouping_model.specs.Parts.{functions, partials_at}
+use Rattle.group_runs.proofs.Words.{Row, HasKinds, row_cmp, same_row, Partial, combine_all, Query, Group, functions, partials_at, AllWithin, key_kinds, Entry, StandsFor, AreGroups, merged, group_added, HasRoomForGroup, AddsGroup, HaveRoomForMore, CombineWith}
 use Rattle.grouping_model.specs.DatumOrderLaws.{row_cmp_total}
 use Rattle.grouping_model.specs.PartLaws.{same_row-swap}
 use Rattle.packed_rows.specs.Packing.{packing}
-use Rattle.agg_library.specs.StateRows.{AllWithin}
-use Rattle.having_filter.specs.Kept.{key_kinds}
-use Rattle.group_runs.specs.Runs.{Entry}
-use Rattle.group_runs.specs.Standing.{StandsFor, AreGroups}
-use Rattle.group_runs.specs.Adding.{merged, group_added}
-use Rattle.group_runs.specs.Steps.{HasRoomForGroup, AddsGroup, HaveRoomForMore, CombineWith}
 use Rattle.group_runs.specs.Places as places
 use Rattle.group_runs.specs.StandingLaws.{states_raised}
 use Rattle.group_runs.proofs.StateLaws.{states_lowered}

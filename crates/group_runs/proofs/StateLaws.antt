@@ -2,29 +2,17 @@
 -- ---- one state
 use Rattle.std.specs.Prelude.{◌≡◌, refl, ℕ, ◌+◌, ◌<◌, ◌≤◌, if◌then◌else◌, List, [], ◌∷◌, ◌++◌, length, map, take, drop, Option, Some, None, option_map, slice_get}
 use Rattle.std.proofs.Common.{sym, ◌∙◌, ap, subst, arith}
-use Rattle.grouping_model.specs.Datum.{Row, Kind, HasKinds}
-use Rattle.grouping_model.specs.Aggregates.{Function, Partial, partial}
-use Rattle.grouping_model.specs.Combining.{combine, combine_all}
+use Rattle.group_runs.proofs.Words.{Row, Kind, HasKinds, Function, Partial, partial, combine, combine_all, Aggregate, argument, arguments, column_of, advanced, Shape, rows_of, most_rows, function_of, functions_of, kind_shape, kind_width, DenotesAll, AllWithin, initial_partials, partial_after, TakesRows, AreStates, partial_after_row, AreAdvanced, HaveRoomForRow}
 use Rattle.grouping_model.specs.Condition.{is_met}
-use Rattle.grouping_model.specs.Query.{Aggregate}
-use Rattle.grouping_model.specs.Grouping.{argument, arguments, column_of}
-use Rattle.grouping_model.specs.Parts.{advanced}
 use Rattle.packed_rows.specs.View.{datum_of}
 use Rattle.packed_rows.specs.declared.value.Value.{Value}
 use Rattle.agg_protocol.specs.Arguments.{Takes}
 use Rattle.agg_protocol.specs.States as states
-use Rattle.agg_protocol.specs.States.{Shape, rows_of, most_rows}
 use Rattle.agg_protocol.specs.DenotingLaws.{shape_known, within, state_rows}
 use Rattle.agg_protocol.specs.Lemmas.Denoting.{rows_add, once}
 use Rattle.agg_protocol.specs.declared.kind.AggKind.{AggKind}
-use Rattle.agg_protocol.specs.Kinds.{function_of, functions_of, kind_shape, kind_width}
-use Rattle.agg_library.specs.StateRows.{DenotesAll, AllWithin, initial_partials, partial_after}
-use Rattle.having_filter.specs.Kept.{TakesRows}
-use Rattle.group_runs.specs.Standing.{AreStates}
-use Rattle.group_runs.specs.Adding.{partial_after_row}
 use Rattle.group_runs.specs.PlaceLaws.{dropped}
 use Rattle.group_runs.specs.StandingLaws.{states_by}
-use Rattle.group_runs.specs.Steps.{AreAdvanced, HaveRoomForRow}
 use Rattle.agg_library.specs.StateRowLaws.{all_raised, joined, raised}
 use Rattle.std.proofs.lemmas.Bool.Decides.{nat_tests}
 use Rattle.std.proofs.lemmas.Grind.{common_steps}

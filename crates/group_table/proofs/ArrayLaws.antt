@@ -1,15 +1,8 @@
 -- Arrays in a set that change.
 use Rattle.std.specs.Prelude.{◌≡◌, refl, ℕ, true, false, cond, if◌then◌else◌, List, [], ◌∷◌, length, IsTrue}
 use Rattle.std.proofs.Common.{ap, arith}
-use Rattle.chunk_layout.specs.Pieces.{Piece, place_of, same_place, is_at, piece_at, rewritten, with_bytes_of}
-use Rattle.chunk_layout.specs.declared.place.Place.{Place}
-use Rattle.chunk_layout.specs.declared.place.ChunkName.{ChunkName}
+use Rattle.group_table.proofs.Words.{Piece, place_of, same_place, is_at, piece_at, rewritten, with_bytes_of, Place, ChunkName, SetState, set_wrote, chunks_of, has_chunk, chunk_bytes, with_bytes, Context, AllocSet, IsRewritten}
 use Rattle.chunk_contexts.specs.Chunks.{KeepsOthers}
-use Rattle.chunk_contexts.specs.Set.{SetState, set_wrote}
-use Rattle.context_tree.specs.Contexts.{chunks_of, has_chunk, chunk_bytes, with_bytes}
-use Rattle.context_tree.specs.declared.context.Context.{Context}
-use Rattle.context_tree.specs.declared.context.Context.TheVariants.{AllocSet}
-use Rattle.group_table.specs.Arrays.{IsRewritten}
 use Rattle.std.proofs.lemmas.Bool.Decides.{nat_tests}
 use Rattle.std.proofs.lemmas.Grind.{common_steps}
 

@@ -2,17 +2,9 @@
 use Rattle.std.specs.Prelude.{◌≡◌, ◌≢◌, refl, ℕ, zero, suc, ◌+◌, ◌*◌, ◌/◌, ◌<◌, ◌≤◌, ◌⊎◌, ◌==◌, nat_le, nat_lt, Bool, true, false, cond, if◌then◌else◌, List, [], ◌∷◌, Option, Some, None, get_or, slice_set, is_some, unwrap_or}
 use Rattle.std.proofs.Common.{inl, inr, sym, ◌∙◌, ap, subst, arith, add-one}
 use Rattle.std.proofs.lemmas.Bool.{cases_lt, lt-ltb, le-ltb, le-leb, eq-eqb, ne_eqb, false≢true}
-use Rattle.chunk_layout.specs.Pieces.{Piece, place_of, piece_at, size_at, total, with_block}
-use Rattle.chunk_layout.specs.declared.place.ChunkName.{ChunkName}
-use Rattle.chunk_contexts.specs.Rooms.{rounded, rooms, room_of, class_of}
+use Rattle.group_table.proofs.Words.{Piece, place_of, piece_at, size_at, total, with_block, ChunkName, rounded, rooms, room_of, class_of, SetState, new_set, set_room, set_growth, set_taken, set_freed, growth_by, taken_by, grown, buckets, array_block, bucket_blocks, buckets_in, buckets_for, most_buckets, IsFirst, HasSpace, HasFirst, IsArrayHeld, HoldsArray, AreArraysHeld, LARGEST}
 use Rattle.chunk_contexts.specs.Free.{is_in}
-use Rattle.chunk_contexts.specs.Set.{SetState, new_set, set_room, set_growth, set_taken, set_freed, growth_by, taken_by}
-use Rattle.aggregation_cost.specs.Space.{grown, buckets, array_block, bucket_blocks}
-use Rattle.group_table.specs.Table.{buckets_in, buckets_for, most_buckets}
-use Rattle.group_table.specs.Standing.{IsFirst, HasSpace, HasFirst}
-use Rattle.group_table.specs.Space.{IsArrayHeld, HoldsArray, AreArraysHeld}
 use Rattle.group_table.proofs.SetFacts.{sum_with, not_classed, size_beside}
-use Rattle.chunk_contexts.specs.declared.rooms.TheConstants.{LARGEST}
 use Rattle.std.proofs.lemmas.Bool.Decides.{nat_tests}
 use Rattle.chunk_layout.specs.NumberLaws.{total-set_none}
 use Rattle.std.proofs.lemmas.Grind.{common_steps}

@@ -3,8 +3,7 @@ use Rattle.std.specs.Prelude.{◌≡◌, ◌≢◌, ℕ, ◌+◌, ◌*◌, ◌^�
 use Rattle.std.specs.Int.{w32, to_be_bytes}
 use Rattle.std.proofs.Common.{rules, sym, ◌∙◌, ap, arith}
 use Rattle.std.proofs.lemmas.List.{places, same_lists}
-use Rattle.group_table.specs.Buckets.{number_at, name_at, bucket_in, bucket_at}
-use Rattle.group_table.specs.declared.bucket.Bucket.{Bucket}
+use Rattle.group_table.proofs.Words.{number_at, name_at, bucket_in, bucket_at, Bucket}
 use Rattle.std.proofs.lemmas.Bool.Decides.{nat_tests}
 use Rattle.std.proofs.lemmas.Grind.{common_steps}
 

@@ -5,20 +5,11 @@ use Rattle.std.proofs.lemmas.Bool.{cases_eq, cond-true, cond-false, eq-eqb, ne_e
 use Rattle.context_tree.specs.SlotLaws.{placed-here, placed-other, tests-agree, parent-is}
 use Rattle.chunk_contexts.specs.declared.error.ContextError.{ContextError}
 use Rattle.chunk_contexts.specs.declared.error.ContextError.TheVariants.{TooLarge}
-use Rattle.context_tree.specs.Contexts.{no_context, new_context, kind_refusal, held_by}
-use Rattle.context_tree.specs.Links.{parent_of, stamp_of, is_true_of, leads_to, is_below, is_under, cleared, IsForest}
-use Rattle.context_tree.specs.Tree.{TreeState, IsWhole, IsNotMade, has_stamp, is_there, context_at, deleted, held_below, held_from}
-use Rattle.context_tree.specs.declared.context.Context.{Context}
+use Rattle.group_table.proofs.Words.{no_context, new_context, kind_refusal, held_by, parent_of, stamp_of, is_true_of, leads_to, is_below, is_under, cleared, IsForest, TreeState, IsWhole, IsNotMade, has_stamp, is_there, context_at, deleted, held_below, held_from, Context, ContextId, Link, AreMade, AreNew, IsNew, IsRefusedOf, IsAsBefore, IsSameBySlot, IsChild, IsApart, IsPlaced, MOST, TableState}
 use Rattle.context_tree.specs.declared.error.TreeError.{TreeError}
 use Rattle.context_tree.specs.declared.kind.Kind.{Kind}
 use Rattle.context_tree.specs.declared.kind.Kind.TheVariants as kind
-use Rattle.context_tree.specs.declared.links.ContextId.{ContextId}
-use Rattle.context_tree.specs.declared.links.Link.{Link}
-use Rattle.group_table.specs.Children.{AreMade, AreNew, IsNew, IsRefusedOf, IsAsBefore, IsSameBySlot}
-use Rattle.group_table.specs.Standing.{IsChild, IsApart, IsPlaced}
 use Rattle.group_table.specs.declared.children.Children.{Children}
-use Rattle.chunk_contexts.specs.declared.rooms.TheConstants.{MOST}
-use Rattle.group_table.specs.Table.{TableState}
 use Rattle.std.proofs.lemmas.Bool.Decides.{nat_tests}
 use Rattle.std.proofs.lemmas.Grind.{common_steps}
 

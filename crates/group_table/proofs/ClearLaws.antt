@@ -4,15 +4,7 @@ use Rattle.std.proofs.Common.{inl, inr, sym, ◌∙◌, ap, subst, arith}
 use Rattle.std.proofs.lemmas.Bool.{cond-false, eq-eqb, false≢true}
 use Rattle.std.proofs.lemmas.List.{get_or-set_same, get_or-set_other}
 use Rattle.context_tree.specs.SlotLaws.{parent-is}
-use Rattle.chunk_layout.specs.Pieces.{size_at, total, only}
-use Rattle.chunk_contexts.specs.Set.{SetState, new_set, set_reset}
-use Rattle.context_tree.specs.Contexts.{no_context, reset_context, held_by}
-use Rattle.context_tree.specs.Links.{parent_of, stamp_of, is_below, is_under, cleared}
-use Rattle.context_tree.specs.Tree.{TreeState, IsWhole, context_at, reset}
-use Rattle.context_tree.specs.declared.context.Context.{Context}
-use Rattle.context_tree.specs.declared.context.Context.TheVariants.{Slab, Bump}
-use Rattle.context_tree.specs.declared.links.ContextId.{ContextId}
-use Rattle.group_table.specs.Standing.{IsBump, IsSlabOf, IsFirst, HasSpace}
+use Rattle.group_table.proofs.Words.{size_at, total, only, SetState, new_set, set_reset, no_context, reset_context, held_by, parent_of, stamp_of, is_below, is_under, cleared, TreeState, IsWhole, context_at, reset, Context, Slab, Bump, ContextId, IsBump, IsSlabOf, IsFirst, HasSpace}
 use Rattle.group_table.proofs.ChildLaws.{cleared_at, not_above}
 use Rattle.std.proofs.Math.Bool.{and-false}
 

@@ -3,12 +3,10 @@ use Rattle.std.specs.Prelude.{◌≡◌, refl, ℕ, zero, suc, ◌+◌, ◌-◌,
 use Rattle.std.proofs.Common.{inl, inr, sym, ◌∙◌, ap, subst, arith}
 use Rattle.std.proofs.lemmas.Bool.{cases_lt, lt-ltb, le-ltb}
 use Rattle.std.proofs.Math.Nat.{div_self, eq_of_mul-eq-mul_left}
-use Rattle.chunk_layout.specs.Pieces.{Piece, total, with_block}
-use Rattle.chunk_contexts.specs.Rooms.{rounded, over_most}
+use Rattle.group_table.proofs.Words.{Piece, total, with_block, rounded, over_most, Key, Blocks, quotient_up, key_room, state_blocks, HoldsKeyBlocks, AreOfSize, HoldsStates}
 use Rattle.chunk_contexts.specs.Run.{RunState, run_growth, run_taken_by}
 use Rattle.chunk_contexts.specs.Slab.{SlabState, slab_block, per_block, block_count, has_spare, slab_grows, slab_growth, slab_taken}
-use Rattle.aggregation_cost.specs.Space.{Key, Blocks, quotient_up, key_room, chunk_of, state_blocks}
-use Rattle.group_table.specs.Space.{HoldsKeyBlocks, AreOfSize, HoldsStates}
+use Rattle.aggregation_cost.specs.Space.{chunk_of}
 use Rattle.std.proofs.lemmas.Bool.Decides.{nat_tests}
 use Rattle.std.proofs.lemmas.Nat.{le-div}
 use Rattle.std.proofs.lemmas.Grind.{common_steps}

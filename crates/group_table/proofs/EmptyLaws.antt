@@ -3,22 +3,11 @@ use Rattle.std.specs.Prelude.{◌≡◌, ◌≢◌, refl, ℕ, ◌+◌, ◌≤�
 use Rattle.std.proofs.Common.{sym, ◌∙◌, ap, subst, arith, inl, inr}
 use Rattle.std.proofs.lemmas.Bool.{false≢true}
 use Rattle.std.proofs.lemmas.List.{length-set}
-use Rattle.context_tree.specs.Contexts.{no_context, reset_context, held_by}
-use Rattle.context_tree.specs.Links.{is_below, is_under, cleared}
-use Rattle.context_tree.specs.Tree.{TreeState, IsWhole, context_at, reset, held_below}
-use Rattle.context_tree.specs.declared.links.ContextId.{ContextId}
-use Rattle.group_table.specs.Table.{TableState, held_in, IsEmptied}
-use Rattle.group_table.specs.Standing.{IsFirst, HasArray, IsPlaced, IsTableIn, KeepsBeside, IsBump, IsSlabOf, HasSpace}
-use Rattle.group_table.specs.Space.{IsRunWith, IsSlabWith, HoldsArray, HoldsKeyBlocks, HoldsStates, HoldsKeys}
+use Rattle.group_table.proofs.Words.{no_context, reset_context, held_by, is_below, is_under, cleared, TreeState, IsWhole, context_at, reset, held_below, ContextId, TableState, held_in, IsEmptied, IsFirst, HasArray, IsPlaced, IsTableIn, KeepsBeside, IsBump, IsSlabOf, HasSpace, IsRunWith, IsSlabWith, HoldsArray, HoldsKeyBlocks, HoldsStates, HoldsKeys, total, SetState, set_reset, AllocSet, IsCleared, Slot}
 use Rattle.group_table.proofs.ChildLaws.{below_self, placed_alike}
 use Rattle.group_table.proofs.ClearLaws.{length_cleared, link_kept, context_kept, not_self, not_parent, context_reset, IsReset, set_is_reset, bump_reset, slab_reset_of}
 use Rattle.group_table.proofs.SpaceLaws.{set_map, run_empty, slab_empty}
 use Rattle.group_table.proofs.HeldLaws.{below_less, held_at_least, held_reset}
-use Rattle.chunk_layout.specs.Pieces.{total}
-use Rattle.chunk_contexts.specs.Set.{SetState, set_reset}
-use Rattle.context_tree.specs.declared.context.Context.TheVariants.{AllocSet}
-use Rattle.group_table.specs.Children.{IsCleared}
-use Rattle.group_table.specs.declared.table.Slot.{Slot}
 use Rattle.group_table.proofs.StandLaws.{SetOf, set_of, set_with}
 
 -- a context is reset: those beside it are as they were

@@ -1,16 +1,8 @@
 -- Chunks for a group are taken.
 use Rattle.std.specs.Prelude.{◌≡◌, refl, ℕ, suc, ◌+◌, List, [], ◌∷◌, Some, map, slice_get, IsTrue}
 use Rattle.std.proofs.Common.{sym, ◌∙◌, ap, subst, arith}
-use Rattle.chunk_layout.specs.Pieces.{Piece}
-use Rattle.chunk_layout.specs.declared.place.ChunkName.{ChunkName}
-use Rattle.chunk_contexts.specs.Chunks.{Keeps}
-use Rattle.context_tree.specs.Contexts.{chunks_of, has_chunk, chunk_bytes, with_chunk, held_by}
-use Rattle.context_tree.specs.Tree.{TreeState, context_at, with_context, held_below}
-use Rattle.context_tree.specs.declared.context.Context.{Context}
-use Rattle.group_table.specs.Table.{TableState, IsSlot, group_in, groups}
-use Rattle.group_table.specs.Standing.{KeepsOthers, IsBump, IsSlabOf, AreGroups, IsStanding}
-use Rattle.group_table.specs.Arrays.{OnlyIn}
-use Rattle.group_table.specs.declared.table.Slot.{Slot}
+use Rattle.group_table.proofs.Words.{Piece, ChunkName, Keeps, chunks_of, has_chunk, chunk_bytes, with_chunk, held_by, TreeState, context_at, with_context, held_below, Context, TableState, IsSlot, group_in, groups, IsBump, IsSlabOf, AreGroups, IsStanding, OnlyIn, Slot}
+use Rattle.group_table.specs.Standing.{KeepsOthers}
 use Rattle.group_table.proofs.StandLaws.{bump_with, slab_with, set_by}
 use Rattle.group_table.proofs.TreeFacts.{at_same, at_other, placed_kept, same_links, same_number, held_changed, only_its_own}
 use Rattle.std.proofs.lemmas.Bool.Decides.{nat_tests}

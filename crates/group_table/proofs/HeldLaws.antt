@@ -3,14 +3,8 @@ use Rattle.std.specs.Prelude.{◌≡◌, refl, ℕ, zero, suc, ◌+◌, ◌<◌,
 use Rattle.std.proofs.Common.{sym, ◌∙◌, ap, subst, arith, rules}
 use Rattle.std.proofs.lemmas.Bool.{cond-false, or_parts}
 use Rattle.std.proofs.lemmas.List.{ext_get_or}
-use Rattle.context_tree.specs.Contexts.{no_context, reset_context, held_by}
-use Rattle.context_tree.specs.Links.{parent_of, stamp_of, is_true_of, leads_to, is_below, is_under, cleared}
-use Rattle.context_tree.specs.Tree.{TreeState, context_at, with_context, without_slots, reset, held_below, held_from}
-use Rattle.context_tree.specs.declared.context.Context.{Context}
-use Rattle.context_tree.specs.declared.links.ContextId.{ContextId}
-use Rattle.context_tree.specs.declared.links.Link.{Link}
-use Rattle.group_table.specs.Table.{TableState, held_in}
-use Rattle.group_table.specs.Standing.{IsPlaced, KeepsOthers}
+use Rattle.group_table.proofs.Words.{no_context, reset_context, held_by, parent_of, stamp_of, is_true_of, leads_to, is_below, is_under, cleared, TreeState, context_at, with_context, without_slots, reset, held_below, held_from, Context, ContextId, Link, TableState, held_in, IsPlaced}
+use Rattle.group_table.specs.Standing.{KeepsOthers}
 use Rattle.group_table.proofs.TreeFacts.{at_other, as_many, held_with}
 use Rattle.group_table.proofs.ChildLaws.{cleared_at}
 use Rattle.group_table.proofs.ClearLaws.{length_cleared, context_reset, not_self}

@@ -2,9 +2,8 @@
 use Rattle.std.specs.Prelude.{◌≡◌, ◌≢◌, refl, ℕ, zero, suc, ◌+◌, ◌*◌, ◌<◌, ◌≤◌, ◌⊎◌, Bool, true, false, cond, List, Option, Some, None, length, is_some, IfSome}
 use Rattle.std.proofs.Common.{inl, inr, sym, ◌∙◌, ap, subst, arith, add-one, rules}
 use Rattle.std.proofs.lemmas.Bool.{cases_eq, cases_lt}
-use Rattle.group_table.specs.Buckets.{bucket_at}
-use Rattle.group_table.specs.Index.{start_of, IsPath, IsIndex, in_use, Holds, Puts, HasAll}
-use Rattle.group_table.specs.declared.bucket.Bucket.{Bucket}
+use Rattle.group_table.proofs.Words.{bucket_at, start_of, IsPath, IsIndex, Holds, Puts, HasAll, Bucket}
+use Rattle.group_table.specs.Index.{in_use}
 
 -- how many of the first n are in use where all are, and at most
 pub all_in_use : (array : List ℕ) (n : ℕ) → ((place : ℕ) → place < n → is_some (bucket_at array place) ≡ true) → in_use array n ≡ n

@@ -1,14 +1,8 @@
 -- A group is taken, step by step.
 use Rattle.std.specs.Prelude.{◌≡◌, refl, ℕ, zero, suc, ◌+◌, ◌/◌, ◌≤◌, List, [], ◌∷◌, ◌++◌, Option, Some, None, option_map, map, slice_get, is_some, true, length, get_or}
 use Rattle.std.proofs.Common.{sym, ◌∙◌, ap, subst, arith, rules}
-use Rattle.chunk_layout.specs.declared.place.ChunkName.{ChunkName}
-use Rattle.context_tree.specs.Contexts.{growth_of, held_by}
-use Rattle.context_tree.specs.Tree.{TreeState, context_at, held_below}
-use Rattle.context_tree.specs.declared.context.Context.{Context}
-use Rattle.group_table.specs.Table.{TableState, group_in, groups, HasNo, IsSameBut, array_growth, group_growth}
-use Rattle.group_table.specs.Standing.{IsSetWith, HasSpace, IsArrayOf, HasArray, IsPlaced, IsTableIn, KeepsOthers}
-use Rattle.group_table.specs.Arrays.{OnlyIn, HasNext, IsNext, with_next, with_slot, with_spare}
-use Rattle.group_table.specs.declared.table.Slot.{Slot}
+use Rattle.group_table.proofs.Words.{ChunkName, growth_of, held_by, TreeState, context_at, held_below, Context, TableState, group_in, groups, HasNo, IsSameBut, array_growth, group_growth, IsSetWith, HasSpace, IsArrayOf, HasArray, IsPlaced, IsTableIn, OnlyIn, HasNext, IsNext, with_next, with_slot, with_spare, Slot}
+use Rattle.group_table.specs.Standing.{KeepsOthers}
 use Rattle.group_table.proofs.StandLaws.{set_of, set_with}
 use Rattle.group_table.proofs.TreeFacts.{at_other, held_changed, only_its_own}
 use Rattle.std.proofs.lemmas.Option.{slice_get-map}

@@ -1,3 +1,4 @@
+pub mod Words
 pub mod BucketLaws
 pub mod IndexLaws
 pub mod SearchLaws

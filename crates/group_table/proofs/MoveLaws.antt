@@ -2,27 +2,14 @@
 use Rattle.std.specs.Prelude.{◌≡◌, refl, ℕ, ◌+◌, ◌*◌, ◌<◌, ◌≤◌, nat_lt, Bool, true, false, cond, List, [], Option, Some, None, length, slice_get, slice_set, is_some, IsTrue}
 use Rattle.std.proofs.Common.{sym, ◌∙◌, ap, subst, arith, rules}
 use Rattle.std.proofs.lemmas.Bool.{leb-true, false≢true}
-use Rattle.chunk_layout.specs.Pieces.{Piece, same_place, place_of, piece_at, size_at, total}
-use Rattle.chunk_layout.specs.declared.place.Place.{Place}
-use Rattle.chunk_layout.specs.declared.place.ChunkName.{ChunkName}
-use Rattle.chunk_contexts.specs.Chunks.{KeepsOthers, is_live, bytes_of}
-use Rattle.chunk_contexts.specs.Set.{SetState, set_room, set_freed}
-use Rattle.context_tree.specs.Contexts.{chunks_of, has_chunk, chunk_bytes, without_chunk, held_by}
-use Rattle.context_tree.specs.Tree.{TreeState, context_at, with_context}
-use Rattle.context_tree.specs.declared.context.Context.{Context}
-use Rattle.context_tree.specs.declared.context.Context.TheVariants.{AllocSet}
-use Rattle.group_table.specs.Buckets.{bucket_at}
-use Rattle.group_table.specs.Index.{in_use, HasAll}
-use Rattle.group_table.specs.Table.{TableState}
-use Rattle.group_table.specs.Standing.{IsSetWith, IsBump, IsSlabOf, IsFirst, IsBesideFirst, HasArray, AreGroups, IsPlaced, IsStanding, IsArrayIn, IsArrayOf, bucket_of}
-use Rattle.group_table.specs.Arrays.{IsRewritten, OnlyIn, IsSpare, bytes_at, count_of, with_next}
-use Rattle.group_table.specs.Space.{HoldsArray, AreArraysHeld, HoldsNext}
+use Rattle.group_table.proofs.Words.{Piece, same_place, place_of, piece_at, size_at, total, Place, ChunkName, is_live, bytes_of, SetState, set_room, set_freed, chunks_of, has_chunk, chunk_bytes, without_chunk, held_by, TreeState, context_at, with_context, Context, AllocSet, bucket_at, HasAll, TableState, IsSetWith, IsBump, IsSlabOf, IsFirst, IsBesideFirst, HasArray, AreGroups, IsPlaced, IsStanding, IsArrayIn, IsArrayOf, bucket_of, IsRewritten, OnlyIn, IsSpare, bytes_at, count_of, with_next, HoldsArray, AreArraysHeld, HoldsNext, LARGEST}
+use Rattle.chunk_contexts.specs.Chunks.{KeepsOthers}
+use Rattle.group_table.specs.Index.{in_use}
 use Rattle.group_table.proofs.ArrayLaws.{as_named, one_set}
 use Rattle.group_table.proofs.BlockLaws.{short_room, larger_settled, total_without, size_without}
 use Rattle.group_table.proofs.IndexLaws.{none_yet}
 use Rattle.group_table.proofs.StandLaws.{SetOf, set_of, set_with}
 use Rattle.group_table.proofs.TreeFacts.{at_same, placed_kept, same_links, same_number, only_twice}
-use Rattle.chunk_contexts.specs.declared.rooms.TheConstants.{LARGEST}
 use Rattle.group_table.proofs.InsertLaws.{keys_left, states_left}
 use Rattle.std.proofs.lemmas.Bool.Decides.{nat_tests}
 use Rattle.chunk_layout.specs.PieceLaws.{piece_at-without, same_place-sym}

@@ -3,19 +3,8 @@ use Rattle.std.specs.Prelude.{◌≡◌, refl, ℕ, zero, suc, ◌+◌, ◌*◌,
 use Rattle.std.proofs.Common.{inl, inr, sym, ◌∙◌, ap, subst, arith, rules}
 use Rattle.std.proofs.lemmas.Bool.{cases_eq, false≢true}
 use Rattle.std.proofs.lemmas.List.{length_push}
-use Rattle.chunk_layout.specs.Pieces.{same_place, place_of, piece_at}
-use Rattle.chunk_layout.specs.declared.place.ChunkName.{ChunkName}
-use Rattle.chunk_contexts.specs.Set.{SetState}
-use Rattle.context_tree.specs.Contexts.{has_chunk, chunk_bytes}
-use Rattle.context_tree.specs.Tree.{TreeState, context_at}
-use Rattle.context_tree.specs.declared.context.Context.{Context}
-use Rattle.group_table.specs.Buckets.{bucket_at}
-use Rattle.group_table.specs.Index.{IsIndex, in_use, Holds, Puts}
-use Rattle.group_table.specs.Table.{TableState, IsSlot, HasNo}
-use Rattle.group_table.specs.Standing.{IsSetWith, IsBump, IsSlabOf, IsFirst, HasArray, AreGroups, IsStanding, IsArrayIn, IsArrayOf, bucket_of, slot_of}
-use Rattle.group_table.specs.Arrays.{IsRewritten, IsArrayAt, OnlyIn, HasNext, IsNext, bytes_at, count_of, with_slot}
-use Rattle.group_table.specs.declared.bucket.Bucket.{Bucket}
-use Rattle.group_table.specs.declared.table.Slot.{Slot}
+use Rattle.group_table.proofs.Words.{same_place, place_of, piece_at, ChunkName, SetState, has_chunk, chunk_bytes, TreeState, context_at, Context, bucket_at, IsIndex, Holds, Puts, TableState, IsSlot, HasNo, IsSetWith, IsBump, IsSlabOf, IsFirst, HasArray, AreGroups, IsStanding, IsArrayIn, IsArrayOf, bucket_of, slot_of, IsRewritten, IsArrayAt, OnlyIn, HasNext, IsNext, bytes_at, count_of, with_slot, Bucket, Slot}
+use Rattle.group_table.specs.Index.{in_use}
 use Rattle.group_table.proofs.ArrayLaws.{one_set}
 use Rattle.group_table.proofs.MoveLaws.{same_back}
 use Rattle.group_table.proofs.StandLaws.{SetOf, set_of, set_with}

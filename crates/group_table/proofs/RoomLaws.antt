@@ -1,12 +1,7 @@
 -- How much a table takes that holds nothing but its first block.
 use Rattle.std.specs.Prelude.{◌≡◌, ℕ, ◌+◌, ◌≤◌, List, None, length}
 use Rattle.std.proofs.Common.{sym, subst, arith, rules}
-use Rattle.context_tree.specs.Contexts.{growth_of, held_by}
-use Rattle.context_tree.specs.Tree.{TreeState, context_at, held_below}
-use Rattle.context_tree.specs.declared.context.Context.{Context}
-use Rattle.context_tree.specs.declared.context.Context.TheVariants.{Slab, Bump}
-use Rattle.group_table.specs.Table.{TableState, array_growth, group_growth, IsEmptied}
-use Rattle.group_table.specs.Standing.{IsSetWith, IsBump, IsSlabOf, IsFirst, HasArray, HasSpace, IsTableIn}
+use Rattle.group_table.proofs.Words.{growth_of, held_by, TreeState, context_at, held_below, Context, Slab, Bump, TableState, array_growth, group_growth, IsEmptied, IsSetWith, IsBump, IsSlabOf, IsFirst, HasArray, HasSpace, IsTableIn}
 use Rattle.group_table.proofs.StandLaws.{set_of}
 use Rattle.group_table.proofs.BlockLaws.{first_grows}
 use Rattle.std.proofs.lemmas.Bool.Decides.{nat_tests}

@@ -2,12 +2,7 @@
 use Rattle.std.specs.Prelude.{◌≡◌, ◌≢◌, ℕ, ◌+◌, ◌<◌, ◌≤◌, ◌⊎◌, true, List, Option, Some, None, is_some}
 use Rattle.std.proofs.Common.{inl, inr, sym, ◌∙◌, ap, subst, arith}
 use Rattle.std.proofs.lemmas.Bool.{cases_eq, cases_lt, false≢true}
-use Rattle.context_tree.specs.Contexts.{chunk_bytes}
-use Rattle.context_tree.specs.declared.context.Context.{Context}
-use Rattle.group_table.specs.Buckets.{bucket_at}
-use Rattle.group_table.specs.Index.{start_of, passes, IsIndex}
-use Rattle.group_table.specs.Search.{IsOther, Tells, Finds}
-use Rattle.group_table.specs.declared.bucket.Bucket.{Bucket}
+use Rattle.group_table.proofs.Words.{chunk_bytes, Context, bucket_at, start_of, passes, IsIndex, IsOther, Tells, Finds, Bucket}
 use Rattle.group_table.specs.declared.search.Probe.{Probe}
 use Rattle.group_table.specs.declared.search.Probe.TheVariants.{Free, Passed}
 use Rattle.group_table.proofs.IndexLaws.{one_more}

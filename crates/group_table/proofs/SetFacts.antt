@@ -2,14 +2,9 @@
 use Rattle.std.specs.Prelude.{◌≡◌, ◌≢◌, refl, ℕ, zero, suc, ◌+◌, ◌<◌, ◌⊎◌, nat_le, true, false, List, [], ◌∷◌, Option, Some, None, get_or, unwrap_or, is_some}
 use Rattle.std.proofs.Common.{inl, inr, sym, ◌∙◌, ap, subst, arith}
 use Rattle.std.proofs.lemmas.Bool.{leb-true, false≢true, false_from_ne_true, cond-true}
-use Rattle.chunk_layout.specs.Pieces.{Piece, place_of, is_at, has, piece_at, size_at, total, with_block}
-use Rattle.chunk_layout.specs.declared.place.ChunkName.{ChunkName}
+use Rattle.group_table.proofs.Words.{Piece, place_of, is_at, has, piece_at, size_at, total, with_block, ChunkName, over_most, rooms, room_of, class_of, SetState, new_set, set_room, set_growth, set_taken, taken_by, dedicated, IsFirst, IsBesideFirst, HasFirst, LARGEST}
 use Rattle.chunk_contexts.specs.Chunks.{chunk_of}
-use Rattle.chunk_contexts.specs.Rooms.{over_most, rooms, room_of, class_of}
 use Rattle.chunk_contexts.specs.Free.{is_in}
-use Rattle.chunk_contexts.specs.Set.{SetState, new_set, set_room, set_growth, set_taken, taken_by, dedicated}
-use Rattle.group_table.specs.Standing.{IsFirst, IsBesideFirst, HasFirst}
-use Rattle.chunk_contexts.specs.declared.rooms.TheConstants.{LARGEST}
 use Rattle.chunk_layout.specs.FindingLaws.{place-same}
 use Rattle.std.proofs.lemmas.Bool.Decides.{nat_tests}
 use Rattle.std.proofs.lemmas.Grind.{common_steps}

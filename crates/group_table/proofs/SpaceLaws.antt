@@ -4,28 +4,12 @@ use Rattle.std.proofs.Common.{inl, inr, sym, ◌∙◌, ap, subst, arith, rules}
 use Rattle.std.proofs.lemmas.Bool.{le-leb, leb-true, false_from_ne_true, false≢true, eq-eqb, ne_eqb, and_right}
 use Rattle.std.proofs.lemmas.List.{length-map, length_push}
 use Rattle.std.proofs.lemmas.Simd.{map-map}
-use Rattle.chunk_layout.specs.Pieces.{Piece, total, rewritten, is_at, with_bytes_of}
-use Rattle.chunk_layout.specs.declared.place.Place.{Place}
-use Rattle.chunk_layout.specs.declared.place.ChunkName.{ChunkName}
+use Rattle.group_table.proofs.Words.{Piece, total, rewritten, is_at, with_bytes_of, Place, ChunkName, rounded, SetState, set_room, set_growth, set_taken, blocks_of, chunk_bytes, with_bytes, with_chunk, reset_context, room_in, growth_of, held_by, IsCounted, TreeState, context_at, with_context, held_below, Context, AllocSet, Slab, Bump, Key, buckets, bucket_blocks, key_blocks, state_blocks, need, held_after, fits, TableState, groups, buckets_in, buckets_for, most_buckets, array_growth, group_growth, held_in, IsSameBut, IsSetWith, IsBump, IsSlabOf, IsFirst, HasArray, HasSpace, IsPlaced, IsTableIn, IsSameFor, OnlyIn, with_next, with_spare, AreMade, ContextId, key_of, keys_in, IsRunWith, IsSlabWith, HoldsArray, AreArraysHeld, HoldsNext, HoldsKeyBlocks, AreOfSize, HoldsStates, HoldsKeys, Slot}
 use Rattle.block_memory.specs.Cells.{zeros}
 use Rattle.chunk_contexts.specs.Chunks.{chunk_of as as_chunk}
-use Rattle.chunk_contexts.specs.Rooms.{rounded}
 use Rattle.chunk_contexts.specs.Run.{RunState}
-use Rattle.chunk_contexts.specs.Set.{SetState, set_room, set_growth, set_taken}
 use Rattle.chunk_contexts.specs.Slab.{SlabState, slab_block, slab_growth, slab_taken}
-use Rattle.context_tree.specs.Contexts.{blocks_of, chunk_bytes, with_bytes, with_chunk, reset_context, room_in, growth_of, held_by, IsCounted}
-use Rattle.context_tree.specs.Tree.{TreeState, context_at, with_context, held_below}
-use Rattle.context_tree.specs.declared.context.Context.{Context}
-use Rattle.context_tree.specs.declared.context.Context.TheVariants.{AllocSet, Slab, Bump}
-use Rattle.aggregation_cost.specs.Space.{Key, buckets, bucket_blocks, key_blocks, state_blocks, need, held_after, fits}
-use Rattle.group_table.specs.Table.{TableState, groups, buckets_in, buckets_for, most_buckets, array_growth, group_growth, held_in, IsSameBut}
-use Rattle.group_table.specs.Standing.{IsSetWith, IsBump, IsSlabOf, IsFirst, HasArray, HasSpace, IsPlaced, IsTableIn, IsSameFor}
-use Rattle.group_table.specs.Arrays.{OnlyIn, with_next, with_spare}
-use Rattle.group_table.specs.Children.{AreMade}
 use Rattle.group_table.specs.declared.children.Children.{Children}
-use Rattle.context_tree.specs.declared.links.ContextId.{ContextId}
-use Rattle.group_table.specs.Space.{key_of, keys_in, IsRunWith, IsSlabWith, HoldsArray, AreArraysHeld, HoldsNext, HoldsKeyBlocks, AreOfSize, HoldsStates, HoldsKeys}
-use Rattle.group_table.specs.declared.table.Slot.{Slot}
 use Rattle.group_table.proofs.BlockLaws.{same_or_twice, wanted_is, count_is, array_grows, space_held, still_held, first_taken, larger_taken}
 use Rattle.group_table.proofs.CountLaws.{key_grows, state_grows, state_growth_is, one_state_more}
 use Rattle.group_table.proofs.StandLaws.{SetOf, set_of, set_with}

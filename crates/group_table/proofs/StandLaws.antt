@@ -1,17 +1,8 @@
 -- A table stands, whatever else its contexts hold.
 use Rattle.std.specs.Prelude.{◌≡◌, refl, ℕ, ◌/◌, List, ◌∷◌, Option, Some, None}
 use Rattle.std.proofs.Common.{sym, ◌∙◌, ap, subst, arith}
-use Rattle.chunk_layout.specs.Pieces.{Piece}
-use Rattle.chunk_layout.specs.declared.place.ChunkName.{ChunkName}
-use Rattle.chunk_contexts.specs.Chunks.{chunk_of, bytes_of, Keeps}
-use Rattle.chunk_contexts.specs.Set.{SetState}
-use Rattle.context_tree.specs.Contexts.{chunk_bytes, with_chunk}
-use Rattle.context_tree.specs.declared.context.Context.{Context}
-use Rattle.context_tree.specs.declared.context.Context.TheVariants.{AllocSet, Slab, Bump}
-use Rattle.group_table.specs.Index.{Holds}
-use Rattle.group_table.specs.Table.{TableState, IsSlot}
-use Rattle.group_table.specs.Standing.{IsSetWith, IsBump, IsSlabOf, IsFirst, HasArray, IsArrayIn, IsArrayOf, slot_of}
-use Rattle.group_table.specs.declared.table.Slot.{Slot}
+use Rattle.group_table.proofs.Words.{Piece, ChunkName, bytes_of, Keeps, SetState, chunk_bytes, with_chunk, Context, AllocSet, Slab, Bump, Holds, TableState, IsSlot, IsSetWith, IsBump, IsSlabOf, IsFirst, HasArray, IsArrayIn, IsArrayOf, slot_of, Slot}
+use Rattle.chunk_contexts.specs.Chunks.{chunk_of}
 use Rattle.std.proofs.lemmas.Bool.Decides.{nat_tests}
 use Rattle.std.proofs.lemmas.Grind.{common_steps}
 

@@ -1,9 +1,7 @@
 -- A table is one in other trees too.
 use Rattle.std.specs.Prelude.{◌≡◌, ℕ, List}
 use Rattle.std.proofs.Common.{sym, subst}
-use Rattle.context_tree.specs.Tree.{TreeState, IsWhole, context_at}
-use Rattle.group_table.specs.Table.{TableState, groups, group_in}
-use Rattle.group_table.specs.Standing.{IsSetWith, HasSpace, Stands, IsTableIn, IsSameFor}
+use Rattle.group_table.proofs.Words.{TreeState, IsWhole, context_at, TableState, groups, group_in, IsSetWith, HasSpace, Stands, IsTableIn, IsSameFor}
 use Rattle.group_table.proofs.ChildLaws.{placed_alike}
 use Rattle.group_table.proofs.GroupLaws.{map_same}
 

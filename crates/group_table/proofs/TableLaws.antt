@@ -1,16 +1,7 @@
 -- What is known of a table in its tree.
 use Rattle.std.specs.Prelude.{◌≡◌, ℕ, ◌*◌, ◌/◌, ◌<◌, ◌≤◌, List, [], Some, None, length, slice_get, IsTrue}
 use Rattle.std.proofs.Common.{sym, ◌∙◌, ap, subst, arith}
-use Rattle.chunk_layout.specs.declared.place.ChunkName.{ChunkName}
-use Rattle.context_tree.specs.Contexts.{has_chunk, chunk_bytes}
-use Rattle.context_tree.specs.Tree.{TreeState, context_at}
-use Rattle.context_tree.specs.declared.context.Context.{Context}
-use Rattle.context_tree.specs.declared.context.Context.TheVariants.{AllocSet}
-use Rattle.group_table.specs.Index.{Holds}
-use Rattle.group_table.specs.Search.{Finds}
-use Rattle.group_table.specs.Table.{TableState, Names, HasNo, most_buckets}
-use Rattle.group_table.specs.Standing.{IsSetWith, IsFirst, HasArray, IsArrayOf, IsStanding, bucket_of, slot_of}
-use Rattle.group_table.specs.declared.bucket.Bucket.{Bucket}
+use Rattle.group_table.proofs.Words.{ChunkName, has_chunk, chunk_bytes, TreeState, context_at, Context, AllocSet, Holds, Finds, TableState, Names, HasNo, most_buckets, IsSetWith, IsFirst, HasArray, IsArrayOf, IsStanding, bucket_of, slot_of, Bucket}
 use Rattle.std.proofs.lemmas.Option.{none-some}
 
 module _ {H : Type 0} (hash_of : H → List ℕ → ℕ) (t : TableState H) (tree : TreeState) where

@@ -4,24 +4,12 @@ use Rattle.std.proofs.Common.{inl, inr, sym, ◌∙◌, ap, subst, arith, rules}
 use Rattle.std.proofs.lemmas.Bool.{leb-true, false_from_ne_true}
 use Rattle.std.proofs.lemmas.List.{get_or-take, get_or-drop, get_or_past, length-take}
 use Rattle.block_memory.specs.Cells.{zeros}
-use Rattle.chunk_layout.specs.Pieces.{total}
-use Rattle.chunk_layout.specs.declared.place.ChunkName.{ChunkName}
-use Rattle.chunk_contexts.specs.Chunks.{chunk_of, is_live, Keeps}
+use Rattle.group_table.proofs.Words.{total, ChunkName, is_live, Keeps, over_most, SetState, set_room, set_growth, set_taken, chunks_of, blocks_of, has_chunk, chunk_bytes, with_chunk, room_in, growth_of, held_by, TreeState, context_at, with_context, Context, AllocSet, number_at, bucket_in, bucket_at, TableState, buckets_in, buckets_for, most_buckets, array_growth, IsSetWith, IsFirst, IsBesideFirst, HasArray, HasSpace, IsBump, IsSlabOf, AreGroups, IsPlaced, IsStanding, IsTableIn, IsArrayIn, OnlyIn, IsSpare, count_of, MOST}
+use Rattle.chunk_contexts.specs.Chunks.{chunk_of}
 use Rattle.chunk_contexts.specs.declared.error.ContextError.TheVariants.{TooLarge}
-use Rattle.chunk_contexts.specs.Rooms.{over_most}
-use Rattle.chunk_contexts.specs.Set.{SetState, set_room, set_growth, set_taken}
-use Rattle.context_tree.specs.Contexts.{chunks_of, blocks_of, has_chunk, chunk_bytes, with_chunk, room_in, growth_of, held_by}
-use Rattle.context_tree.specs.Tree.{TreeState, context_at, with_context}
-use Rattle.context_tree.specs.declared.context.Context.{Context}
-use Rattle.context_tree.specs.declared.context.Context.TheVariants.{AllocSet}
-use Rattle.group_table.specs.Buckets.{number_at, bucket_in, bucket_at}
-use Rattle.group_table.specs.Table.{TableState, buckets_in, buckets_for, most_buckets, array_growth}
-use Rattle.group_table.specs.Standing.{IsSetWith, IsFirst, IsBesideFirst, HasArray, HasSpace, IsBump, IsSlabOf, AreGroups, IsPlaced, IsStanding, IsTableIn, IsArrayIn}
-use Rattle.group_table.specs.Arrays.{OnlyIn, IsSpare, count_of}
 use Rattle.group_table.proofs.SetFacts.{large_first, large_some, large_chunks, large_same, large_beside, first_first, first_some, first_beside, taken_first}
 use Rattle.group_table.proofs.StandLaws.{SetOf, set_of, set_with, array_beside}
 use Rattle.group_table.proofs.TreeFacts.{at_same, placed_kept, same_links, same_number}
-use Rattle.chunk_contexts.specs.declared.rooms.TheConstants.{MOST}
 use Rattle.group_table.proofs.InsertLaws.{keys_left, states_left}
 use Rattle.std.proofs.lemmas.Option.{none-some}
 use Rattle.std.proofs.lemmas.Bool.Decides.{nat_tests}

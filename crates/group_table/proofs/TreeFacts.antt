@@ -2,15 +2,8 @@
 use Rattle.std.specs.Prelude.{◌≡◌, ◌≢◌, ℕ, zero, suc, ◌+◌, ◌<◌, true, cond, List, [], ◌∷◌, Option, length, get_or, slice_set}
 use Rattle.std.proofs.Common.{sym, ◌∙◌, ap, arith, rules}
 use Rattle.std.proofs.lemmas.List.{get_or-set_same, get_or-set_other, length-set, set-set, set-get_or}
-use Rattle.context_tree.specs.Contexts.{no_context, held_by}
-use Rattle.context_tree.specs.Links.{is_below}
-use Rattle.context_tree.specs.Tree.{TreeState, context_at, with_context, held_below, held_from}
-use Rattle.context_tree.specs.declared.context.Context.{Context}
-use Rattle.context_tree.specs.declared.links.ContextId.{ContextId}
-use Rattle.context_tree.specs.declared.links.Link.{Link}
-use Rattle.group_table.specs.Arrays.{OnlyIn}
-use Rattle.group_table.specs.Table.{TableState}
-use Rattle.group_table.specs.Standing.{IsPlaced, KeepsOthers}
+use Rattle.group_table.proofs.Words.{no_context, held_by, is_below, TreeState, context_at, with_context, held_below, held_from, Context, ContextId, Link, OnlyIn, TableState, IsPlaced}
+use Rattle.group_table.specs.Standing.{KeepsOthers}
 use Rattle.std.proofs.lemmas.Bool.Decides.{nat_tests}
 use Rattle.std.proofs.lemmas.Grind.{common_steps}
 

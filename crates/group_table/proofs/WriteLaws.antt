@@ -1,17 +1,9 @@
 -- The state of a group is written over.
 use Rattle.std.specs.Prelude.{◌≡◌, ◌≢◌, refl, ℕ, zero, suc, false, List, [], ◌∷◌, Some, map, slice_get, slice_set, unwrap_or, IsTrue}
 use Rattle.std.proofs.Common.{sym, ◌∙◌, ap, subst, arith, rules}
-use Rattle.chunk_layout.specs.Pieces.{same_place, place_of}
-use Rattle.chunk_layout.specs.declared.place.Place.{Place}
+use Rattle.group_table.proofs.Words.{same_place, place_of, Place, chunks_of, has_chunk, chunk_bytes, with_bytes, TreeState, context_at, with_context, Context, Slab, TableState, key_in, group_in, groups, IsSlot, IsSetWith, IsBump, IsSlabOf, HasSpace, AreGroups, IsTableIn, OnlyIn, Slot}
 use Rattle.chunk_contexts.specs.Chunks.{KeepsOthers as KeepsChunks}
-use Rattle.context_tree.specs.Contexts.{chunks_of, has_chunk, chunk_bytes, with_bytes}
-use Rattle.context_tree.specs.Tree.{TreeState, context_at, with_context}
-use Rattle.context_tree.specs.declared.context.Context.{Context}
-use Rattle.context_tree.specs.declared.context.Context.TheVariants.{Slab}
-use Rattle.group_table.specs.Table.{TableState, key_in, group_in, groups, IsSlot}
-use Rattle.group_table.specs.Standing.{IsSetWith, IsBump, IsSlabOf, HasSpace, AreGroups, IsTableIn, KeepsOthers}
-use Rattle.group_table.specs.Arrays.{OnlyIn}
-use Rattle.group_table.specs.declared.table.Slot.{Slot}
+use Rattle.group_table.specs.Standing.{KeepsOthers}
 use Rattle.group_table.proofs.GroupLaws.{other_states, map_same}
 use Rattle.group_table.proofs.TreeFacts.{at_same, at_other, placed_kept, same_links, same_number, only_its_own}
 use Rattle.std.proofs.lemmas.Bool.Decides.{nat_tests}

@@ -4,28 +4,9 @@ use Rattle.std.specs.declared.result.Result.{Result}
 use Rattle.std.proofs.Common.{sym, ◌∙◌, ap, subst, arith}
 use Rattle.std.proofs.lemmas.List.Sums.{sum_by-cons}
 use Rattle.std.proofs.lemmas.Result.{err_from_is_err_and}
-use Rattle.tape_disks.specs.Disk.{Leaves}
+use Rattle.hash_agg.proofs.Words.{Leaves, Query, Group, functions, Record, Ghosts, ListsState, KeepsRest, Spilled, spill_faults, TapeDamaged, TapeFault, Names, HasNo, state_in, Slot, Entry, packed_keys, is_empty, fits, AreStates, StandsFor, AreWithin, Piece, Of_row, Of_group, AreOnce, AreSafe, GroupsState, IsPiece, IsSameTable, Proceeds, WritesAt, WritesPages, Brings, CanRead, entries_of, standing, setting_of, weight, brings, brought_by, Source, Entries, Are, Added, AddedBy, AddedOne, Adds, HasRoom, IsReady, KeepsLater, KeepsPass, Refused, RefusedBy, enters, query_of, Pass, Plan}
 use Rattle.tape_disks.specs.DiskLaws.{leaves_none}
-use Rattle.grouping_model.specs.Query.{Query}
-use Rattle.grouping_model.specs.Grouping.{Group}
-use Rattle.grouping_model.specs.Parts.{functions}
-use Rattle.spill_tapes.specs.Records.{Record}
-use Rattle.tape_disks.specs.declared.disk.TapeDisk.{Ghosts}
-use Rattle.spill_lists.specs.Standing.{ListsState, KeepsRest, Spilled}
-use Rattle.spill_lists.specs.Errors.{spill_faults}
 use Rattle.spill_lists.specs.declared.error.SpillError.{SpillError}
-use Rattle.spill_lists.specs.declared.error.SpillError.TheVariants.{TapeDamaged, TapeFault}
-use Rattle.group_table.specs.Table.{Names, HasNo, state_in}
-use Rattle.group_table.specs.declared.table.Slot.{Slot}
-use Rattle.group_runs.specs.Runs.{Entry, packed_keys}
-use Rattle.aggregation_cost.specs.Passes.{is_empty}
-use Rattle.aggregation_cost.specs.Space.{fits}
-use Rattle.group_runs.specs.Standing.{AreStates, StandsFor}
-use Rattle.group_runs.specs.Steps.{AreWithin}
-use Rattle.hash_agg.specs.Passes.{Piece, Of_row, Of_group, AreOnce, AreSafe, GroupsState, IsPiece, IsSameTable, Proceeds, WritesAt, WritesPages, Brings, CanRead, entries_of, standing, setting_of, weight, brings, brought_by}
-use Rattle.hash_agg.specs.Added.{Source, Entries, Are, Added, AddedBy, AddedOne, Adds, HasRoom, IsReady, KeepsLater, KeepsPass, Refused, RefusedBy, enters, query_of}
-use Rattle.hash_agg.specs.declared.pass.Pass.{Pass}
-use Rattle.hash_agg.specs.declared.plan.Plan.{Plan}
 use Rattle.hash_agg.proofs.DiskLaws.{left_out, leaves_still}
 use Rattle.hash_agg.proofs.NeedLaws.{first_fits}
 use Rattle.hash_agg.proofs.PassLaws.{IsKept, after}

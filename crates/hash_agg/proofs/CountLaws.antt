@@ -5,27 +5,11 @@ use Rattle.std.proofs.lemmas.List.{length-map, length-append}
 use Rattle.std.proofs.lemmas.List.Sums.{sum_by-cons, sum_by-append}
 use Rattle.std.specs.List.{AllByRecursion}
 use Rattle.std.specs.List.Sorted.{IsStrictlySortedBy}
-use Rattle.grouping_model.specs.Datum.{Row, row_cmp, same_row}
-use Rattle.grouping_model.specs.Rising.{is_among}
-use Rattle.grouping_model.specs.Query.{Query}
-use Rattle.grouping_model.specs.Condition.{is_met}
-use Rattle.grouping_model.specs.Grouping.{Group, column_of, key_of, selected}
-use Rattle.grouping_model.specs.Parts.{keys_of}
+use Rattle.hash_agg.proofs.Words.{Row, row_cmp, same_row, is_among, Query, is_met, Group, column_of, selected, keys_of, packing, Record, LeftList, ListsState, meaning, Plan, Entry, on_end, key_kinds, Brought, Packed, Counted, rows_in, all_rows, IsInput, AllBring, Given, Of_rows, Of_groups, AllGive, row_added, rows_added, group_added, groups_added, Are, source_of, Of_row, Of_group, pieces_added, made_of, piece_key, weight, rows_at, CountUpTo, given_pieces, all_pieces, PassState, setting_of, Holds, CanRead, Reads, total, brings, brought_by, Brings}
+use Rattle.grouping_model.specs.Grouping.{key_of}
 use Rattle.grouping_model.specs.PartLaws.{same_row-swap}
 use Rattle.grouping_model.specs.DatumOrderLaws.{same_row-is}
-use Rattle.packed_rows.specs.Packing.{packing}
-use Rattle.spill_tapes.specs.Records.{Record}
-use Rattle.spill_lists.specs.Lists.{LeftList}
-use Rattle.spill_lists.specs.Standing.{ListsState}
-use Rattle.having_filter.specs.Meaning.{meaning}
-use Rattle.hash_agg.specs.declared.plan.Plan.{Plan}
-use Rattle.group_runs.specs.Runs.{Entry}
-use Rattle.packed_rows.specs.RowsOnEnd.{on_end}
-use Rattle.having_filter.specs.Kept.{key_kinds}
-use Rattle.hash_agg.specs.Inputs.{Brought, Packed, Counted, rows_in, all_rows, IsInput, AllBring, Given, Of_rows, Of_groups, Gives, AllGive}
-use Rattle.group_runs.specs.Adding.{row_added, rows_added, group_added, groups_added}
-use Rattle.hash_agg.specs.Added.{Are, source_of}
-use Rattle.hash_agg.specs.Passes.{Of_row, Of_group, pieces_added, made_of, piece_key, weight, rows_at, CountUpTo, given_pieces, all_pieces, PassState, setting_of, Holds, CanRead, Reads, total, brings, brought_by, Brings}
+use Rattle.hash_agg.specs.Inputs.{Gives}
 use Rattle.group_runs.specs.StandingLaws.{keys_packed, keys_of_kinds}
 use Rattle.group_runs.specs.Lemmas.RunLaws.{run_apart}
 use Rattle.group_runs.specs.Lemmas.MergeLaws.{puts-append}

@@ -4,12 +4,9 @@ use Rattle.std.specs.declared.result.Result.{Result}
 use Rattle.std.proofs.Common.{sym, subst}
 use Rattle.std.proofs.lemmas.Result.{err_from_is_err_and}
 use Rattle.tape_disks.specs.Calls.{failed}
-use Rattle.tape_disks.specs.Disk.{Leaves}
+use Rattle.hash_agg.proofs.Words.{Leaves, Ghosts, spill_faults, NoMemory, TapeFault, TapeDamaged}
 use Rattle.tape_disks.specs.DiskLaws.{leaves_none}
-use Rattle.tape_disks.specs.declared.disk.TapeDisk.{Ghosts}
-use Rattle.spill_lists.specs.Errors.{spill_faults}
 use Rattle.spill_lists.specs.declared.error.SpillError.{SpillError}
-use Rattle.spill_lists.specs.declared.error.SpillError.TheVariants.{NoMemory, TapeFault, TapeDamaged}
 
 module _ {D : Type 0} (g : Ghosts D) where
   -- an error that a `?` hands on

@@ -5,26 +5,14 @@ use Rattle.std.proofs.Common.{sym, ◌∙◌, ap, subst, inl, inr, arith}
 use Rattle.std.proofs.lemmas.Bool.{both_ways, false_from_ne_true}
 use Rattle.std.proofs.lemmas.List.{map-append, length-map, length-append}
 use Rattle.std.proofs.lemmas.List.Sums.{sum_by-cons}
-use Rattle.list_laws.specs.Each.{each_weaker}
-use Rattle.grouping_model.specs.Condition.{is_met}
-use Rattle.grouping_model.specs.Datum.{Row, row_cmp}
-use Rattle.grouping_model.specs.Query.{Query}
-use Rattle.grouping_model.specs.Rising.{distinct}
-use Rattle.grouping_model.specs.Grouping.{Group, column_of, key_of, selected}
-use Rattle.grouping_model.specs.Parts.{keys_of}
+use Rattle.hash_agg.proofs.Words.{each_weaker, is_met, Row, row_cmp, Query, distinct, Group, column_of, selected, keys_of, packing, cost, Key, Setting, Entry, packed_keys, on_end, Brought, Packed, Counted, AllBring, IsAggregate, IsRunOver, rows_in, all_rows, groups_in, all_groups, Given, Of_rows, Of_groups, AllGive, Piece, Of_row, Of_group, records_of, all_pieces}
+use Rattle.grouping_model.specs.Grouping.{key_of}
 use Rattle.grouping_model.specs.DatumOrderLaws.{row_cmp_total, row_cmp_ties}
 use Rattle.grouping_model.specs.MemberLaws.{Member, member_any, member_map, distinct_member}
-use Rattle.packed_rows.specs.Packing.{packing}
-use Rattle.aggregation_cost.specs.Cost.{cost}
 use Rattle.aggregation_cost.specs.Passes as cost
-use Rattle.aggregation_cost.specs.Space.{Key, Setting}
 use Rattle.aggregation_cost.specs.Lemmas.CostLaws.{passes_few}
 use Rattle.aggregation_cost.specs.KeyLaws.{same_key_itself, same_key-is, distinct-apart}
 use Rattle.aggregation_cost.specs.ListLaws.{any-filter, each_both, each_of_filter}
-use Rattle.group_runs.specs.Runs.{Entry, packed_keys}
-use Rattle.packed_rows.specs.RowsOnEnd.{on_end}
-use Rattle.hash_agg.specs.Inputs.{Brought, Packed, Counted, AllBring, IsAggregate, IsRunOver, rows_in, all_rows, groups_in, all_groups, Given, Of_rows, Of_groups, AllGive}
-use Rattle.hash_agg.specs.Passes.{Piece, Of_row, Of_group, records_of, all_pieces}
 use Rattle.group_runs.specs.StandingLaws.{keys_packed, keys_of_kinds, groups_long}
 use Rattle.hash_agg.proofs.SpillLaws.{records_more}
 

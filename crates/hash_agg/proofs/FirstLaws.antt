@@ -4,18 +4,7 @@ use Rattle.std.specs.List.Sorted.{IsPermutation}
 use Rattle.std.proofs.Common.{sym, ap, subst, arith}
 use Rattle.std.proofs.lemmas.List.Sorted.{length_permutation}
 use Rattle.std.proofs.lemmas.List.Sums.{sum_by-cons}
-use Rattle.grouping_model.specs.Query.{Query}
-use Rattle.aggregation_cost.specs.Passes.{EachFits}
-use Rattle.aggregation_cost.specs.Space.{Setting}
-use Rattle.spill_tapes.specs.Records.{Record}
-use Rattle.spill_lists.specs.Lists.{LeftList, lists, left_by}
-use Rattle.spill_lists.specs.Standing.{ListsState, HasLists, count_of, spilled_number, waiting_number, pages_of, written_pages}
-use Rattle.group_runs.specs.Runs.{Entry, Rises}
-use Rattle.hash_agg.specs.Inputs.{Brought, rows_in, all_rows}
-use Rattle.hash_agg.specs.Added.{IsUnderway}
-use Rattle.hash_agg.specs.Passes.{Piece, PassState, Holds, records_of, total}
-use Rattle.hash_agg.specs.Waiting.{Costs, AddsUp, pass_cost}
-use Rattle.hash_agg.specs.declared.work.Work.{Work}
+use Rattle.hash_agg.proofs.Words.{Query, EachFits, Setting, Record, LeftList, lists, left_by, ListsState, HasLists, count_of, spilled_number, waiting_number, pages_of, written_pages, Entry, Rises, Brought, rows_in, all_rows, IsUnderway, Piece, PassState, Holds, records_of, total, Costs, AddsUp, pass_cost, Work}
 use Rattle.hash_agg.proofs.SpillLaws.{nothing_spills}
 use Rattle.hash_agg.proofs.UnionLaws.{nothing_stands, ends}
 use Rattle.hash_agg.proofs.WaitLaws.{waits_first}

@@ -2,21 +2,12 @@
 use Rattle.std.specs.Prelude.{refl, ℕ, ◌≤◌, true, false, cond, List, [], ◌∷◌, map, length}
 use Rattle.std.specs.List.{AllByRecursion}
 use Rattle.std.proofs.lemmas.List.Elements.{All-from_recursion}
-use Rattle.list_laws.specs.Each.{each_append, each_weaker}
-use Rattle.grouping_model.specs.Condition.{is_met}
-use Rattle.grouping_model.specs.Datum.{Row, HasKinds}
-use Rattle.grouping_model.specs.Query.{Query}
-use Rattle.grouping_model.specs.Grouping.{Group, column_of, key_of}
-use Rattle.packed_rows.specs.Packing.{packing}
+use Rattle.hash_agg.proofs.Words.{each_append, each_weaker, is_met, Row, HasKinds, Query, Group, column_of, packing, Setting, IsWellFormed, key_kinds, Entry, AreGroups, Brought, Packed, Counted, Given, Of_rows, Of_groups, AllGive, Piece, Of_row, Of_group, piece_key, cost_records, records_of, given_pieces, all_pieces}
+use Rattle.grouping_model.specs.Grouping.{key_of}
 use Rattle.aggregation_cost.specs.Passes as cost
-use Rattle.aggregation_cost.specs.Space.{Setting}
 use Rattle.aggregation_cost.specs.Lemmas.CostLaws.{each_fits}
 use Rattle.aggregation_cost.specs.ListLaws.{each_of_flat_map}
-use Rattle.having_filter.specs.Kept.{IsWellFormed, key_kinds}
-use Rattle.group_runs.specs.Runs.{Entry}
-use Rattle.group_runs.specs.Standing.{AreGroups}
-use Rattle.hash_agg.specs.Inputs.{Brought, Packed, Counted, Given, Of_rows, Of_groups, Gives, AllGive}
-use Rattle.hash_agg.specs.Passes.{Piece, Of_row, Of_group, piece_key, cost_records, records_of, given_pieces, all_pieces}
+use Rattle.hash_agg.specs.Inputs.{Gives}
 use Rattle.hash_agg.specs.Lemmas.KeyLaws.{key_has}
 use Rattle.hash_agg.proofs.StepLaws.{key_brief}
 

@@ -7,24 +7,11 @@ use Rattle.std.specs.declared.cmp.Ordering.TheVariants.{Less, Equal, Greater}
 use Rattle.std.specs.Ordering.{match_ordering}
 use Rattle.std.specs.List.{AllByRecursion}
 use Rattle.std.specs.List.Sorted.{IsStrictlySortedBy}
-use Rattle.list_laws.specs.Each.{each_append}
-use Rattle.grouping_model.specs.Datum.{Row, HasKinds, row_cmp}
-use Rattle.grouping_model.specs.Rising.{put, distinct, is_among}
+use Rattle.hash_agg.proofs.Words.{each_append, Row, HasKinds, row_cmp, put, distinct, is_among, is_met, Query, Group, part, selected, column_of, keys_of, packing, key_kinds, Entry, packed_keys, Rises, AreGroups, IsRun, on_end, Brought, Packed, Counted, rows_in, all_rows, AreInputsOf, AllBring, IsAggregate, IsRunOver, groups_added, AddsRun}
 use Rattle.grouping_model.specs.Rising.Facts.{distinct-rises, among-distinct, among-append, same_members}
-use Rattle.grouping_model.specs.Condition.{is_met}
-use Rattle.grouping_model.specs.Query.{Query}
-use Rattle.grouping_model.specs.Grouping.{Group, part, key_of, selected, column_of}
-use Rattle.grouping_model.specs.Parts.{keys_of}
+use Rattle.grouping_model.specs.Grouping.{key_of}
 use Rattle.grouping_model.specs.DatumOrderLaws.{row_cmp_total, row_cmp_ties}
-use Rattle.packed_rows.specs.Packing.{packing}
 use Rattle.agg_protocol.specs.States.{most_rows}
-use Rattle.having_filter.specs.Kept.{key_kinds}
-use Rattle.group_runs.specs.Runs.{Entry, packed_keys, Rises}
-use Rattle.group_runs.specs.Standing.{AreGroups, IsRun}
-use Rattle.packed_rows.specs.RowsOnEnd.{on_end}
-use Rattle.hash_agg.specs.Inputs.{Brought, Packed, Counted, rows_in, all_rows, AreInputsOf, AllBring, IsAggregate, IsRunOver}
-use Rattle.group_runs.specs.Adding.{groups_added}
-use Rattle.group_runs.specs.Steps.{AddsRun}
 use Rattle.hash_agg.specs.Lemmas.KeyLaws.{key_has}
 use Rattle.group_runs.specs.MergeLaws.{puts, puts_rise, keys_of-groups_added}
 use Rattle.group_runs.specs.Lemmas.MergeLaws.{puts_long, among-puts, groups_added_part}

@@ -2,9 +2,7 @@
 use Rattle.std.specs.Prelude.{◌≡◌, refl, ℕ, zero, suc, List, [], ◌∷◌, map, Some, slice_get}
 use Rattle.std.proofs.Common.{sym, ◌∙◌, ap}
 use Rattle.std.specs.List.{AllByRecursion}
-use Rattle.grouping_model.specs.Datum.{Row, Kind, HasKinds}
-use Rattle.packed_rows.specs.Packing.{packing}
-use Rattle.hash_agg.specs.Inputs.{ArePackings}
+use Rattle.hash_agg.proofs.Words.{Row, Kind, HasKinds, packing, ArePackings}
 
 -- the row at a place, and its packing
 pub record RowAt (kinds : List Kind) (rows : List Row) (i : ℕ) (bytes : List ℕ) : Type 0 where

@@ -4,9 +4,7 @@ use Rattle.std.proofs.Common.{sym, ◌∙◌, ap, arith}
 use Rattle.std.proofs.lemmas.List.{get_or-map, map-append, append-nil, take_more}
 use Rattle.std.proofs.lemmas.List.Concat.{flat_map-append}
 use Rattle.std.specs.List.{AllByRecursion}
-use Rattle.grouping_model.specs.Datum.{Datum, Null, Row, Kind, HasKinds, at_place}
-use Rattle.packed_rows.specs.Packing.{packing, value_packing}
-use Rattle.packed_rows.specs.View.{datum_of, row_of}
+use Rattle.hash_agg.proofs.Words.{Datum, Null, Row, Kind, HasKinds, at_place, packing, value_packing, datum_of, row_of}
 use Rattle.packed_rows.specs.declared.value.Value.{Value}
 use Rattle.agg_protocol.specs.ArgumentLaws.{length-row_of}
 

@@ -2,23 +2,7 @@
 use Rattle.std.specs.Prelude.{◌≡◌, refl, ℕ, ◌+◌, ◌≤◌, List, [], ◌∷◌, ◌++◌, length, IsTrue}
 use Rattle.std.proofs.Common.{sym, ◌∙◌, ap, subst, arith}
 use Rattle.std.specs.List.Sorted.{IsPermutation}
-use Rattle.grouping_model.specs.Query.{Query}
-use Rattle.aggregation_cost.specs.Cost.{Cost, both}
-use Rattle.aggregation_cost.specs.Space.{Setting}
-use Rattle.having_filter.specs.Kept.{IsWellFormed}
-use Rattle.spill_tapes.specs.Records.{Record}
-use Rattle.spill_lists.specs.Lists.{LeftList, lists, left_by}
-use Rattle.spill_lists.specs.Standing.{ListsState, HasLists, BeginsLast, AreOn, pages_of, written_pages}
-use Rattle.having_filter.specs.Meaning.{meaning}
-use Rattle.hash_agg.specs.declared.plan.Plan.{Plan}
-use Rattle.group_runs.specs.Runs.{Entry, Rises}
-use Rattle.tape_disks.specs.declared.disk.TapeDisk.{Ghosts}
-use Rattle.hash_agg.specs.Added.{CountsWithin, IsDone, IsSafeRun, IsUnderway, MadeFirst, MadeLater, query_of, setting_in}
-use Rattle.hash_agg.specs.Inputs.{Brought, Given, AllGive}
-use Rattle.hash_agg.specs.declared.pass.Pass.{Pass}
-use Rattle.hash_agg.specs.Passes.{Piece, AreOnce, CountUpTo, Stands, setting_of, ReadsList, CanReadList, all_pieces, brought_by}
-use Rattle.hash_agg.specs.Waiting.{Waits, Costs, AddsUp, pass_cost}
-use Rattle.hash_agg.specs.declared.work.Work.{Work}
+use Rattle.hash_agg.proofs.Words.{Query, Cost, both, Setting, IsWellFormed, Record, LeftList, lists, left_by, ListsState, HasLists, BeginsLast, AreOn, pages_of, written_pages, meaning, Plan, Entry, Rises, Ghosts, CountsWithin, IsDone, IsSafeRun, IsUnderway, MadeFirst, MadeLater, query_of, setting_in, Brought, Given, AllGive, Pass, Piece, AreOnce, CountUpTo, Stands, setting_of, ReadsList, CanReadList, all_pieces, brought_by, Waits, Costs, AddsUp, pass_cost, Work}
 use Rattle.hash_agg.proofs.SortLaws.{rises_once}
 use Rattle.hash_agg.proofs.UnionLaws.{ends}
 use Rattle.hash_agg.proofs.WaitLaws.{waits_next, waits_end}

@@ -1,3 +1,4 @@
+pub mod Words
 pub mod OneByOneLaws
 pub mod TableLaws
 pub mod PassLaws

@@ -4,17 +4,11 @@ use Rattle.std.specs.declared.result.Result.{Result}
 use Rattle.std.proofs.Common.{sym, ◌∙◌, ap, subst, arith}
 use Rattle.std.proofs.lemmas.Bool.Decides.{nat_tests}
 use Rattle.std.proofs.lemmas.List.{map-append}
-use Rattle.aggregation_cost.specs.Cost.{greatest}
-use Rattle.aggregation_cost.specs.Space.{Key, Setting, need, fits, fronts}
+use Rattle.hash_agg.proofs.Words.{greatest, Key, Setting, need, fits, fronts, low_hash, TableState, IsSlot, IsSameBut, key_in, state_in, group_in, groups, Slot, Entry, packed_keys, GroupsState, AreHeld}
 use Rattle.aggregation_cost.specs.Lemmas.CostLaws.{one_fits}
 use Rattle.context_tree.specs.Tree.{TreeState}
-use Rattle.key_hashes.specs.SipHashes.{low_hash}
 use Rattle.group_table.specs.Space.{HoldsKeys, key_of, keys_in}
 use Rattle.group_table.specs.Standing.{IsTableIn}
-use Rattle.group_table.specs.Table.{TableState, IsSlot, IsSameBut, key_in, state_in, group_in, groups}
-use Rattle.group_table.specs.declared.table.Slot.{Slot}
-use Rattle.group_runs.specs.Runs.{Entry, packed_keys}
-use Rattle.hash_agg.specs.Passes.{GroupsState, AreHeld}
 use Rattle.hash_agg.proofs.TableLaws.{get_mapped}
 
 -- one key more has one front more

@@ -1,10 +1,7 @@
 -- Lists whose items belong to each other, one by one.
 use Rattle.std.specs.Prelude.{◌≡◌, refl, suc, Bool, true, false, cond, List, [], ◌∷◌, ◌++◌, filter, length}
 use Rattle.std.proofs.Common.{sym, ap, subst}
-use Rattle.aggregation_cost.specs.Passes.{is_empty}
-use Rattle.spill_tapes.specs.Records.{Record}
-use Rattle.spill_lists.specs.Lists.{is_none}
-use Rattle.hash_agg.specs.Inputs.{OneByOne}
+use Rattle.hash_agg.proofs.Words.{is_empty, Record, is_none, OneByOne}
 
 -- the last of some, and the one that belongs to it
 pub record LastOf {X Y : Type 0} (P : X → Y → Type 0) (xs : List X) (x : X) (all : List Y) : Type 0 where

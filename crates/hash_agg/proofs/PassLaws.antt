@@ -7,23 +7,11 @@ use Rattle.std.specs.Ordering.{match_ordering, is_eq}
 use Rattle.std.specs.Option.{option_or}
 use Rattle.std.specs.Cmp.{tied_itself}
 use Rattle.std.specs.BTreeMap.{insert_entry}
-use Rattle.grouping_model.specs.Datum.{Row, HasKinds, row_cmp, same_row}
-use Rattle.grouping_model.specs.Rising.{is_among}
-use Rattle.grouping_model.specs.Aggregates.{Partial}
-use Rattle.grouping_model.specs.Condition.{is_met}
-use Rattle.grouping_model.specs.Query.{Query}
-use Rattle.grouping_model.specs.Grouping.{Group, column_of, key_of, partials}
-use Rattle.grouping_model.specs.Parts.{functions, keys_of, partials_at, advanced, with_row}
+use Rattle.hash_agg.proofs.Words.{Row, HasKinds, row_cmp, same_row, is_among, Partial, is_met, Query, Group, column_of, partials, functions, keys_of, partials_at, advanced, with_row, packing, key_kinds, Record, Entry, AreStates, StandsFor, AreGroups, merged, Piece, Of_row, Of_group, IsPiece, ArePieces, piece_key, piece_added, pieces_added, made_of, weight, rows_at, AreOnce, IsParted, AreGroupsBy, Stands}
+use Rattle.grouping_model.specs.Grouping.{key_of}
 use Rattle.grouping_model.specs.DatumOrderLaws.{row_cmp_total, same_row-is}
 use Rattle.grouping_model.specs.PartLaws.{same_row-swap}
 use Rattle.grouping_model.specs.MemberLaws.{false_is_not_true}
-use Rattle.packed_rows.specs.Packing.{packing}
-use Rattle.having_filter.specs.Kept.{key_kinds}
-use Rattle.spill_tapes.specs.Records.{Record}
-use Rattle.group_runs.specs.Runs.{Entry}
-use Rattle.group_runs.specs.Standing.{AreStates, StandsFor, AreGroups}
-use Rattle.group_runs.specs.Adding.{merged}
-use Rattle.hash_agg.specs.Passes.{Piece, Of_row, Of_group, IsPiece, ArePieces, piece_key, piece_added, pieces_added, made_of, weight, rows_at, AreOnce, IsParted, AreGroupsBy, Stands}
 use Rattle.group_runs.specs.MergeLaws.{AreApart, apart_from}
 use Rattle.group_runs.specs.Lemmas.MergeLaws.{found_among, found_others}
 use Rattle.group_runs.specs.Lemmas.RunLaws.{packed_once}

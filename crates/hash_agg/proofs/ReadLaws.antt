@@ -1,15 +1,8 @@
 -- A list that a pass reads, record by record.
 use Rattle.std.specs.Prelude.{◌≡◌, refl, ℕ, ◌+◌, ◌<◌, ◌⊎◌, List, [], ◌∷◌, ◌++◌, Some, None}
 use Rattle.std.proofs.Common.{sym, ◌∙◌, ap, subst, arith, append-nil, append_assoc, inl, inr}
-use Rattle.grouping_model.specs.Query.{Query}
-use Rattle.spill_tapes.specs.Records.{Record}
+use Rattle.hash_agg.proofs.Words.{Query, Record, LeftList, ListsState, HasLists, count_of, spilled_number, ahead_number, meaning, Plan, Entry, Piece, ArePieces, CountUpTo, Stands, Spills, setting_of, PassState, Holds, CanRead, Reads, Proceeds}
 use Rattle.spill_tapes.specs.Tape.{Gives}
-use Rattle.spill_lists.specs.Lists.{LeftList}
-use Rattle.spill_lists.specs.Standing.{ListsState, HasLists, count_of, spilled_number, ahead_number}
-use Rattle.having_filter.specs.Meaning.{meaning}
-use Rattle.hash_agg.specs.declared.plan.Plan.{Plan}
-use Rattle.group_runs.specs.Runs.{Entry}
-use Rattle.hash_agg.specs.Passes.{Piece, ArePieces, CountUpTo, Stands, Spills, setting_of, PassState, Holds, CanRead, Reads, Proceeds}
 use Rattle.hash_agg.proofs.PassLaws.{rows_append}
 use Rattle.hash_agg.proofs.SpillLaws.{nothing_spills}
 use Rattle.hash_agg.proofs.UnionLaws.{nothing_stands}

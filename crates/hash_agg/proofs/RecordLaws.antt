@@ -1,16 +1,7 @@
 -- Records on tapes, and rows that are passed over.
 use Rattle.std.specs.Prelude.{◌≡◌, refl, ℕ, ◌≤◌, false, List, [], ◌∷◌, ◌++◌, length}
 use Rattle.std.proofs.Common.{sym, ap, subst, arith}
-use Rattle.grouping_model.specs.Datum.{Row, HasKinds}
-use Rattle.grouping_model.specs.Condition.{is_met}
-use Rattle.grouping_model.specs.Query.{Query}
-use Rattle.grouping_model.specs.Grouping.{Group, column_of}
-use Rattle.packed_rows.specs.Packing.{packing}
-use Rattle.having_filter.specs.Kept.{IsWellFormed}
-use Rattle.having_filter.specs.Meaning.{meaning}
-use Rattle.hash_agg.specs.declared.plan.Plan.{Plan}
-use Rattle.group_runs.specs.Standing.{StandsFor}
-use Rattle.hash_agg.specs.Passes.{Piece, Of_row, Of_group, group_record, IsRowRecord, IsGroupRecord, ArePieces, made_of, CountUpTo, Stands, Spills, setting_of, PassState, CanRead, Reads, AreRows, AreOfRun}
+use Rattle.hash_agg.proofs.Words.{Row, HasKinds, is_met, Query, Group, column_of, packing, IsWellFormed, meaning, Plan, StandsFor, Piece, Of_row, Of_group, group_record, IsRowRecord, IsGroupRecord, ArePieces, made_of, CountUpTo, Stands, Spills, setting_of, PassState, CanRead, Reads, AreRows, AreOfRun}
 use Rattle.group_runs.specs.Lemmas.RunLaws.{packed_once}
 use Rattle.hash_agg.proofs.PassLaws.{reads_over}
 use Rattle.hash_agg.proofs.SpillLaws.{spills_over}

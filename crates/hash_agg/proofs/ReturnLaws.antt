@@ -3,14 +3,9 @@ use Rattle.std.specs.Prelude.{◌≡◌, refl, ℕ, ◌+◌, ◌≤◌, true, fa
 use Rattle.std.specs.Result.{IsErr}
 use Rattle.std.specs.declared.result.Result.{Result}
 use Rattle.std.proofs.Common.{sym, ◌∙◌, ap, subst, arith}
-use Rattle.group_table.specs.Table.{TableState}
+use Rattle.hash_agg.proofs.Words.{TableState, Entry, IsRun, Query, ListsState, KeepsRest, spilled_number, GroupsState, entries_of, IsSameTable, Proceeds}
 use Rattle.key_hashes.specs.declared.sip_hash.SipHash.{SipHash}
-use Rattle.group_runs.specs.Runs.{Entry}
-use Rattle.group_runs.specs.Standing.{IsRun}
 use Rattle.group_runs.specs.StandingLaws.{groups_raised}
-use Rattle.grouping_model.specs.Query.{Query}
-use Rattle.spill_lists.specs.Standing.{ListsState, KeepsRest, spilled_number}
-use Rattle.hash_agg.specs.Passes.{GroupsState, entries_of, IsSameTable, Proceeds}
 use Rattle.hash_agg.proofs.StepLaws.{as_many}
 
 -- an error has nothing to say of a success; and what holds anyhow holds of a success

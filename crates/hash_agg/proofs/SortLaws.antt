@@ -15,9 +15,8 @@ use Rattle.std.specs.List.{All, AllByRecursion, IsDistinct}
 use Rattle.std.specs.List.Sorted.{IsPermutation, IsSorted}
 use Rattle.grouping_model.specs.MemberLaws.{false_is_not_true}
 use Rattle.packed_rows.specs.PackingOrderLaws.{less, tied}
-use Rattle.group_runs.specs.Runs.{Entry, packed_keys, Rises}
+use Rattle.hash_agg.proofs.Words.{Entry, packed_keys, Rises, AreOnce, Led, IsLed, pairs}
 use Rattle.group_runs.specs.Places.{AllBelow}
-use Rattle.hash_agg.specs.Passes.{AreOnce, Led, IsLed, pairs}
 use Rattle.group_runs.specs.PlaceLaws.{key_total, take_found, smaller_first}
 use Rattle.group_runs.specs.Lemmas.PlaceLaws.{below_to, rises_between}
 use Rattle.hash_agg.proofs.TableLaws.{HasNoKey}

@@ -5,20 +5,11 @@ use Rattle.std.proofs.lemmas.List.Concat.{flat_map-append}
 use Rattle.std.proofs.lemmas.Bool.{or_right}
 use Rattle.std.specs.Int.{w16, to_be_bytes}
 use Rattle.std.proofs.lemmas.List.{map-append, length-append}
-use Rattle.grouping_model.specs.Datum.{Row}
-use Rattle.grouping_model.specs.Condition.{is_met}
-use Rattle.grouping_model.specs.Query.{Query}
-use Rattle.grouping_model.specs.Grouping.{column_of, key_of}
-use Rattle.packed_rows.specs.Packing.{packing}
+use Rattle.hash_agg.proofs.Words.{Row, is_met, Query, column_of, packing, Key, Setting, fits, Record, OnTape, Entry, packed_keys, states_width, Piece, Of_row, Of_group, IsPiece, piece_key, cost_records, records_of, IsCosted, AreCosted, Spills}
+use Rattle.grouping_model.specs.Grouping.{key_of}
 use Rattle.aggregation_cost.specs.Passes as cost
-use Rattle.aggregation_cost.specs.Space.{Key, Setting, fits}
 use Rattle.aggregation_cost.specs.KeyLaws.{same_key_itself, same_key-is}
 use Rattle.aggregation_cost.specs.Lemmas.Steps.{taken_from-push, spilled_from-push}
-use Rattle.spill_tapes.specs.Records.{Record}
-use Rattle.spill_lists.specs.declared.lists.OnTape.{OnTape}
-use Rattle.group_runs.specs.Runs.{Entry, packed_keys}
-use Rattle.group_runs.specs.Standing.{states_width}
-use Rattle.hash_agg.specs.Passes.{Piece, Of_row, Of_group, IsPiece, piece_key, cost_records, records_of, IsCosted, AreCosted, Spills}
 use Rattle.hash_agg.proofs.PassLaws.{IsKept}
 use Rattle.group_runs.specs.StandingLaws.{states_long}
 use Rattle.hash_agg.proofs.TableLaws.{HasNoKey}

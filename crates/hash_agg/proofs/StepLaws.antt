@@ -8,32 +8,10 @@ use Rattle.std.proofs.lemmas.Nat.{from_be_bytes-to_be_bytes_2}
 use Rattle.std.proofs.Math.Seq.{take-append_seam, drop-append_seam}
 use Rattle.std.proofs.lemmas.List.{length-map, length-append, take-append-drop, take_all}
 use Rattle.std.proofs.lemmas.List.Sums.{sum_by-append}
-use Rattle.grouping_model.specs.Datum.{Row, Kind, HasKinds, Datum, Null, Bigint, Boolean, Text, Bigint_kind, Boolean_kind, Text_kind}
-use Rattle.grouping_model.specs.Aggregates.{Function, Partial}
-use Rattle.grouping_model.specs.Condition.{is_met}
-use Rattle.grouping_model.specs.Query.{Query}
-use Rattle.grouping_model.specs.Grouping.{Group, column_of}
-use Rattle.grouping_model.specs.Parts.{functions, with_row}
+use Rattle.hash_agg.proofs.Words.{Row, Kind, HasKinds, Datum, Null, Bigint, Boolean, Text, Bigint_kind, Boolean_kind, Text_kind, Function, Partial, is_met, Query, Group, column_of, functions, with_row, packing, value_packing, is_empty, fits, Record, LeftList, ListsState, HasLists, AreSpilled, OnTape, TableState, Names, HasNo, state_in, group_in, Slot, key_kinds, IsWellFormed, meaning, Plan, Entry, packed_keys, AreStates, StandsFor, states_width, AreWithin, AreAdvanced, AreCombined, Piece, Of_row, Of_group, group_record, IsGroupRecord, IsPiece, piece_key, piece_added, weight, rows_at, CountUpTo, AreOnce, AreGroupsBy, GroupsState, entries_of, WritesAt, Stands, Spills, AreSafe, PassState, standing, setting_of, Holds, CanRead, Reads, AreRows, AreOfRun, total, brings, brought_by, Brings, Proceeds, IsSelected}
 use Rattle.packed_rows.specs.Columns.{Column, kinds, AreColumns}
-use Rattle.packed_rows.specs.Packing.{packing, value_packing}
-use Rattle.aggregation_cost.specs.Passes.{is_empty}
-use Rattle.aggregation_cost.specs.Space.{fits}
-use Rattle.spill_tapes.specs.Records.{Record}
 use Rattle.spill_tapes.specs.Tapes.{TapesState}
-use Rattle.spill_lists.specs.Lists.{LeftList}
-use Rattle.spill_lists.specs.Standing.{ListsState, HasLists, AreSpilled}
-use Rattle.spill_lists.specs.declared.lists.OnTape.{OnTape}
-use Rattle.group_table.specs.Table.{TableState, Names, HasNo, state_in, group_in}
 use Rattle.key_hashes.specs.declared.sip_hash.SipHash.{SipHash}
-use Rattle.group_table.specs.declared.table.Slot.{Slot}
-use Rattle.having_filter.specs.Kept.{key_kinds, IsWellFormed}
-use Rattle.having_filter.specs.Meaning.{meaning}
-use Rattle.hash_agg.specs.declared.plan.Plan.{Plan}
-use Rattle.group_runs.specs.Runs.{Entry, packed_keys}
-use Rattle.group_runs.specs.Standing.{AreStates, StandsFor, states_width}
-use Rattle.group_runs.specs.Steps.{AreWithin, AreAdvanced, AreCombined}
-use Rattle.hash_agg.specs.Passes.{Piece, Of_row, Of_group, group_record, IsGroupRecord, IsPiece, piece_key, piece_added, weight, rows_at, CountUpTo, AreOnce, AreGroupsBy, GroupsState, entries_of, WritesAt, Stands, Spills, AreSafe, PassState, standing, setting_of, Holds, CanRead, Reads, AreRows, AreOfRun, total, brings, brought_by, Brings, Proceeds}
-use Rattle.hash_agg.specs.Added.{IsSelected}
 use Rattle.hash_agg.specs.Lemmas.KeyLaws.{key_has}
 use Rattle.hash_agg.proofs.NeedLaws.{keys_set}
 use Rattle.hash_agg.proofs.SpillLaws.{among_entries, none_of, spills_there, spills_new, spills_left}

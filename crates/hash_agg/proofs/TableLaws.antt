@@ -4,10 +4,7 @@ use Rattle.std.proofs.Common.{sym, ◌∙◌, ap, arith}
 use Rattle.context_tree.specs.Contexts.{held_by}
 use Rattle.context_tree.specs.Tree.{TreeState, context_at, held_below}
 use Rattle.group_table.specs.Standing.{IsTableIn}
-use Rattle.group_table.specs.Table.{TableState, IsSameBut, held_in, HasNo, key_in, state_in, group_in, groups}
-use Rattle.group_table.specs.declared.table.Slot.{Slot}
-use Rattle.group_runs.specs.Runs.{Entry}
-use Rattle.hash_agg.specs.Passes.{GroupsState, entries_of, AreOnce}
+use Rattle.hash_agg.proofs.Words.{TableState, IsSameBut, held_in, HasNo, key_in, state_in, group_in, groups, Slot, Entry, GroupsState, entries_of, AreOnce}
 
 -- no entry has this key
 abbrev pub HasNoKey : List Entry → List ℕ → Type 0

@@ -5,21 +5,11 @@ use Rattle.std.proofs.lemmas.List.Sorted.{Contains-permutation, IsPermutation-sy
 use Rattle.std.proofs.lemmas.Grind.{flat_map-append}
 use Rattle.std.specs.List.{swap}
 use Rattle.std.specs.List.Sorted.{IsPermutation, IsStrictlySortedBy, SwapsInRange, apply_swaps}
-use Rattle.grouping_model.specs.Datum.{Row, row_cmp, same_row}
-use Rattle.grouping_model.specs.Rising.{is_among}
+use Rattle.hash_agg.proofs.Words.{Row, row_cmp, same_row, is_among, Partial, Query, Group, keys_of, partials_at, Record, Entry, Rises, StandsFor, AreGroups, IsRun, on_end, Piece, IsPiece, made_of, rows_at, CountUpTo, AreOnce, AreGroupsBy, AreSafe, Stands}
 use Rattle.grouping_model.specs.Rising.Facts.{same_members}
-use Rattle.grouping_model.specs.Aggregates.{Partial}
-use Rattle.grouping_model.specs.Query.{Query}
-use Rattle.grouping_model.specs.Grouping.{Group}
-use Rattle.grouping_model.specs.Parts.{keys_of, partials_at}
 use Rattle.grouping_model.specs.DatumOrderLaws.{row_cmp_total, row_cmp_ties, same_row-is}
 use Rattle.grouping_model.specs.MemberLaws.{Member, from_contains, to_contains}
 use Rattle.grouping_model.specs.PartLaws.{same_row-swap}
-use Rattle.spill_tapes.specs.Records.{Record}
-use Rattle.group_runs.specs.Runs.{Entry, Rises}
-use Rattle.group_runs.specs.Standing.{StandsFor, AreGroups, IsRun}
-use Rattle.packed_rows.specs.RowsOnEnd.{on_end}
-use Rattle.hash_agg.specs.Passes.{Piece, IsPiece, made_of, rows_at, CountUpTo, AreOnce, AreGroupsBy, AreSafe, Stands}
 use Rattle.hash_agg.specs.Lemmas.FoldLaws.{run_keys_rise}
 use Rattle.group_runs.specs.MergeLaws.{AreApart, apart_from, rising_apart}
 use Rattle.hash_agg.proofs.PassLaws.{at_cons, missing, by_uniform, by_append, by_set, once_apart, same_itself}

@@ -5,29 +5,15 @@ use Rattle.std.specs.Option.{option_or}
 use Rattle.std.proofs.Common.{sym, ◌∙◌, ap, subst, inl, inr, arith}
 use Rattle.std.proofs.lemmas.List.{map-append}
 use Rattle.std.proofs.lemmas.List.Filters.{sum_by-filter_both}
-use Rattle.list_laws.specs.Each.{each_append, each_front, each_behind, each_weaker}
-use Rattle.grouping_model.specs.Datum.{Row, same_row}
-use Rattle.grouping_model.specs.Aggregates.{Partial}
-use Rattle.grouping_model.specs.Condition.{is_met}
-use Rattle.grouping_model.specs.Query.{Query}
-use Rattle.grouping_model.specs.Grouping.{Group, column_of}
-use Rattle.grouping_model.specs.Parts.{partials_at, with_row}
+use Rattle.hash_agg.proofs.Words.{each_append, each_front, each_behind, each_weaker, Row, same_row, Partial, is_met, Query, Group, column_of, partials_at, with_row, packing, is_empty, Record, LeftList, list_of, on_list, deeper, is_none, lists, left_by, Entry, Piece, Of_row, Of_group, IsPiece, ArePieces, piece_key, piece_added, pieces_added, made_of, weight, rows_at, CountUpTo, AreOnce, Stands, AreListed, AreNone, IsOneOf, each_at, Waits, key_kinds}
 use Rattle.grouping_model.specs.DatumOrderLaws.{same_row-is}
-use Rattle.packed_rows.specs.Packing.{packing}
 use Rattle.aggregation_cost.specs.ListLaws.{each_of_filter}
-use Rattle.aggregation_cost.specs.Passes.{is_empty}
-use Rattle.spill_tapes.specs.Records.{Record}
 use Rattle.spill_lists.specs.Lemmas.CountLaws.{is_not, is_it, is_past}
-use Rattle.spill_lists.specs.Lists.{LeftList, list_of, on_list, deeper, is_none, lists, left_by}
-use Rattle.group_runs.specs.Runs.{Entry}
-use Rattle.hash_agg.specs.Passes.{Piece, Of_row, Of_group, IsPiece, ArePieces, piece_key, piece_added, pieces_added, made_of, weight, rows_at, CountUpTo, AreOnce, Stands}
-use Rattle.hash_agg.specs.Waiting.{AreListed, AreNone, IsOneOf, each_at, Waits}
 use Rattle.hash_agg.proofs.PassLaws.{after, added_with, IsKept, or_none, at_append, set_with, found_in, by_append, by_raised, by_at, once_apart}
 use Rattle.hash_agg.proofs.OneByOneLaws.{one_append, none_to_none, one_filtered, LastOf, last_of, as_none}
 use Rattle.hash_agg.proofs.SpillLaws.{piece_hash}
 use Rattle.hash_agg.proofs.UnionLaws.{once_append}
 use Rattle.group_runs.specs.Lemmas.RunLaws.{packed_once}
-use Rattle.having_filter.specs.Kept.{key_kinds}
 
 -- ---- one of some
 

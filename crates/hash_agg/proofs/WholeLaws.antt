@@ -3,18 +3,8 @@ use Rattle.std.specs.Prelude.{◌≡◌, refl, ℕ, zero, suc, ◌<◌, ◌≤�
 use Rattle.std.proofs.Common.{sym, ◌∙◌, ap, subst, arith, append-nil, append_assoc}
 use Rattle.std.proofs.lemmas.List.{length-map, get_or-map}
 use Rattle.std.specs.List.{AllByRecursion}
-use Rattle.grouping_model.specs.Datum.{Row, Kind, HasKinds, row_cmp}
-use Rattle.grouping_model.specs.Rising.{distinct}
-use Rattle.grouping_model.specs.Query.{Query}
-use Rattle.grouping_model.specs.Grouping.{Group, part}
-use Rattle.grouping_model.specs.Parts.{keys_of}
-use Rattle.packed_rows.specs.Packing.{packing}
-use Rattle.hash_agg.specs.declared.input.Input.{Input}
-use Rattle.group_runs.specs.Runs.{Entry, packed_keys}
-use Rattle.group_runs.specs.Standing.{AreGroups}
-use Rattle.packed_rows.specs.RowsOnEnd.{on_end}
-use Rattle.hash_agg.specs.Inputs.{Brought, Packed, Counted, brought, IsInput, AreInputsOf, Given, Of_rows, Of_groups, Gives, AllGive}
-use Rattle.group_runs.specs.Adding.{rows_added, groups_added}
+use Rattle.hash_agg.proofs.Words.{Row, Kind, HasKinds, row_cmp, distinct, Query, Group, part, keys_of, packing, Input, Entry, packed_keys, AreGroups, on_end, Brought, Packed, Counted, brought, IsInput, AreInputsOf, Given, Of_rows, Of_groups, AllGive, rows_added, groups_added}
+use Rattle.hash_agg.specs.Inputs.{Gives}
 use Rattle.group_runs.specs.MergeLaws.{puts}
 use Rattle.group_runs.specs.Lemmas.MergeLaws.{rows_added_part, groups_added_part, puts_all, distinct_few}
 use Rattle.group_runs.specs.StandingLaws.{keys_packed}

@@ -8,24 +8,10 @@ use Rattle.std.proofs.lemmas.List.{length-append}
 use Rattle.std.proofs.lemmas.Nat.{mul-le}
 use Rattle.std.proofs.lemmas.List.Sums.{sum_by-cons}
 use Rattle.std.proofs.lemmas.List.Sorted.{IsPermutation-append_comm}
-use Rattle.list_laws.specs.Each.{each_append, each_front, each_behind}
-use Rattle.grouping_model.specs.Query.{Query}
-use Rattle.grouping_model.specs.Datum.{Row}
-use Rattle.packed_rows.specs.Packing.{packing}
+use Rattle.hash_agg.proofs.Words.{each_append, each_front, each_behind, Query, Row, packing, Cost, greatest, pages_by, needs_by, cost_of, both, cost_from, Setting, need, fronts, Record, header_of, record_bytes, tape_bytes, LeftList, list_of, on_list, deeper, is_none, lists, left_by, list_pages, pages_of, OnTape, IsWellFormed, Entry, packed_keys, Piece, Of_row, Of_group, IsPiece, ArePieces, cost_records, records_of, IsCosted, AreCosted, Spills, capped, IsLeft, AreLeft, Costs, AddsUp, pass_cost, IsWork, Work}
 use Rattle.aggregation_cost.specs.Passes as cost
 use Rattle.aggregation_cost.specs.Cost as costs
-use Rattle.aggregation_cost.specs.Cost.{Cost, greatest, pages_by, needs_by, cost_of, both, cost_from}
-use Rattle.aggregation_cost.specs.Space.{Setting, need, fronts}
 use Rattle.aggregation_cost.specs.Lemmas.WorkLaws.{cost_of_next, cost_reordered, fits_further_down}
-use Rattle.spill_tapes.specs.Records.{Record, header_of, record_bytes, tape_bytes}
-use Rattle.spill_lists.specs.Lists.{LeftList, list_of, on_list, deeper, is_none, lists, left_by}
-use Rattle.spill_lists.specs.Standing.{list_pages, pages_of}
-use Rattle.spill_lists.specs.declared.lists.OnTape.{OnTape}
-use Rattle.having_filter.specs.Kept.{IsWellFormed}
-use Rattle.group_runs.specs.Runs.{Entry, packed_keys}
-use Rattle.hash_agg.specs.Passes.{Piece, Of_row, Of_group, IsPiece, ArePieces, cost_records, records_of, IsCosted, AreCosted, Spills}
-use Rattle.hash_agg.specs.Waiting.{capped, IsLeft, AreLeft, Costs, AddsUp, pass_cost, IsWork}
-use Rattle.hash_agg.specs.declared.work.Work.{Work}
 use Rattle.group_runs.specs.Lemmas.RunLaws.{packed_once}
 use Rattle.hash_agg.proofs.StepLaws.{key_short, group_apart}
 use Rattle.hash_agg.proofs.OneByOneLaws.{one_append, as_long, none_to_none, one_filtered, LastOf, last_of, as_none}

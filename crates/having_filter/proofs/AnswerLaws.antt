@@ -7,11 +7,10 @@ use Rattle.std.proofs.lemmas.List.{get_or_append_left, get_or-drop, get_or-take,
 use Rattle.std.proofs.lemmas.Option.{slice_get-map, slice_get-get_or}
 use Rattle.std.proofs.lemmas.List.Elements.{All-get_or, All-head, All-tail, All-weaker, All-push}
 use Rattle.std.proofs.lemmas.Str.{IsUtf8-nil, IsCharBoundary-at_seam, IsCharBoundary-end}
-use Rattle.grouping_model.specs.Aggregates.{Outcome, Plain}
+use Rattle.having_filter.proofs.Words.{Outcome, Plain, outcome_in, outcomes_in, Grows, IsPart, LiesIn, AllLieIn}
 use Rattle.grouping_model.specs.Datum as datum
 use Rattle.having_filter.specs.declared.cells.Cell.{Cell}
 use Rattle.having_filter.specs.declared.cells.Cell.TheVariants.{Null, Bigint, Numeric, Boolean, Text}
-use Rattle.having_filter.specs.Answers.{outcome_in, outcomes_in, Grows, IsPart, LiesIn, AllLieIn}
 use Rattle.std.proofs.lemmas.Bool.Decides.{nat_tests}
 use Rattle.std.proofs.lemmas.Grind.{common_steps}
 

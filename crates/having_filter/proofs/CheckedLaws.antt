@@ -1,19 +1,14 @@
 -- What is kept of a query that passes all checks.
 use Rattle.std.proofs.Common.{◌≡◌, ℕ, true, List, [], ◌∷◌, map, Option, refl, ap, sym, ◌∙◌, subst}
 use Rattle.std.specs.Prelude.{Ok, Err}
-use Rattle.packed_rows.specs.Columns.{Column, AreColumns, kinds, printed}
-use Rattle.query_checks.specs.Forms.{Form, Written}
-use Rattle.query_checks.specs.Checks.{has_columns, placed, checked, checked_places, checked_order, with_order, kinds_fit, PassesFirst, Checked}
+use Rattle.having_filter.proofs.Words.{AreColumns, kinds, printed, Form, Written, has_columns, placed, checked, checked_places, checked_order, with_order, kinds_fit, PassesFirst, Checked, Asked, order_of, written_of_parts, checked_of, IsKept, PlansFor, written_by_names, label_of}
+use Rattle.packed_rows.specs.Columns.{Column}
 use Rattle.query_checks.specs.declared.error.QueryError.{QueryError}
-use Rattle.query_checks.specs.Order.{Asked, order_of}
-use Rattle.query_checks.specs.Parts.{written_of_parts, checked_of}
 use Rattle.query_checks.specs.Spelling.{spelling, canonical_item}
 use Rattle.query_checks.specs.Writable.{IsWritable}
 use Rattle.query_checks.specs.declared.parts.Parts.{Parts}
 use Rattle.query_checks.specs.CheckedLaws.{reaches_places}
-use Rattle.having_filter.specs.Plans.{IsKept, PlansFor}
 use Rattle.having_filter.specs.declared.plan.Plan.{Plan}
-use Rattle.having_filter.specs.Kept.{written_by_names, label_of}
 use Rattle.having_filter.specs.NormalLaws.{columns_of_query, named_again}
 use Rattle.having_filter.specs.Lemmas.NormalLaws.{asked_again, spelled_alike, label_twice}
 use Rattle.having_filter.specs.Lemmas.WellLaws.{passed_query}

@@ -10,24 +10,19 @@ use Rattle.std.proofs.lemmas.List.Folds.{list_any-append}
 use Rattle.std.proofs.lemmas.Slice.Eq.{bytes_eq-Decides}
 use Rattle.list_laws.specs.Each.{each_append, each_front, each_behind}
 use Rattle.grouping_model.specs.Datum as datum
-use Rattle.grouping_model.specs.Datum.{Datum, Kind, Bigint_kind, Boolean_kind, Text_kind}
+use Rattle.having_filter.proofs.Words.{Datum, Kind, Bigint_kind, Boolean_kind, Text_kind, kinds, Unary_operator, Negation, Testing, Binary_operator, Conjunction, Disjunction, Comparing, Form, Call, Call_where, Literal, Unary, Binary, Written, map_form, Checked, kind_of_form, kinds_agree, is_boolean, takes_one, takes_two, takes_column, operands_fit, condition_fits, kinds_fit, are_plain, is_grouped, is_column, place, placed, calls_of, distinct_calls, order_of, IsCheckedQuery, by_names}
 use Rattle.grouping_model.specs.Condition as model
 use Rattle.packed_rows.specs.Columns as packed
-use Rattle.packed_rows.specs.Columns.{kinds}
 use Rattle.agg_protocol.specs.Signatures.{function_number}
-use Rattle.query_checks.specs.Forms.{Unary_operator, Negation, Testing, Binary_operator, Conjunction, Disjunction, Comparing, Form, Column, Call, Call_where, Literal, Unary, Binary, Written, map_form}
+use Rattle.query_checks.specs.Forms.{Column}
 use Rattle.query_checks.specs.Reads.{reads, is_call, is_key, calls_in, is_plain, is_grouped_by, columns_pass, filters_pass, filter_of}
 use Rattle.query_checks.specs.Operators.{test_number, comparison_number}
 use Rattle.query_checks.specs.Sameness.{form_eq, option_same, literal_eq, unary_eq, binary_eq, with_one, with_each}
-use Rattle.query_checks.specs.Checks.{Checked, kind_of_form, kinds_agree, is_boolean, takes_one, takes_two, takes_column, operands_fit, condition_fits, kinds_fit, are_plain, is_grouped, is_column, place, placed}
-use Rattle.query_checks.specs.Calls.{calls_of, distinct_calls}
 use Rattle.query_checks.specs.DistinctLaws.{all_distinct}
 use Rattle.query_checks.specs.FormLaws.{columns_mapped}
 use Rattle.query_checks.specs.ReadLaws.{both_pass, calls_in_two}
 use Rattle.having_filter.specs.Fitting.{OfOneKind, TakesOne, TakesTwo, OperandsFit, Fits, IsOfRow, IsOfGroup, HasFittingConditions}
 use Rattle.query_checks.specs.declared.order.OrderTerm.{OrderTerm}
-use Rattle.query_checks.specs.Order.{order_of}
-use Rattle.having_filter.specs.Kept.{IsCheckedQuery, by_names}
 use Rattle.having_filter.specs.PlaceLaws.{placed_name}
 use Rattle.having_filter.specs.NormalLaws.{HasColumns, placed_item, columns_of_query}
 use Rattle.having_filter.specs.Lemmas.PassedLaws.{passes_first, passes_places}

@@ -1,3 +1,4 @@
+pub mod Words
 pub mod ValueLaws
 pub mod PlanLaws
 pub mod CheckedLaws

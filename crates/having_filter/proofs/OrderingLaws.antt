@@ -4,11 +4,9 @@ use Rattle.std.proofs.Common.{sym, ◌∙◌, ap, get_or, arith}
 use Rattle.std.proofs.lemmas.List.{drop_all}
 use Rattle.std.specs.declared.cmp.Ordering.{Ordering}
 use Rattle.std.specs.declared.cmp.Ordering.TheVariants.{Equal}
-use Rattle.grouping_model.specs.Aggregates.{Outcome, Plain}
+use Rattle.having_filter.proofs.Words.{Outcome, Plain, by_term, terms_cmp, ordered, order_term}
 use Rattle.grouping_model.specs.Datum.{Null}
-use Rattle.grouping_model.specs.Order.{by_term, terms_cmp, ordered}
 use Rattle.grouping_model.specs.OrderLaws.{unordered}
-use Rattle.having_filter.specs.Meaning.{order_term}
 use Rattle.query_checks.specs.declared.order.OrderTerm.{OrderTerm}
 use Rattle.std.proofs.lemmas.Bool.Decides.{nat_tests}
 use Rattle.std.proofs.lemmas.Grind.{common_steps}

@@ -4,27 +4,17 @@ use Rattle.std.proofs.lemmas.List.{length-map}
 use Rattle.std.proofs.lemmas.Option.{slice_get_read, slice_get-map}
 use Rattle.std.specs.Prelude.{slice_get}
 use Rattle.grouping_model.specs.Query as query
-use Rattle.grouping_model.specs.Query.{Aggregate}
-use Rattle.grouping_model.specs.Aggregates.{Function, Outcome}
-use Rattle.grouping_model.specs.Condition.{At, is_met, value_of}
+use Rattle.having_filter.proofs.Words.{Aggregate, Function, Outcome, At, is_met, value_of, Bigint_kind, function_of, kinds, kinds_of, Form, Call, Call_where, Literal, Unary, Binary, map_reads, form_of, call_form, item_form, places_of, with_filter, distinct_calls, written_of_parts, checked_of, aggregate_of, unary_of, binary_of, condition_by, row_condition, place_in, source_of_form, group_condition, PlansFor, source_of, source_leaf, by_sources}
 use Rattle.query_checks.specs.declared.condition.Cond.{Cond, back-AggCall-filter}
 use Rattle.query_checks.specs.declared.condition.AggCall.{AggCall}
-use Rattle.grouping_model.specs.Datum.{Bigint_kind}
-use Rattle.agg_protocol.specs.Kinds.{function_of}
 use Rattle.packed_rows.specs.Columns as packed
-use Rattle.packed_rows.specs.Columns.{kinds}
-use Rattle.packed_rows.specs.View.{kinds_of}
 use Rattle.query_checks.specs.declared.condition.Item.{Item}
 use Rattle.query_checks.specs.declared.parts.Parts.{Parts}
-use Rattle.query_checks.specs.Forms.{Form, Column, Call, Call_where, Literal, Unary, Binary, map_reads, form_of, call_form, item_form, places_of, with_filter}
+use Rattle.query_checks.specs.Forms.{Column}
 use Rattle.query_checks.specs.Sameness.{form_eq}
-use Rattle.query_checks.specs.Calls.{distinct_calls}
-use Rattle.query_checks.specs.Parts.{written_of_parts, checked_of}
 use Rattle.having_filter.specs.declared.plan.Plan.{Plan}
-use Rattle.having_filter.specs.Meaning.{aggregate_of, unary_of, binary_of, condition_by, row_condition, place_in, source_of_form, group_condition}
 use Rattle.having_filter.specs.declared.plan.Source.TheVariants as source
 use Rattle.having_filter.specs.declared.plan.Source.{Source}
-use Rattle.having_filter.specs.Plans.{PlansFor, source_of, source_leaf, by_sources}
 use Rattle.having_filter.proofs.ValueLaws.{met_in_steps}
 
 -- the column and the FILTER of the aggregate that a call names

@@ -4,13 +4,11 @@ use Rattle.std.specs.List.{prefix_len}
 use Rattle.std.specs.Prelude.{position, not}
 use Rattle.std.proofs.lemmas.List.{length-map}
 use Rattle.grouping_model.specs.Datum.{Null}
-use Rattle.grouping_model.specs.Aggregates.{Function, Outcome}
+use Rattle.having_filter.proofs.Words.{Function, Outcome, Unary_operator, Negation, Testing, Binary_operator, Conjunction, Disjunction, Comparing, Form, Call, Call_where, Literal, Unary, Binary, with_filter, form_of, column_leaf, unary_of, binary_of, condition_by, source_leaf}
 use Rattle.grouping_model.specs.Condition as model
 use Rattle.query_checks.specs.declared.condition.Cond.{Cond, back-AggCall-filter}
-use Rattle.query_checks.specs.Forms.{Unary_operator, Negation, Testing, Binary_operator, Conjunction, Disjunction, Comparing, Form, Column, Call, Call_where, Literal, Unary, Binary, with_filter, form_of}
+use Rattle.query_checks.specs.Forms.{Column}
 use Rattle.having_filter.specs.declared.plan.Source.{Source}
-use Rattle.having_filter.specs.Meaning.{column_leaf, unary_of, binary_of, condition_by}
-use Rattle.having_filter.specs.Plans.{source_leaf}
 
 -- a call is no column
 pub call_is_no_column : (function : Function) (column : Option ℕ) (filter : Option (Cond ℕ)) → column_leaf (with_filter function column (back-AggCall-filter ℕ filter)) ≡ model.Literal Null

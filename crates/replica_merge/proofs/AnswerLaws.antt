@@ -9,30 +9,18 @@ use Rattle.std.specs.List.{AllByRecursion}
 use Rattle.std.specs.List.Sorted.{IsStrictlySortedBy}
 use Rattle.std.proofs.lemmas.List.Sorted.{All-permutation}
 use Rattle.std.specs.Ordering.{nat_cmp}
-use Rattle.list_laws.specs.Each.{each_weaker, each_both}
+use Rattle.replica_merge.proofs.Words.{each_weaker, each_both, LAST_ORIGIN, LAST_NUMBER, MOST_ROWS, Row, Query, Group, part, World, origin_rows, known_rows, rows_upto, Checked, meaning, AreGroups, Part, FitsOrigin, Parts, part_at, part_of, told, Held, Fits, IsHeldPart, AreHeldParts, counted_part, brought_by, IsRunAlone, IsUnion}
 use Rattle.grouping_model.specs.Sorting.{sorted_moves}
-use Rattle.grouping_model.specs.declared.limits.TheConstants.{LAST_ORIGIN, LAST_NUMBER, MOST_ROWS}
-use Rattle.grouping_model.specs.Datum.{Row}
 use Rattle.grouping_model.specs.Aggregates.{Outcome}
 use Rattle.grouping_model.specs.Condition.{is_met}
-use Rattle.grouping_model.specs.Query.{Query}
-use Rattle.grouping_model.specs.Grouping.{Group, part}
-use Rattle.grouping_model.specs.World.{World, origin_rows, known_rows, rows_upto}
 use Rattle.grouping_model.specs.Order.{comes_before}
 use Rattle.grouping_model.specs.Answer.{source_in, answered, rows_of, answer_of, answer}
 use Rattle.agg_protocol.specs.States.{most_rows}
-use Rattle.query_checks.specs.Checks.{Checked}
-use Rattle.having_filter.specs.Meaning.{meaning}
 use Rattle.group_runs.specs.Runs.{Entry}
-use Rattle.group_runs.specs.Standing.{AreGroups}
 use Rattle.packed_rows.specs.RowsOnEnd.{on_end}
 use Rattle.hash_agg.specs.Inputs.{Brought, IsInput, AreInputsOf, all_rows, rows_in}
-use Rattle.origin_prefix.specs.Parts.{Part}
-use Rattle.origin_prefix.specs.Fitting.{FitsOrigin}
 use Rattle.origin_prefix.specs.Lemmas.ByNumber.{numbers, above_first, rising_rest}
-use Rattle.replica_merge.specs.Replicas.{Parts, part_at, part_of, told, Held, Fits, IsHeldPart, AreHeldParts, counted_part}
 use Rattle.replica_merge.proofs.ToldLaws.{HasGap, part_gap, prefix_told, origins_told, each_at, part_here}
-use Rattle.replica_merge.specs.Unions.{brought_by, IsRunAlone, IsUnion}
 use Rattle.replica_merge.proofs.UnionLaws.{one_part}
 
 -- ---- inputs

@@ -11,28 +11,17 @@ use Rattle.std.specs.BTreeMap.{BTreeMap, insert_entry, is_at, WritesThrough}
 use Rattle.std.specs.Ordering.{eq_by_cmp, nat_cmp, is_eq, match_ordering}
 use Rattle.std.specs.declared.cmp.Ordering.TheVariants.{Less, Equal, Greater}
 use Rattle.std.proofs.lemmas.Result.{IfOk-weaker, IfErr-weaker}
-use Rattle.grouping_model.specs.declared.limits.TheConstants.{LAST_ORIGIN}
-use Rattle.grouping_model.specs.Datum.{Row}
+use Rattle.replica_merge.proofs.Words.{LAST_ORIGIN, Row, InLimits, reply_of, World, IsWorld, knows, learn, prefix, kinds, packings, Checked, meaning, Part, empty, rows_at, tells, IsEarly, IsPartOf, Delivers, Disagrees, BatchTells, OriginDisagrees, Spill, FitsOrigin, Parts, part_at, part_of, told, Held, Fits, IsHeldPart, AreHeldParts, DeliversAt, RefusesAt}
 use Rattle.grouping_model.specs.declared.delivered.Delivered.{Delivered}
 use Rattle.grouping_model.specs.declared.delivered.Delivered.TheVariants.{Folded, Early, Known}
-use Rattle.grouping_model.specs.Replies.{InLimits, reply_of}
-use Rattle.grouping_model.specs.World.{World, IsWorld, knows, learn, prefix}
 use Rattle.grouping_model.specs.KnowledgeLaws.{same_knowledge, knows_learn}
-use Rattle.packed_rows.specs.Columns.{kinds}
-use Rattle.batch_reader.specs.Rows.{packings}
 use Rattle.batch_reader.specs.declared.batch.Batch.{Batch}
-use Rattle.query_checks.specs.Checks.{Checked}
-use Rattle.having_filter.specs.Meaning.{meaning}
-use Rattle.origin_prefix.specs.Parts.{Part, empty, rows_at, tells, IsEarly, IsPartOf, Delivers, Disagrees, BatchTells}
-use Rattle.origin_prefix.specs.declared.error.JoinError.TheVariants.{OriginDisagrees, Spill}
 use Rattle.spill_lists.specs.declared.error.SpillError.{SpillError}
 use Rattle.origin_prefix.specs.declared.error.RefusedBatch.{RefusedBatch}
-use Rattle.origin_prefix.specs.Fitting.{FitsOrigin}
 use Rattle.origin_prefix.specs.Lemmas.Lists.{is_itself, is_other, same_or_other}
 use Rattle.origin_prefix.specs.Lemmas.ByNumber.{at, found_holds, all_found, put_same, put_else}
 use Rattle.origin_prefix.specs.Lemmas.TellingLaws.{delivered_tells}
 use Rattle.origin_prefix.specs.Lemmas.FittingLaws.{fits_delivered, agrees_delivered}
-use Rattle.replica_merge.specs.Replicas.{Parts, part_at, part_of, told, Held, Fits, IsHeldPart, AreHeldParts, DeliversAt, RefusesAt}
 use Rattle.replica_merge.specs.Lemmas.ToldLaws.{held_part}
 use Rattle.replica_merge.proofs.ToldLaws.{told_is, same_batch, HasGap, part_gap, prefix_told, part_here}
 

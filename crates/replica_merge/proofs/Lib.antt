@@ -1,3 +1,4 @@
+pub mod Words
 pub mod ToldLaws
 pub mod AnswerLaws
 pub mod DeliveredLaws

@@ -7,25 +7,15 @@ use Rattle.std.specs.Option.{is_some}
 use Rattle.std.specs.List.Sorted.{IsStrictlySortedBy}
 use Rattle.std.specs.BTreeMap.{BTreeMap, insert_entry, WritesThrough}
 use Rattle.std.specs.Ordering.{eq_by_cmp, nat_cmp}
-use Rattle.grouping_model.specs.World.{World, IsWorld, union}
+use Rattle.replica_merge.proofs.Words.{World, IsWorld, union, Query, kinds, Checked, meaning, Part, empty, tells, is_nothing, IsPartOf, either, Joins, PartsDisagree, DisagreeAt, JoinTells, JoinIsCounted, OriginDisagrees, FitsOrigin, Parts, part_at, part_of, told, Fits, IsHeldPart, AreHeldParts, AsideAt, JoinedAside, JoinsAt, Merges, DisagreeSomewhere, IsFirstRefused, filled, MergeIsCounted}
 use Rattle.grouping_model.specs.KnowledgeLaws.{same_knowledge, knows_union}
-use Rattle.grouping_model.specs.Query.{Query}
-use Rattle.packed_rows.specs.Columns.{kinds}
-use Rattle.query_checks.specs.Checks.{Checked}
-use Rattle.having_filter.specs.Meaning.{meaning}
-use Rattle.origin_prefix.specs.Parts.{Part, empty, tells, is_nothing, IsPartOf}
 use Rattle.aggregation_cost.specs.Space.{Setting}
 use Rattle.hash_agg.specs.declared.work.Work.{Work}
-use Rattle.origin_prefix.specs.Joins.{either, Joins, PartsDisagree, DisagreeAt, JoinTells, JoinIsCounted}
 use Rattle.origin_prefix.specs.declared.error.JoinError.{JoinError}
-use Rattle.origin_prefix.specs.declared.error.JoinError.TheVariants.{OriginDisagrees}
-use Rattle.origin_prefix.specs.Fitting.{FitsOrigin}
 use Rattle.origin_prefix.specs.Lemmas.Lists.{is_itself, is_other, same_or_other}
 use Rattle.origin_prefix.specs.Lemmas.ByNumber.{numbers, at, at_head, behind_head, none_found, above_first, all_found, put_same, put_else, first_alone, some_is}
 use Rattle.origin_prefix.specs.Lemmas.TellingLaws.{joined_tells}
 use Rattle.origin_prefix.specs.Lemmas.FittingLaws.{fits_joined, agrees_joined}
-use Rattle.replica_merge.specs.Replicas.{Parts, part_at, part_of, told, Fits, IsHeldPart, AreHeldParts, AsideAt, JoinedAside, JoinsAt, Merges, DisagreeSomewhere, IsFirstRefused, filled}
-use Rattle.replica_merge.specs.Counting.{MergeIsCounted}
 use Rattle.replica_merge.specs.Lemmas.ToldLaws.{held_part}
 use Rattle.replica_merge.proofs.ToldLaws.{told_is, some_told, empty_tells, part_here}
 use Rattle.replica_merge.proofs.DeliveredLaws.{part_is, some_if_tells}

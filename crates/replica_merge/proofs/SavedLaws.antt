@@ -2,25 +2,12 @@
 use Rattle.std.specs.Prelude.{◌≡◌, ℕ, List, [], ◌*◌, map, Some, unwrap_or}
 use Rattle.std.proofs.lemmas.List.{map-id}
 use Rattle.std.proofs.Common.{◌∙◌, sym, ap, subst}
-use Rattle.list_laws.specs.Each.{each_both}
-use Rattle.grouping_model.specs.World.{World, origins, prefix, early, batch_rows, origin_rows, rows_upto}
-use Rattle.grouping_model.specs.Grouping.{part}
-use Rattle.grouping_model.specs.declared.limits.TheConstants.{MOST_ROWS}
-use Rattle.batch_reader.specs.Rows.{packings}
-use Rattle.query_checks.specs.Checks.{Checked}
-use Rattle.having_filter.specs.Meaning.{meaning}
-use Rattle.group_runs.specs.Standing.{run_bytes}
+use Rattle.replica_merge.proofs.Words.{each_both, World, origins, prefix, early, batch_rows, origin_rows, rows_upto, part, MOST_ROWS, packings, Checked, meaning, run_bytes, Part, FitsOrigin, IsSummary, world_part, world_file_in, world_file, Second, Held, part_at, part_of, told, Fits, IsHeldPart, AreHeldParts}
 use Rattle.group_runs.specs.StandingLaws.{stands_spelled}
-use Rattle.origin_prefix.specs.Parts.{Part}
-use Rattle.origin_prefix.specs.Fitting.{FitsOrigin}
 use Rattle.origin_prefix.specs.Lemmas.ByNumber.{at, numbers}
 use Rattle.summary_codec.specs.File.{file_in, file_bytes}
-use Rattle.summary_codec.specs.Reading.{IsSummary}
-use Rattle.summary_codec.specs.WorldFile.{world_part, world_file_in, world_file}
 use Rattle.summary_codec.specs.declared.version.Version.{Version}
-use Rattle.summary_codec.specs.declared.version.Version.TheVariants.{Second}
 use Rattle.summary_codec.specs.Lemmas.OneReading.{one_reading}
-use Rattle.replica_merge.specs.Replicas.{Held, part_at, part_of, told, Fits, IsHeldPart, AreHeldParts}
 use Rattle.replica_merge.proofs.AnswerLaws.{fit_each}
 use Rattle.replica_merge.proofs.ToldLaws.{origins_told, early_told, prefix_told, map_same, each_at, part_here, HasGap, part_gap}
 

@@ -14,20 +14,14 @@ use Rattle.std.specs.Cmp.{nat_cmp_total}
 use Rattle.std.specs.FinMap.{nat_cmp-IsAntisymmetric}
 use Rattle.grouping_model.specs.Rising.{is_among}
 use Rattle.grouping_model.specs.Rising.Facts.{among-append, same_members}
-use Rattle.grouping_model.specs.Replies.{of_origin, known_list}
-use Rattle.grouping_model.specs.World.{batch_cmp, knows, prefix, early, origins, count_up}
+use Rattle.replica_merge.proofs.Words.{of_origin, known_list, batch_cmp, knows, prefix, early, origins, count_up, kinds, Checked, each_both, Part, empty, rows_at, tells, IsEarly, IsPartOf, Parts, part_at, part_of, batches_of, told, IsHeldPart, AreHeldParts, known_part}
 use Rattle.grouping_model.specs.MemberLaws.{Member, from_contains, to_contains, among_member}
 use Rattle.grouping_model.specs.KnowledgeLaws.{knows_knowing}
 use Rattle.grouping_model.specs.EarlyLaws.{early_are, early_rise, origins_are, origins_rise}
 use Rattle.grouping_model.specs.Lemmas.LearningLaws.{prefix_is}
-use Rattle.packed_rows.specs.Columns.{kinds}
-use Rattle.query_checks.specs.Checks.{Checked}
 use Rattle.std.specs.Map.{lookup}
-use Rattle.list_laws.specs.Each.{each_both}
-use Rattle.origin_prefix.specs.Parts.{Part, empty, rows_at, tells, IsEarly, IsPartOf}
 use Rattle.origin_prefix.specs.Lemmas.Lists.{is_itself, is_other, same_or_other}
 use Rattle.origin_prefix.specs.Lemmas.ByNumber.{numbers, at_head, behind_head, found_holds, none_found, rising_rest, first_alone, all_found}
-use Rattle.replica_merge.specs.Replicas.{Parts, part_at, part_of, batches_of, told, IsHeldPart, AreHeldParts, known_part}
 
 -- ---- membership
 

@@ -7,26 +7,18 @@ use Rattle.std.proofs.Common.{sym, ◌∙◌, ap, subst, arith, append-nil}
 use Rattle.std.proofs.lemmas.List.{map-append}
 use Rattle.std.proofs.lemmas.List.Sums.{sum_by-cons, sum_by-append}
 use Rattle.std.proofs.lemmas.Grind.{flat_map-append}
-use Rattle.list_laws.specs.Each.{each_front, each_behind}
-use Rattle.grouping_model.specs.declared.limits.TheConstants.{MOST_ROWS}
-use Rattle.grouping_model.specs.Datum.{Row, row_cmp}
-use Rattle.grouping_model.specs.Query.{Query}
-use Rattle.grouping_model.specs.Grouping.{part}
+use Rattle.replica_merge.proofs.Words.{each_front, each_behind, MOST_ROWS, Row, row_cmp, Query, part, AreGroups, IsRun, Part, counted, brought_by, IsRunAlone, IsUnion}
 use Rattle.grouping_model.specs.Parts.{keys_of}
 use Rattle.agg_protocol.specs.States.{most_rows}
 use Rattle.packed_rows.specs.RowsOnEnd.{on_end}
 use Rattle.group_runs.specs.Adding.{groups_added}
 use Rattle.group_runs.specs.MergeLaws.{puts_rise, keys_of-groups_added}
 use Rattle.group_runs.specs.Runs.{Entry, Rises}
-use Rattle.group_runs.specs.Standing.{AreGroups, IsRun}
 use Rattle.group_runs.specs.Steps.{AddsRun, HasRoomForRun}
 use Rattle.group_runs.specs.Lemmas.MergeLaws.{groups_added_part}
 use Rattle.group_runs.specs.Lemmas.SpliceLaws.{packed_rise}
 use Rattle.hash_agg.specs.Inputs.{Brought, Counted, rows_in, all_rows, AreInputsOf, IsInput}
 use Rattle.hash_agg.specs.Lemmas.FoldLaws.{run_keys_rise}
-use Rattle.origin_prefix.specs.Parts.{Part}
-use Rattle.replica_merge.specs.Replicas.{counted}
-use Rattle.replica_merge.specs.Unions.{brought_by, IsRunAlone, IsUnion}
 
 -- lists of rows for which inputs of two lists stand
 record BothStand (q : Query) (xs ys : List Brought) (lists : List (List Row)) : Type 0 where

@@ -11,32 +11,21 @@ use Rattle.std.specs.FinMap.{nat_cmp-IsAntisymmetric}
 use Rattle.grouping_model.specs.EarlyLaws.{early_are, origins_are}
 use Rattle.grouping_model.specs.KnowledgeLaws.{same_knowledge}
 use Rattle.grouping_model.specs.MemberLaws.{from_contains, to_contains, among_member}
-use Rattle.grouping_model.specs.Query.{Query}
+use Rattle.replica_merge.proofs.Words.{Query, World, IsWorld, Knowledge, knows, origins, prefix, early, batch_rows, kinds, packings, Checked, meaning, FitsOrigin, Part, empty, rows_at, tells, IsSummaryIn, IsSummary, IsSaved, Second, world_part, world_file, Parts, part_at, part_of, Held, told, Fits, AreHeldParts}
 use Rattle.grouping_model.specs.Rising.{is_among}
-use Rattle.grouping_model.specs.World.{World, IsWorld, Knowledge, knows, origins, prefix, early, batch_rows}
 use Rattle.grouping_model.specs.Lemmas.PrefixLaws.{prefix_unbroken}
-use Rattle.packed_rows.specs.Columns.{kinds}
-use Rattle.batch_reader.specs.Rows.{packings}
-use Rattle.query_checks.specs.Checks.{Checked}
 use Rattle.query_checks.specs.Spelling.{spelling}
 use Rattle.having_filter.specs.Kept.{IsCheckedQuery, by_names}
-use Rattle.having_filter.specs.Meaning.{meaning}
-use Rattle.origin_prefix.specs.Fitting.{FitsOrigin}
-use Rattle.origin_prefix.specs.Parts.{Part, empty, rows_at, tells}
 use Rattle.origin_prefix.specs.Lemmas.ByNumber.{found_holds}
 use Rattle.summary_codec.specs.File.{file_in, body_bytes}
-use Rattle.summary_codec.specs.Reading.{IsSummaryIn, IsSummary, IsSaved}
 use Rattle.summary_codec.specs.Versions.{opening}
 use Rattle.summary_codec.specs.declared.version.Version.{Version}
-use Rattle.summary_codec.specs.declared.version.Version.TheVariants.{Second}
-use Rattle.summary_codec.specs.WorldFile.{world_part, world_file}
 use Rattle.summary_codec.specs.Worlds.{IsKnownOf, IsWorldFile, world_parts}
 use Rattle.summary_codec.specs.Lemmas.ReadQueries.{summary_query, written_again}
 use Rattle.summary_codec.specs.Lemmas.RowGroups.{each_mapped}
 use Rattle.summary_codec.specs.Lemmas.SpelledRead.{spelled}
 use Rattle.summary_codec.specs.Lemmas.VersionLaws.{one_body}
 use Rattle.summary_codec.specs.Lemmas.WorldLaws.{are_held, known_from_one, numbers_back, part_fits, second_keeps, world_read}
-use Rattle.replica_merge.specs.Replicas.{Parts, part_at, part_of, Held, told, Fits, AreHeldParts}
 use Rattle.replica_merge.proofs.SavedLaws.{one_held, saved_in}
 use Rattle.replica_merge.proofs.ToldLaws.{alike, empty_tells, told_is}
 

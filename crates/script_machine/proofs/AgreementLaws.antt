@@ -5,18 +5,12 @@ use Rattle.std.proofs.lemmas.Bool.{true≢false}
 use Rattle.std.proofs.lemmas.List.Elements.{recursion_from_All}
 use Rattle.std.specs.Option.{is_some}
 use Rattle.std.specs.List.{AllByRecursion}
-use Rattle.grouping_model.specs.Datum.{Row, HasKinds}
-use Rattle.grouping_model.specs.declared.limits.TheConstants.{LAST_ORIGIN, LAST_NUMBER, MOST_ROWS}
-use Rattle.grouping_model.specs.World.{IsWorld, Knowledge}
+use Rattle.script_machine.proofs.Words.{Row, HasKinds, LAST_ORIGIN, LAST_NUMBER, MOST_ROWS, IsWorld, Knowledge, Column, kinds, Record, Command, request_of, Fed, IsBatch, State, AgreesWith, FeedAgrees, Agrees, after, world_of, OneBatchEach, IsOfColumns, ColumnsOf, FeedsAmong, AreAmong}
 use Rattle.grouping_model.specs.MemberLaws.{Member, from_contains, to_contains}
-use Rattle.packed_rows.specs.Columns.{Column, kinds}
-use Rattle.script_io.specs.Records.{Record}
 use Rattle.script_commands.specs.Commands as ask
-use Rattle.script_commands.specs.Commands.{Command, Request, request_of}
+use Rattle.script_commands.specs.Commands.{Request}
 use Rattle.script_machine.specs.Machine as machine
-use Rattle.replies.specs.Batches.{Fed, IsBatch}
-use Rattle.script_machine.specs.Machine.{State, Reply, AgreesWith, FeedAgrees, Agrees, after}
-use Rattle.script_machine.specs.Agreement.{world_of, OneBatchEach, IsOfColumns, ColumnsOf, FeedsAmong, AreAmong}
+use Rattle.script_machine.specs.Machine.{Reply}
 
 some_is : {X : Type 0} (x y : X) → ◌≡◌ {A = Option X} (Some x) (Some y) → x ≡ y
 some_is x y e = ap (λ o. unwrap_or o x) e

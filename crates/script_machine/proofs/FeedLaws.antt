@@ -2,22 +2,13 @@
 use Rattle.std.specs.Prelude.{◌≡◌, ◌≤◌, ℕ, List, length, Result, Ok, IfOk}
 use Rattle.std.proofs.Common.{subst}
 use Rattle.std.proofs.lemmas.Result.{IfOk-at_ok}
-use Rattle.grouping_model.specs.Datum.{Row}
-use Rattle.grouping_model.specs.declared.limits.TheConstants.{MOST_ROWS}
-use Rattle.packed_rows.specs.Columns.{Column, kinds}
+use Rattle.script_machine.proofs.Words.{Row, MOST_ROWS, Column, kinds, ReadsRows, packings, BatchError, meaning, Held, part_of, Record, IsRead, setting_at, no_work, FeedWorked}
 use Rattle.batch_reader.specs.Head.{ReadsOrigin, ReadsBatchNumber}
-use Rattle.batch_reader.specs.Rows.{ReadsRows, packings}
 use Rattle.batch_reader.specs.declared.batch.Batch.{Batch}
-use Rattle.batch_reader.specs.declared.error.BatchError.{BatchError}
-use Rattle.having_filter.specs.Meaning.{meaning}
 use Rattle.hash_agg.specs.Counting.{AreCounted}
 use Rattle.hash_agg.specs.declared.work.Work.{Work}
 use Rattle.origin_prefix.specs.Parts.{aggregations_on}
-use Rattle.replica_merge.specs.Replicas.{Held, part_of}
-use Rattle.script_io.specs.Records.{Record}
-use Rattle.replies.specs.Batches.{IsRead}
 use Rattle.replies.specs.BatchLaws.{fed_of, read_is_fed}
-use Rattle.script_machine.specs.Limits.{setting_at, no_work, FeedWorked}
 
 -- what reading records tells, by columns that are a replica's, is that the batch was read of them
 pub read_of_feed : (asked columns : List Column) (origin number : List ℕ) (told : ℕ) (owned : List Record) (result : Result Batch BatchError) (read : Batch) → asked ≡ columns → result ≡ Ok read

@@ -1,3 +1,4 @@
+pub mod Words
 pub mod FeedLaws
 pub mod StoreLaws
 pub mod RunLaws

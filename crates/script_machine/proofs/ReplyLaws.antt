@@ -4,30 +4,17 @@ use Rattle.std.proofs.Common.{◌∙◌, ap, sym, subst, arith, inl, inr}
 use Rattle.std.proofs.lemmas.List.{length-take, get_or-take}
 use Rattle.std.proofs.lemmas.Bool.{cases_order}
 use Rattle.std.proofs.lemmas.Option.{same_Some}
-use Rattle.grouping_model.specs.declared.limits.TheConstants.{MOST_ROWS}
-use Rattle.grouping_model.specs.Datum.{Datum, Kind, Row, Bigint_kind}
-use Rattle.grouping_model.specs.World.{Knowledge}
-use Rattle.packed_rows.specs.Columns.{Column, kinds, IsSchemaText}
+use Rattle.script_machine.proofs.Words.{MOST_ROWS, Datum, Kind, Row, Bigint_kind, Knowledge, Column, kinds, IsSchemaText, Checked, Accepts, ReadsRows, BatchError, reply_of, Record, Fed, IsBatch, IsNoBatch, IsNoQuery, State, IsAccepted, IsRefusedFor, IsNoSchema, ColumnsReply, QueryReply, FeedReply, Replies, batch_refusal, query_refusal, Refusal}
 use Rattle.packed_rows.specs.Field.{Reads, ReadsRow, IsLeftmostBad}
 use Rattle.packed_rows.specs.Lemmas.FieldLaws.{one_row}
 use Rattle.packed_rows.specs.PrintedLaws.{one_schema}
-use Rattle.query_checks.specs.Checks.{Checked}
-use Rattle.group_parser.specs.Parsing.{Accepts}
 use Rattle.group_parser.specs.Lemmas.ParseLaws.{one_accepted, one_refused, not_both}
 use Rattle.script_io.specs.Digits.{number_of}
-use Rattle.batch_reader.specs.Rows.{ReadsRows}
 use Rattle.batch_reader.specs.Refusal.{RecordFault, FirstFault, BuildFault}
-use Rattle.batch_reader.specs.declared.error.BatchError.{BatchError}
 use Rattle.batch_reader.specs.declared.error.BatchError.TheVariants as batch
-use Rattle.grouping_model.specs.Replies.{reply_of}
-use Rattle.script_io.specs.Records.{Record}
 use Rattle.script_commands.specs.Commands as ask
 use Rattle.script_commands.specs.Commands.{Request}
 use Rattle.script_machine.specs.Machine as machine
-use Rattle.replies.specs.Batches.{Fed, IsBatch, IsNoBatch, IsNoQuery}
-use Rattle.script_machine.specs.Machine.{State, IsAccepted, IsRefusedFor, IsNoSchema, ColumnsReply, QueryReply, FeedReply, Replies}
-use Rattle.replies.specs.Refusals.{batch_refusal, query_refusal}
-use Rattle.replies.specs.declared.refusal.Refusal.{Refusal}
 
 -- ---- batches
 

@@ -8,9 +8,8 @@ use Rattle.std.proofs.lemmas.Grind.{flat_map-append}
 use Rattle.std.specs.Io.KnownBytes.{Appends, Consumes, IsAtEnd}
 use Rattle.std.specs.Result.{IsErrAnd}
 use Rattle.std.proofs.KnownBytes.{Appends-nil, Appends-trans, Keeps-refl}
-use Rattle.tape_disks.specs.Disk.{Leaves}
+use Rattle.script_machine.proofs.Words.{Leaves, World, Record, Command, request_of, State, Refused, Run, StrictRun, MayReply, IsReply, Agrees, AgreesAt, start, after, is_refused, is_fault, line, refusal_name, said_text, is_refusal, faults_in, run_error, Store, empty, Represents, FitsWorld, Answers, Steps}
 use Rattle.tape_disks.specs.declared.disk.TapeDisk.{Ghosts}
-use Rattle.grouping_model.specs.World.{World}
 use Rattle.script_io.specs.declared.fused.Fused.{Fused}
 use Rattle.script_io.specs.Fused.{FailsAsTold}
 use Rattle.script_io.specs.Input.{StopsReading, is_read_fault}
@@ -19,14 +18,10 @@ use Rattle.script_io.specs.declared.input.InputError.{InputError}
 use Rattle.script_io.specs.declared.input.InputError.TheVariants as input
 use Rattle.script_io.specs.InputLaws.{consumes-all, consumes-longer}
 use Rattle.script_io.specs.OutputLaws.{short-first, short-second}
-use Rattle.script_io.specs.Records.{Record}
-use Rattle.script_commands.specs.Commands.{Command, Request, request_of}
-use Rattle.script_machine.specs.Machine.{State, Reply, Refused, Run, StrictRun, MayReply, IsReply, Agrees, AgreesAt, start, after, is_refused, is_fault}
-use Rattle.replies.specs.Text.{line, refusal_name, said_text, is_refusal, faults_in}
+use Rattle.script_commands.specs.Commands.{Request}
+use Rattle.script_machine.specs.Machine.{Reply}
 use Rattle.script_machine.specs.Text.{MayRead, AllMayRead, joined, reply_text, replies_text}
-use Rattle.replies.specs.Refusals.{run_error}
 use Rattle.script_machine.specs.Output.{Disk, IsOutput, WritesFront, WritesBefore, WritesSome, StopsAt, commands_in, tells_read_fault, tells_write_fault}
-use Rattle.script_machine.specs.Views.{Store, empty, Represents, FitsWorld, Answers, Steps}
 use Rattle.replies.specs.declared.refusal.Refusal.TheVariants.{NoMemory}
 use Rattle.replies.specs.declared.error.RunError.{RunError}
 use Rattle.replies.specs.declared.error.RunError.TheVariants as stop

@@ -2,22 +2,17 @@
 use Rattle.std.specs.Prelude.{◌≡◌, ◌+◌, ◌≤◌, List, [], ◌∷◌, ℕ, refl, map, length, IsTrue, unwrap_or, Some, codes, decimal}
 use Rattle.std.proofs.Common.{sym, ap, inl, inr, arith}
 use Rattle.grouping_model.specs.Grouping.{part}
-use Rattle.grouping_model.specs.World.{World, Knowledge, knows, prefix, early, count_up, origins, origin_rows, batch_rows}
+use Rattle.script_machine.proofs.Words.{World, Knowledge, knows, prefix, early, count_up, origins, origin_rows, batch_rows, Checked, packings, meaning, line, KnowTheSame, State, answer_reply, known_reply, save_reply}
 use Rattle.grouping_model.specs.EarlyLaws.{early_are}
 use Rattle.grouping_model.specs.KnowledgeLaws.{same_knowledge}
 use Rattle.grouping_model.specs.MemberLaws.{Member, to_contains}
 use Rattle.grouping_model.specs.Lemmas.AnswerLaws.{known_alone, flat_map_members, counted_within}
 use Rattle.grouping_model.specs.Lemmas.PrefixLaws.{prefix_unbroken}
-use Rattle.query_checks.specs.Checks.{Checked}
-use Rattle.batch_reader.specs.Rows.{packings}
-use Rattle.having_filter.specs.Meaning.{meaning}
 use Rattle.group_runs.specs.Standing.{run_bytes}
 use Rattle.summary_codec.specs.File.{file_in}
 use Rattle.summary_codec.specs.WorldFile.{world_part, world_file}
 use Rattle.summary_codec.specs.declared.version.Version.TheVariants.{Second}
-use Rattle.replies.specs.Text.{line}
-use Rattle.script_machine.specs.Agreement.{KnowTheSame}
-use Rattle.script_machine.specs.Machine.{State, Reply, answer_reply, known_reply, save_reply}
+use Rattle.script_machine.specs.Machine.{Reply}
 use Rattle.script_machine.specs.Text.{reply_text, file_saved}
 
 -- what is known is one set

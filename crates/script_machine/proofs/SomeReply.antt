@@ -2,32 +2,19 @@
 use Rattle.std.specs.Prelude.{◌≡◌, ◌≢◌, ◌≤◌, ◌<◌, ◌+◌, ◌⊎◌, refl, ℕ, zero, suc, List, [], length, Option, Some, None, slice_index_or, unwrap_or, Result, Ok, Err}
 use Rattle.std.proofs.Common.{subst, arith, inl, inr}
 use Rattle.std.proofs.lemmas.Bool.{cases_lt}
-use Rattle.grouping_model.specs.declared.limits.TheConstants.{MOST_ROWS}
-use Rattle.grouping_model.specs.Datum.{Kind, Row, Bigint_kind}
-use Rattle.grouping_model.specs.Replies.{reply_of}
-use Rattle.grouping_model.specs.World.{Knowledge}
-use Rattle.packed_rows.specs.Columns.{Column, kinds}
+use Rattle.script_machine.proofs.Words.{MOST_ROWS, Kind, Row, Bigint_kind, reply_of, Knowledge, Column, kinds, ReadsRows, BatchError, Checked, parsing, Record, Fed, IsBatch, IsNoBatch, State, ColumnsReply, QueryReply, FeedReply, Replies, limit_reply, replica_reply, known_reply, answer_reply, merge_reply, save_reply, load_reply, batch_refusal, query_refusal, Refusal}
 use Rattle.packed_rows.specs.Field.{ReadsRow, IsLeftmostBad}
 use Rattle.packed_rows.specs.Packing.{packing}
 use Rattle.packed_rows.specs.Lemmas.RowLaws.{PackedSoFar, packed_all, packed_more}
-use Rattle.batch_reader.specs.Rows.{ReadsRows}
 use Rattle.batch_reader.specs.Refusal.{HeadReads, FirstFault, BuildFault}
-use Rattle.batch_reader.specs.declared.error.BatchError.{BatchError}
 use Rattle.batch_reader.specs.declared.error.BatchError.TheVariants as batch
 use Rattle.batch_reader.specs.Lemmas.RecordLaws.{RowsSoFar, rows_more, rows_all}
-use Rattle.query_checks.specs.Checks.{Checked}
-use Rattle.group_parser.specs.Parsing.{parsing}
 use Rattle.group_parser.specs.declared.error.ParseError.{ParseError}
 use Rattle.group_parser.specs.Lemmas.ParseLaws.{parses_accepts, parses_refuses}
 use Rattle.origin_prefix.specs.Lemmas.Lists.{same_or_other}
-use Rattle.script_io.specs.Records.{Record}
 use Rattle.script_commands.specs.Commands as ask
 use Rattle.script_commands.specs.Commands.{Request}
 use Rattle.script_machine.specs.Machine as machine
-use Rattle.replies.specs.Batches.{Fed, IsBatch, IsNoBatch}
-use Rattle.script_machine.specs.Machine.{State, ColumnsReply, QueryReply, FeedReply, Replies, limit_reply, replica_reply, known_reply, answer_reply, merge_reply, save_reply, load_reply}
-use Rattle.replies.specs.Refusals.{batch_refusal, query_refusal}
-use Rattle.replies.specs.declared.refusal.Refusal.{Refusal}
 use Rattle.replies.specs.declared.refusal.Refusal.TheVariants as why
 
 -- fields as many as kinds stand for a row, or there is a leftmost bad one

@@ -11,30 +11,19 @@ use Rattle.std.specs.Str.{bytes_eq}
 use Rattle.std.specs.HashMap.{HashMap, UpdatesBy}
 use Rattle.std.proofs.lemmas.Slice.Eq.{bytes_eq-Decides}
 use Rattle.std.proofs.lemmas.Bool.{true≢false, false_from_ne_true}
-use Rattle.grouping_model.specs.World.{World, IsWorld, Knowledge, nothing, learn, union}
+use Rattle.script_machine.proofs.Words.{World, IsWorld, Knowledge, nothing, learn, union, Column, kinds, IsSchemaText, printed, Checked, meaning, Accepts, known_list, reply_of, Parts, Held, told, Fits, SameQuery, MergeTells, Record, Fed, IsBatch, IsNoBatch, IsNoQuery, Takes, IsOfBatch, IsOtherBatch, State, ColumnsReply, QueryReply, limit_reply, replica_reply, FeedReply, known_reply, answer_reply, merge_reply, save_reply, load_reply, Replies, IsReply, FeedAgrees, uses_tapes, with_replica, line, known_text, answer_text, said_text, Store, IsStore, IsFileOf, AreSaved, IsFitting, Represents, FitsWorld, Answers, Steps, JoinRefused, JoinsNames, Updates, Files, replica_at, saved_at, knowledge_of, limit_out_of_range, columns_refusal, merge_refusal, Refusal}
 use Rattle.grouping_model.specs.Answer.{answer}
 use Rattle.grouping_model.specs.Aggregates.{Outcome}
-use Rattle.packed_rows.specs.Columns.{Column, kinds, IsSchemaText, printed}
-use Rattle.query_checks.specs.Checks.{Checked}
-use Rattle.having_filter.specs.Meaning.{meaning}
 use Rattle.query_checks.specs.Spelling.{spelling}
 use Rattle.having_filter.specs.Kept.{by_names, headers}
-use Rattle.group_parser.specs.Parsing.{Accepts}
-use Rattle.grouping_model.specs.Replies.{known_list, reply_of}
 use Rattle.grouping_model.specs.declared.delivered.Delivered.{Delivered}
-use Rattle.replica_merge.specs.Replicas.{Parts, Held, told, Fits, SameQuery, MergeTells}
 use Rattle.summary_codec.specs.Reading.{IsSaved}
 use Rattle.summary_codec.specs.WorldFile.{world_file}
-use Rattle.script_io.specs.Records.{Record}
 use Rattle.script_commands.specs.Commands as ask
 use Rattle.script_commands.specs.Commands.{Request}
 use Rattle.table_print.specs.Table.{table_text}
 use Rattle.script_machine.specs.Machine as machine
-use Rattle.replies.specs.Batches.{Fed, IsBatch, IsNoBatch, IsNoQuery, Takes, IsOfBatch, IsOtherBatch}
-use Rattle.script_machine.specs.Machine.{State, ColumnsReply, QueryReply, limit_reply, replica_reply, FeedReply, known_reply, answer_reply, merge_reply, save_reply, load_reply, Replies, IsReply, FeedAgrees, uses_tapes, with_replica}
 use Rattle.replies.specs.Joining.{JoinsHeld, IsApart}
-use Rattle.replies.specs.Text.{line, known_text, answer_text, said_text}
-use Rattle.script_machine.specs.Views.{Store, IsStore, IsFileOf, AreSaved, IsFitting, Represents, FitsWorld, Answers, Steps, JoinRefused, JoinsNames, Updates, Files, replica_at, saved_at, knowledge_of}
 use Rattle.spill_lists.specs.declared.error.SpillError.TheVariants as spill
 use Rattle.hash_agg.specs.declared.means.TheConstants.{LEAST_LIMIT, GREATEST_LIMIT}
 use Rattle.packed_rows.specs.Refusal.{ParseFault}
@@ -43,8 +32,6 @@ use Rattle.packed_rows.specs.declared.error.RowError.TheVariants as row
 use Rattle.origin_prefix.specs.declared.error.JoinError.TheVariants as join
 use Rattle.replica_merge.specs.declared.error.MergeError.{MergeError}
 use Rattle.replica_merge.specs.declared.error.MergeError.TheVariants as merge
-use Rattle.replies.specs.Refusals.{limit_out_of_range, columns_refusal, merge_refusal}
-use Rattle.replies.specs.declared.refusal.Refusal.{Refusal}
 use Rattle.replies.specs.declared.refusal.Refusal.TheVariants as why
 use Rattle.replies.specs.declared.reply.Reply.TheVariants as says
 

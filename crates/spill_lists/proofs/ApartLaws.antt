@@ -3,17 +3,9 @@ use Rattle.std.specs.Prelude.{◌≡◌, ◌≢◌, ℕ, ◌+◌, ◌<◌, ◌�
 use Rattle.std.proofs.Math.ListN.{set}
 use Rattle.std.proofs.Common.{refl, sym, ◌∙◌, ap, arith}
 use Rattle.std.proofs.lemmas.Bool.Decides.{nat_tests}
-use Rattle.spill_tapes.specs.Records.{Record}
-use Rattle.spill_tapes.specs.Tape.{is_in}
-use Rattle.spill_tapes.specs.Tapes.{TapesState, phase_of, is_open, is_written, KeepsOthers}
+use Rattle.spill_lists.proofs.Words.{Record, is_in, TapesState, phase_of, is_open, is_written, KeepsOthers, Closed, Written, Read, TapeId, OnTape, LeftList, once, times, AreOn, AreAhead, AreWritten, each_weaker}
 use Rattle.spill_tapes.specs.declared.tape.Phase.{Phase}
-use Rattle.spill_tapes.specs.declared.tape.Phase.TheVariants.{Closed, Written, Read}
-use Rattle.spill_tapes.specs.declared.tape_id.TapeId.{TapeId}
-use Rattle.spill_lists.specs.declared.lists.OnTape.{OnTape}
-use Rattle.spill_lists.specs.Lists.{LeftList}
-use Rattle.spill_lists.specs.Standing.{once, times, AreOn, AreAhead, AreWritten}
 use Rattle.std.specs.List.{AllByRecursion}
-use Rattle.list_laws.specs.Each.{each_weaker}
 
 pub times-append : (index : ℕ) (xs ys : List OnTape) → times index (xs ++ ys) ≡ times index xs + times index ys
 times-append index [] ys = omega arith

@@ -4,11 +4,7 @@ use Rattle.std.specs.List.{range_with_len}
 use Rattle.std.proofs.Common.{sym, ◌∙◌, ap, arith}
 use Rattle.std.proofs.Math.ListN.{set}
 use Rattle.std.proofs.lemmas.List.Sums.{sum_by-cons, sum_by-set}
-use Rattle.spill_tapes.specs.Records.{Record}
-use Rattle.spill_tapes.specs.Tapes.{TapesState}
-use Rattle.spill_lists.specs.Lists.{LeftList, list_of, on_list, deeper, lists}
-use Rattle.spill_lists.specs.Standing.{count_of, AreOn, AreSpilled}
-use Rattle.spill_lists.specs.declared.lists.OnTape.{OnTape}
+use Rattle.spill_lists.proofs.Words.{Record, TapesState, LeftList, list_of, on_list, deeper, lists, count_of, AreOn, AreSpilled, OnTape}
 use Rattle.spill_lists.specs.Lemmas.CountLaws.{is_not, is_it, is_past}
 
 -- how many are on n lists, from one on

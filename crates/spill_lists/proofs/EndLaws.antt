@@ -4,14 +4,9 @@ use Rattle.std.proofs.Common.{refl, sym, ◌∙◌, ap, subst, arith, inl, inr}
 use Rattle.std.proofs.lemmas.Bool.{cases_lt, ne_eqb}
 use Rattle.std.proofs.lemmas.Bool.Decides.{nat_tests}
 use Rattle.std.proofs.lemmas.List.{append-nil, append_assoc}
-use Rattle.spill_tapes.specs.Records.{Record}
-use Rattle.spill_tapes.specs.Tapes.{TapesState, IsTape, KeepsOthers}
-use Rattle.spill_lists.specs.declared.lists.OnTape.{OnTape}
-use Rattle.spill_lists.specs.Lists.{LeftList, is_none, lists, left_by}
-use Rattle.spill_lists.specs.Standing.{times, count_of, AreOn, AreAhead, AreSpilled, HaveRecords, those_with_records}
+use Rattle.spill_lists.proofs.Words.{Record, TapesState, IsTape, KeepsOthers, OnTape, LeftList, is_none, lists, left_by, times, count_of, AreOn, AreAhead, AreSpilled, HaveRecords, those_with_records, each_front, each_behind}
 use Rattle.spill_lists.proofs.ApartLaws.{times-append, kept_on, kept_ahead}
 use Rattle.spill_lists.proofs.ListLaws.{on_push}
-use Rattle.list_laws.specs.Each.{each_front, each_behind}
 use Rattle.std.proofs.lemmas.Grind.{common_steps}
 
 abbrev pub with_records : List LeftList → List LeftList

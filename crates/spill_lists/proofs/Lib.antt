@@ -1,3 +1,4 @@
+pub mod Words
 pub mod DigitLaws
 pub mod ApartLaws
 pub mod ListLaws

@@ -5,16 +5,8 @@ use Rattle.std.proofs.Math.ListN.{set}
 use Rattle.std.proofs.Common.{refl, sym, ◌∙◌, ap, subst, arith, length-append}
 use Rattle.std.proofs.lemmas.Bool.Decides.{nat_tests}
 use Rattle.std.proofs.lemmas.List.Sums.{sum_by-append, sum_by-cons}
-use Rattle.spill_tapes.specs.Records.{Record}
-use Rattle.spill_tapes.specs.Tape.{is_in}
-use Rattle.spill_tapes.specs.Tapes.{TapesState, IsTape, KeepsOthers, is_written}
-use Rattle.spill_tapes.specs.declared.tape.Phase.TheVariants.{Written}
-use Rattle.spill_tapes.specs.declared.tape_id.TapeId.{TapeId}
-use Rattle.spill_lists.specs.declared.lists.OnTape.{OnTape}
-use Rattle.spill_lists.specs.Lists.{LeftList, list_of, on_list, deeper, lists}
-use Rattle.spill_lists.specs.Standing.{times, count_of, AreOn, AreSpilled, AreWritten, IsNewList}
+use Rattle.spill_lists.proofs.Words.{Record, is_in, TapesState, IsTape, KeepsOthers, is_written, Written, TapeId, OnTape, LeftList, list_of, on_list, deeper, lists, times, count_of, AreOn, AreSpilled, AreWritten, IsNewList, each_append, each_weaker}
 use Rattle.spill_lists.proofs.ApartLaws.{once_here, differs, kept_on, times_here}
-use Rattle.list_laws.specs.Each.{each_append, each_weaker}
 use Rattle.std.proofs.lemmas.Grind.{common_steps}
 
 pub on_same : (level : ℕ) (spilled : List Record) (r : Record) (i : ℕ) → list_of level r.hash ≡ i → on_list level (spilled ++ r ∷ []) i ≡ on_list level spilled i ++ r ∷ []

@@ -2,16 +2,10 @@
 use Rattle.std.specs.Prelude.{◌≡◌, ◌==◌, ℕ, ◌+◌, ◌≤◌, true, false, List, [], ◌∷◌, ◌++◌, length}
 use Rattle.std.proofs.Common.{sym, ◌∙◌, ap, subst, arith, length-append}
 use Rattle.std.proofs.lemmas.Bool.Decides.{nat_tests}
-use Rattle.spill_tapes.specs.Records.{Record}
-use Rattle.spill_tapes.specs.Tapes.{is_open, KeepsOthers}
-use Rattle.spill_tapes.specs.declared.tape_id.TapeId.{TapeId}
-use Rattle.spill_lists.specs.declared.lists.OnTape.{OnTape}
-use Rattle.spill_lists.specs.Lists.{LeftList, deeper}
-use Rattle.spill_lists.specs.Standing.{ListsState, once, times, count_of, full_pages, spilled_number, written_pages, AreApart, AreSpilled, AreRead, HasLists, IsNewList, AreLists}
+use Rattle.spill_lists.proofs.Words.{Record, is_open, KeepsOthers, TapeId, OnTape, LeftList, deeper, ListsState, once, times, count_of, full_pages, spilled_number, written_pages, AreApart, AreSpilled, AreRead, HasLists, IsNewList, AreLists, Written, Read}
 use Rattle.spill_lists.proofs.ApartLaws.{times-append, kept_in, written_open, read_open, fresh_in}
 use Rattle.spill_lists.proofs.ListLaws.{AreNew, kept_new, new_push, new_written, new_spilled}
 use Rattle.spill_lists.proofs.StandingLaws.{state, one_more, has_beside}
-use Rattle.spill_tapes.specs.declared.tape.Phase.TheVariants.{Written, Read}
 use Rattle.std.proofs.lemmas.Grind.{common_steps}
 
 -- so many new lists are open beside those that were there

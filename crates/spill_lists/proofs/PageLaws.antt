@@ -3,12 +3,7 @@ use Rattle.std.specs.Prelude.{◌≡◌, refl, ℕ, zero, suc, ◌+◌, ◌/◌,
 use Rattle.std.proofs.Common.{sym, ◌∙◌, ap, subst, arith}
 use Rattle.std.proofs.Math.ListN.{set}
 use Rattle.std.proofs.lemmas.List.Sums.{sum_by-cons}
-use Rattle.spill_tapes.specs.Records.{Record}
-use Rattle.spill_tapes.specs.Tapes.{TapesState, IsTape, written_len, KeepsOthers}
-use Rattle.spill_tapes.specs.declared.tape_id.TapeId.{TapeId}
-use Rattle.spill_lists.specs.Lists.{LeftList, lists}
-use Rattle.spill_lists.specs.Standing.{times, AreApart, AreOn, AreSpilled, list_pages, pages_of, full_pages}
-use Rattle.spill_lists.specs.declared.lists.OnTape.{OnTape}
+use Rattle.spill_lists.proofs.Words.{Record, TapesState, IsTape, written_len, KeepsOthers, TapeId, LeftList, lists, times, AreApart, AreOn, AreSpilled, list_pages, pages_of, full_pages, OnTape}
 use Rattle.spill_lists.proofs.ApartLaws.{times-append, differs, once_here, times_here, kept_on}
 use Rattle.spill_lists.proofs.ListLaws.{AreNew}
 use Rattle.spill_lists.proofs.StandingLaws.{times_in}

@@ -2,16 +2,11 @@
 use Rattle.std.specs.Prelude.{◌≡◌, ℕ, ◌+◌, ◌<◌, ◌≤◌, false, List, [], ◌∷◌, ◌++◌}
 use Rattle.std.proofs.Common.{refl, sym, ◌∙◌, ap, subst, arith, inl}
 use Rattle.std.proofs.lemmas.List.Sums.{sum_by-cons}
-use Rattle.spill_tapes.specs.Records.{Record}
-use Rattle.spill_tapes.specs.Tapes.{TapesState, IsTape, KeepsOthers}
-use Rattle.spill_lists.specs.declared.lists.OnTape.{OnTape}
-use Rattle.spill_lists.specs.Lists.{LeftList, left_by}
-use Rattle.spill_lists.specs.Standing.{ListsState, once, times, count_of, AreApart, AreSpilled, AreWritten, HasLists, AreLists, those_with_records}
+use Rattle.spill_lists.proofs.Words.{Record, TapesState, IsTape, KeepsOthers, OnTape, LeftList, left_by, ListsState, once, times, count_of, AreApart, AreSpilled, AreWritten, HasLists, AreLists, those_with_records, Written}
 use Rattle.spill_lists.proofs.ApartLaws.{times-append, kept_in}
 use Rattle.spill_lists.proofs.ListLaws.{count-append}
 use Rattle.spill_lists.proofs.EndLaws.{AreLeft, left_start, left_step, left_end, those_count, those_times}
 use Rattle.spill_lists.proofs.StandingLaws.{state, times_in}
-use Rattle.spill_tapes.specs.declared.tape.Phase.TheVariants.{Written}
 use Rattle.std.proofs.lemmas.Bool.Decides.{nat_tests}
 use Rattle.std.proofs.lemmas.Grind.{common_steps}
 

@@ -3,18 +3,10 @@ use Rattle.std.specs.Prelude.{◌≡◌, ℕ, ◌+◌, ◌<◌, ◌≤◌, ◌�
 use Rattle.std.proofs.Math.ListN.{set}
 use Rattle.std.proofs.Common.{refl, sym, ◌∙◌, ap, subst, arith, inl, inr, length-set}
 use Rattle.std.proofs.lemmas.List.{nil_from_length}
-use Rattle.spill_tapes.specs.Records.{Record}
-use Rattle.spill_tapes.specs.Tape.{Gives}
-use Rattle.spill_tapes.specs.Tapes.{TapesState, phase_of, is_open, is_read, IsTape, KeepsOthers}
-use Rattle.spill_tapes.specs.declared.tape_id.TapeId.{TapeId}
-use Rattle.spill_lists.specs.declared.lists.OnTape.{OnTape}
-use Rattle.spill_lists.specs.Lists.{LeftList, list_of, lists}
-use Rattle.spill_lists.specs.Standing.{ListsState, once, times, AreApart, AreOn, AreSpilled, AreAhead, AreWritten, AreRead, HaveRecords, HasLists, AreLists, BeginsLast}
+use Rattle.spill_lists.proofs.Words.{Record, Gives, TapesState, phase_of, is_open, is_read, IsTape, KeepsOthers, TapeId, OnTape, LeftList, list_of, lists, ListsState, once, times, AreApart, AreOn, AreSpilled, AreAhead, AreWritten, AreRead, HaveRecords, HasLists, AreLists, BeginsLast, each_append, each_front, each_behind, Written, Read}
 use Rattle.spill_lists.proofs.ApartLaws.{times-append, once_here, kept_on, kept_ahead, times_here, times-set, written-set, kept_in, same_in, written_open, read_open, fresh_in}
 use Rattle.spill_lists.proofs.ListLaws.{put_on, has_last}
 use Rattle.spill_lists.proofs.EndLaws.{filled_front}
-use Rattle.list_laws.specs.Each.{each_append, each_front, each_behind}
-use Rattle.spill_tapes.specs.declared.tape.Phase.TheVariants.{Written, Read}
 use Rattle.std.proofs.lemmas.Bool.Decides.{nat_tests}
 use Rattle.std.proofs.lemmas.Grind.{common_steps}
 

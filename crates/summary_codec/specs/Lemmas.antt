@@ -1,4 +1,5 @@
 -- Lemmas that other crates cite, with their proofs. What is defined here serves them, and no public contract names it.
+pub mod Words
 pub mod VersionLaws
 pub mod RisingLaws
 pub mod LoopLaws

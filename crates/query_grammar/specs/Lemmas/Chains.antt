@@ -3,11 +3,8 @@ use Rattle.std.proofs.Common.{◌≡◌, ℕ, zero, suc, ◌≤◌, Bool, true, 
 use Rattle.std.specs.Str.{bytes_eq}
 use Rattle.std.proofs.lemmas.List.{append-nil, length-append}
 use Rattle.query_tokens.specs.declared.word.Symbol.TheVariants as symbols
-use Rattle.query_tokens.specs.Words.{Lexeme}
-use Rattle.query_grammar.specs.Terminals.{is_word, is_sign}
-use Rattle.query_grammar.specs.Grammar.{Named, word}
-use Rattle.query_grammar.specs.Reading.{Read, Fault, ◌>>=◌, after, choose, chain_at}
-use Rattle.query_grammar.specs.Whole.{list_at}
+use Rattle.query_grammar.specs.Lemmas.Words.{Lexeme, is_word, is_sign, Named, word, Read, after, choose, chain_at, list_at}
+use Rattle.query_grammar.specs.Reading.{Fault, ◌>>=◌}
 use Rattle.query_grammar.specs.Lemmas.Alike.{Within, Stays}
 use Rattle.std.proofs.lemmas.Bool.Decides.{nat_tests}
 use Rattle.std.proofs.lemmas.Grind.{common_steps}

@@ -2,17 +2,10 @@
 use Rattle.std.proofs.Common.{◌≡◌, ℕ, suc, ◌≤◌, ◌<◌, Bool, true, false, cond, List, [], ◌∷◌, ◌++◌, length, Option, Some, None, Ok, Err, refl, ap, subst, ◌∙◌, append_assoc, arith}
 use Rattle.std.specs.Prelude.{codes, is_some, if◌then◌else◌}
 use Rattle.std.specs.Str.{bytes_eq}
-use Rattle.query_tokens.specs.declared.word.Symbol.{Symbol}
+use Rattle.query_grammar.specs.Lemmas.Words.{Symbol, Lexeme, Name, Integer, Text, Sign, Function, Comparison, Test, Is_null, Named, opening, closing, word, IsTest, IsCallArgument, IsCondition, IsAnd, IsNot, IsTested, IsCompared, IsOperand, IsCall, is_reserved, comparison_named, test_word, function_named, is_word, is_sign, symbol_number, Read, Inner, after, filter_at, is_count, argument_at, call_at, function_or_column, enclosed_at, prim_at, with_rest, after_comparison, cmp_at, looked_for, tested, chain_at, test_at, not_at, joined, and_at, or_at, condition_at, conditions}
 use Rattle.query_tokens.specs.declared.word.Symbol.TheVariants as symbols
-use Rattle.query_tokens.specs.Words.{Lexeme, Name, Integer, Text, Sign}
 use Rattle.query_checks.specs.Forms as form
-use Rattle.grouping_model.specs.Aggregates.{Function}
-use Rattle.grouping_model.specs.Condition.{Comparison, Test, Is_null}
-use Rattle.query_grammar.specs.Grammar.{Named, opening, closing, word, IsTest, IsCallArgument, IsCondition, IsAnd, IsNot, IsTested, IsCompared, IsOperand, IsCall}
-use Rattle.query_tokens.specs.Reserved.{is_reserved}
-use Rattle.query_checks.specs.Operators.{comparison_named, test_word}
-use Rattle.query_grammar.specs.Terminals.{function_named, is_word, is_sign, symbol_number}
-use Rattle.query_grammar.specs.Reading.{Read, Fault, Inner, ◌>>=◌, after, filter_at, is_count, argument_at, call_at, function_or_column, word_at, enclosed_at, prim_at, with_rest, after_comparison, cmp_at, looked_for, tested, chain_at, test_at, not_at, joined, and_at, or_at, condition_at, conditions}
+use Rattle.query_grammar.specs.Reading.{Fault, ◌>>=◌, word_at}
 use Rattle.query_grammar.specs.Grammar as grammar
 use Rattle.query_grammar.specs.Lemmas.Alike.{Stays}
 use Rattle.query_grammar.specs.Lemmas.Is_tests.{tested_stays}

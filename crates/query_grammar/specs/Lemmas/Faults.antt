@@ -3,13 +3,8 @@ use Rattle.std.proofs.Common.{◌≡◌, ℕ, suc, false, List, [], ◌∷◌, �
 use Rattle.std.specs.Prelude.{codes}
 use Rattle.std.proofs.lemmas.List.{append-nil}
 use Rattle.query_tokens.specs.declared.word.Symbol.TheVariants as symbols
-use Rattle.query_tokens.specs.Words.{Lexeme}
-use Rattle.query_checks.specs.Order.{Asked}
-use Rattle.query_grammar.specs.Terminals.{is_word, is_sign}
-use Rattle.query_grammar.specs.Grammar.{Named, opening}
-use Rattle.query_grammar.specs.Queries.{IsQuery, Begins}
-use Rattle.query_grammar.specs.Reading.{Read, Unexpected, Too_deep, ◌>>=◌, after, choose, expect}
-use Rattle.query_grammar.specs.Whole.{item_at, list_at, clause_at, keys_at, order_at, nothing_at, end_at, query_at}
+use Rattle.query_grammar.specs.Lemmas.Words.{Lexeme, Asked, is_word, is_sign, Named, opening, IsQuery, Begins, Read, Unexpected, Too_deep, after, choose, expect, item_at, list_at, clause_at, keys_at, order_at, nothing_at, end_at, query_at}
+use Rattle.query_grammar.specs.Reading.{◌>>=◌}
 use Rattle.query_grammar.specs.Laws.{Means, CanBecome, IsUnexpected, IsTooDeep}
 use Rattle.query_grammar.specs.Lemmas.Whole_sound.{Query_part, from_order, from_having, from_keys, from_where, from_items, made, query_means}
 use Rattle.query_grammar.specs.Lemmas.Whole_locality.{none_goes_on, none_goes_deeper}

@@ -1,12 +1,7 @@
 -- Tokens have one first fault, and reading finds it.
 use Rattle.std.proofs.Common.{◌≡◌, ℕ, suc, List, [], ◌∷◌, ◌++◌, ◌+◌, length, Ok, Err, refl, sym, ap, subst, ◌∙◌, arith, append_assoc}
 use Rattle.std.proofs.lemmas.List.{append-nil, length-append}
-use Rattle.query_tokens.specs.Words.{Lexeme}
-use Rattle.query_checks.specs.Order.{Asked}
-use Rattle.query_grammar.specs.Grammar.{opening}
-use Rattle.query_grammar.specs.Queries.{IsQuery, Begins}
-use Rattle.query_grammar.specs.Reading.{Read, Unexpected, Too_deep}
-use Rattle.query_grammar.specs.Whole.{query_at}
+use Rattle.query_grammar.specs.Lemmas.Words.{Lexeme, Asked, opening, IsQuery, Begins, Read, Unexpected, Too_deep, query_at}
 use Rattle.query_grammar.specs.Laws.{NoneGoesOn, IsUnexpected, IsTooDeep}
 use Rattle.query_grammar.specs.Lemmas.Faults.{is_query, is_unexpected, is_too_deep}
 

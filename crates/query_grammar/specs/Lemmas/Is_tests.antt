@@ -2,14 +2,9 @@
 use Rattle.std.proofs.Common.{ℕ, suc, Bool, true, false, List, [], ◌∷◌, ◌++◌, length, Ok, sym, subst}
 use Rattle.std.specs.Prelude.{codes}
 use Rattle.std.proofs.lemmas.List.{append-nil}
-use Rattle.query_tokens.specs.Words.{Lexeme}
-use Rattle.grouping_model.specs.Condition.{Test, Is_null}
+use Rattle.query_grammar.specs.Lemmas.Words.{Lexeme, Test, Is_null, all_tests, test_word, is_word, Named, word, IsTest, Inner, cmp_at, looked_for_among, looked_for, test_behind, tested, chain_at, test_at}
 use Rattle.query_checks.specs.Forms as form
-use Rattle.query_checks.specs.Operators.{all_tests, test_word}
-use Rattle.query_grammar.specs.Terminals.{is_word}
 use Rattle.query_grammar.specs.Grammar as grammar
-use Rattle.query_grammar.specs.Grammar.{Named, word, IsTest}
-use Rattle.query_grammar.specs.Reading.{Inner, cmp_at, looked_for_among, looked_for, test_behind, tested, chain_at, test_at}
 use Rattle.query_grammar.specs.Laws.{Part, Means}
 use Rattle.query_grammar.specs.Lemmas.Steps as steps
 use Rattle.query_grammar.specs.Lemmas.Steps.{bind, mapped, chosen}

@@ -3,19 +3,12 @@ use Rattle.std.proofs.Common.{◌≡◌, ℕ, zero, suc, ◌≤◌, ◌<◌, Boo
 use Rattle.std.specs.Prelude.{codes}
 use Rattle.std.specs.Str.{bytes_eq}
 use Rattle.std.proofs.lemmas.List.{length-append}
-use Rattle.query_tokens.specs.declared.word.Symbol.{Symbol}
+use Rattle.query_grammar.specs.Lemmas.Words.{Symbol, Lexeme, Name, Integer, Text, Sign, is_reserved, Function, Comparison, comparison_named, function_named, is_word, is_sign, Named, opening, Read, Unexpected, Too_deep, Inner, unexpected, expect, filter_at, argument_at, call_at, function_or_column, enclosed_at, prim_at, with_rest, after_comparison, right_side, cmp_at, chain_at}
 use Rattle.query_tokens.specs.declared.word.Symbol.TheVariants as symbols
-use Rattle.query_tokens.specs.Words.{Lexeme, Name, Integer, Text, Sign}
-use Rattle.query_tokens.specs.Reserved.{is_reserved}
 use Rattle.grouping_model.specs.Datum as datum
 use Rattle.grouping_model.specs.Aggregates as function
-use Rattle.grouping_model.specs.Aggregates.{Function}
-use Rattle.grouping_model.specs.Condition.{Comparison}
 use Rattle.query_checks.specs.Forms as form
-use Rattle.query_checks.specs.Operators.{comparison_named}
-use Rattle.query_grammar.specs.Terminals.{function_named, is_word, is_sign}
-use Rattle.query_grammar.specs.Grammar.{Named, opening}
-use Rattle.query_grammar.specs.Reading.{Read, Unexpected, Too_deep, Inner, ◌>>=◌, unexpected, expect, name_at, filter_at, argument_at, call_at, function_or_column, word_at, enclosed_at, prim_at, with_rest, after_comparison, right_side, cmp_at, chain_at}
+use Rattle.query_grammar.specs.Reading.{◌>>=◌, name_at, word_at}
 use Rattle.query_grammar.specs.Laws.{Part, Means}
 use Rattle.query_grammar.specs.Lemmas.Sound.{Name_part, InnerMeans, name_means, prim_means}
 use Rattle.query_grammar.specs.Lemmas.Alike.{Tails, none, both, Within, Stays, Alike, same, refused, deep, past, deeper, Agree, within_more, past_within, within_bind, within_chosen, alike_bind, alike_choose, done, binds, chooses, expects, maps}

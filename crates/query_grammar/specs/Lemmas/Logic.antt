@@ -2,12 +2,10 @@
 use Rattle.std.proofs.Common.{◌≡◌, ℕ, zero, suc, Bool, true, false, cond, List, [], ◌∷◌, ◌++◌, length, Ok, refl, sym, ap, subst, ◌≤◌, ◌<◌, Err, arith}
 use Rattle.std.specs.Prelude.{codes}
 use Rattle.std.proofs.lemmas.List.{append-nil, length-append}
-use Rattle.query_tokens.specs.Words.{Lexeme}
+use Rattle.query_grammar.specs.Lemmas.Words.{Lexeme, is_word, Named, word, Read, Inner, chain_at, test_at, not_at, joined, and_at, or_at, nested_at, condition_at, conditions, Unexpected, Too_deep}
 use Rattle.query_checks.specs.Forms as form
-use Rattle.query_grammar.specs.Terminals.{is_word}
 use Rattle.query_grammar.specs.Grammar as grammar
-use Rattle.query_grammar.specs.Grammar.{Named, word}
-use Rattle.query_grammar.specs.Reading.{Read, Inner, ◌>>=◌, chain_at, test_at, not_at, joined, and_at, or_at, nested_at, condition_at, conditions, Unexpected, Too_deep}
+use Rattle.query_grammar.specs.Reading.{◌>>=◌}
 use Rattle.query_grammar.specs.Laws.{Part, Means}
 use Rattle.query_grammar.specs.Lemmas.Marks.{the_word}
 use Rattle.query_grammar.specs.Lemmas.Steps as steps

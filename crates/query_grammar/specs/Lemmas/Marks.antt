@@ -4,10 +4,8 @@ use Rattle.std.proofs.Common.{◌≡◌, ◌∙◌, ℕ, true, List, [], ◌∷�
 use Rattle.std.specs.Str.{bytes_eq}
 use Rattle.std.proofs.lemmas.Bool.{eqb-true, false≢true}
 use Rattle.std.proofs.lemmas.Slice.Eq.{bytes_eq-Decides}
-use Rattle.query_tokens.specs.declared.word.Symbol.{Symbol}
+use Rattle.query_grammar.specs.Lemmas.Words.{Symbol, Lexeme, Name, Sign, symbol_number, is_word, is_sign}
 use Rattle.query_tokens.specs.declared.word.Symbol.TheVariants as symbols
-use Rattle.query_tokens.specs.Words.{Lexeme, Name, Sign}
-use Rattle.query_grammar.specs.Terminals.{symbol_number, is_word, is_sign}
 
 pub same_bytes : (v w : List ℕ) → bytes_eq v w ≡ true → v ≡ w
 same_bytes v w h = (bytes_eq-Decides v w).0 h

@@ -1,24 +1,19 @@
 -- Checked queries are told apart by their texts.
 use Rattle.std.specs.Prelude.{◌≡◌, Result, Ok, Err}
 use Rattle.std.proofs.Common.{sym, ◌∙◌, ap, subst}
-use Rattle.query_tokens.specs.Tokens.{tokens_in}
-use Rattle.query_tokens.specs.Spelling.{lexemes_of}
-use Rattle.packed_rows.specs.Columns.{IsSchemaText, printed}
+use Rattle.query_grammar.specs.Lemmas.Words.{tokens_in, lexemes_of, IsSchemaText, checked, Checked, spelling, Asked, most_open, IsQuery}
+use Rattle.packed_rows.specs.Columns.{printed}
 use Rattle.packed_rows.specs.PrintedLaws.{one_schema}
 use Rattle.packed_rows.specs.Lemmas.PrintedColumns.{printed_again}
-use Rattle.query_checks.specs.Checks.{checked, Checked}
 use Rattle.having_filter.specs.Kept as kept
 use Rattle.having_filter.specs.Kept.{by_names}
-use Rattle.query_checks.specs.Spelling.{spelling}
 use Rattle.having_filter.specs.Lemmas.PassedLaws.{passes_first, passes_places}
 use Rattle.having_filter.specs.NormalLaws.{columns_of_query}
 use Rattle.having_filter.specs.Lemmas.NormalLaws.{asked_again}
 use Rattle.std.specs.List.{AllByRecursion}
-use Rattle.query_checks.specs.Order.{Asked}
 use Rattle.query_checks.specs.Writable.{IsTerm}
 use Rattle.query_grammar.specs.Canonical.{canonical}
 use Rattle.query_grammar.specs.Laws.{IsSpelled}
-use Rattle.query_grammar.specs.Queries.{most_open, IsQuery}
 use Rattle.query_grammar.specs.Lemmas.PrintedQuery.{text_says}
 use Rattle.query_grammar.specs.Lemmas.Whole_complete.{one_query}
 

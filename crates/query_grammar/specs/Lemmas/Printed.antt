@@ -2,25 +2,14 @@
 use Rattle.std.proofs.Common.{◌≡◌, ℕ, zero, suc, ◌+◌, ◌≤◌, Bool, true, false, cond, List, [], ◌∷◌, ◌++◌, Option, Some, None, refl, sym, subst, append_assoc, arith}
 use Rattle.std.specs.Prelude.{codes, nat_lt, nat_le, max}
 use Rattle.std.proofs.lemmas.Bool.{ltb-false, leb-true, and_parts}
-use Rattle.query_tokens.specs.declared.word.Symbol.{Symbol}
+use Rattle.query_grammar.specs.Lemmas.Words.{Symbol, Lexeme, Name, Integer, Text, Sign, IsName, is_reserved, IsColumnName, Function, function_name, call_text, level, operand, spelled, depth, filters_pass, IsWritableArgument, IsLiteral, IsForm, comparison_named, comparison_text, symbol_for, test_text, test_word, function_named, Named, opening, closing, word, IsTest, IsCondition, IsAnd, IsNot, IsTested, IsCompared, IsOperand, IsCall}
 use Rattle.query_tokens.specs.declared.word.Symbol.TheVariants as symbols
-use Rattle.query_tokens.specs.Words.{Lexeme, Name, Integer, Text, Sign}
-use Rattle.query_tokens.specs.Spelling.{IsName}
-use Rattle.query_tokens.specs.Reserved.{is_reserved}
-use Rattle.packed_rows.specs.Columns.{IsColumnName}
 use Rattle.grouping_model.specs.Datum as datum
 use Rattle.grouping_model.specs.Datum.{Datum}
 use Rattle.grouping_model.specs.Aggregates as function
-use Rattle.grouping_model.specs.Aggregates.{Function}
 use Rattle.grouping_model.specs.Condition as model
 use Rattle.query_checks.specs.Forms as form
-use Rattle.query_checks.specs.Spelling.{function_name, call_text, level, operand, spelled}
-use Rattle.query_checks.specs.Checks.{depth, filters_pass}
-use Rattle.query_checks.specs.Writable.{IsWritableArgument, IsLiteral, IsForm}
-use Rattle.query_checks.specs.Operators.{comparison_named, comparison_text, symbol_for, test_text, test_word}
-use Rattle.query_grammar.specs.Terminals.{function_named}
 use Rattle.query_grammar.specs.Grammar as grammar
-use Rattle.query_grammar.specs.Grammar.{Named, opening, closing, word, IsTest, IsCondition, IsAnd, IsNot, IsTested, IsCompared, IsOperand, IsCall}
 use Rattle.query_grammar.specs.Lemmas.Texts.{reads_space, reads_spelled, never_first, Quiet, Spells, Opens, spells_lexeme, spells_two, opens_then, spells_between, spells_enclosed, spells_word, opens_word, opens_between, opens_two, spells_test}
 use Rattle.std.proofs.lemmas.Bool.Decides.{nat_tests}
 use Rattle.std.proofs.lemmas.Grind.{common_steps}

@@ -7,22 +7,14 @@ use Rattle.std.specs.Option.{ForSome, option_map_or}
 use Rattle.std.proofs.lemmas.Bool.{leb-true, and_parts}
 use Rattle.std.proofs.lemmas.List.{append-nil}
 use Rattle.query_tokens.specs.declared.word.Symbol.TheVariants as symbols
-use Rattle.query_tokens.specs.Words.{Lexeme, Name, Integer, Sign}
-use Rattle.query_tokens.specs.Spelling.{spell}
-use Rattle.packed_rows.specs.Columns.{IsColumnName}
+use Rattle.query_grammar.specs.Lemmas.Words.{Lexeme, Name, Integer, Sign, spell, IsColumnName, Asked, order_of, function_name, spelled, own_name, kept_alias, alias_text, item_text, parted, clause_text, keys_text, nulls_said, canonical_term, direction_text, term_text, order_text, spelling, depth, is_shallow, are_shallow, filters_pass, all_of, IsForm, IsColumnOrCall, IsWritable, Named, opening, closing, word, most_open, IsItemValue, IsAlias, IsItem, IsKey, IsListOf, IsClause, IsKeys, IsDirection, IsNulls, IsOrder, IsQuery, tokens_in}
 use Rattle.query_checks.specs.Forms as form
 use Rattle.query_checks.specs.declared.order.OrderTerm.{OrderTerm}
-use Rattle.query_checks.specs.Order.{Asked, order_of}
 use Rattle.grouping_model.specs.declared.limits.TheConstants.{DEEPEST_CONDITION}
 use Rattle.query_checks.specs.Sameness.{first_of_each}
-use Rattle.query_checks.specs.Spelling.{function_name, spelled, own_name, kept_alias, alias_text, item_text, parted, clause_text, keys_text, nulls_said, canonical_term, direction_text, term_text, order_text, spelling}
-use Rattle.query_checks.specs.Checks.{depth, is_shallow, are_shallow, filters_pass, all_of}
 use Rattle.query_checks.specs.Writable as writable
-use Rattle.query_checks.specs.Writable.{IsForm, IsColumnOrCall, IsWritable}
-use Rattle.query_grammar.specs.Grammar.{Named, opening, closing, word}
 use Rattle.query_grammar.specs.Queries as grammar
-use Rattle.query_grammar.specs.Queries.{most_open, IsItemValue, IsAlias, IsItem, IsKey, IsListOf, IsClause, IsKeys, IsDirection, IsNulls, IsTerm, IsOrder, IsQuery}
-use Rattle.query_tokens.specs.Tokens.{tokens_in}
+use Rattle.query_grammar.specs.Queries.{IsTerm}
 use Rattle.packed_rows.specs.PrintedLaws.{read_ok}
 use Rattle.query_checks.specs.DistinctLaws.{all_distinct}
 use Rattle.query_grammar.specs.Laws.{IsSpelled}

@@ -4,20 +4,13 @@ use Rattle.std.proofs.Common.{◌≡◌, ℕ, zero, suc, Bool, true, false, cond
 use Rattle.std.specs.Prelude.{codes}
 use Rattle.std.specs.Str.{bytes_eq}
 use Rattle.std.proofs.lemmas.List.{append-nil}
-use Rattle.query_tokens.specs.declared.word.Symbol.{Symbol}
+use Rattle.query_grammar.specs.Lemmas.Words.{Symbol, Lexeme, Name, Integer, Text, Sign, is_reserved, Function, Comparison, comparison_named, function_named, is_word, is_sign, Named, opening, closing, word, IsCallArgument, IsCondition, IsAnd, IsNot, IsTested, IsCompared, IsOperand, IsCall, Read, Inner, unexpected, expect, filter_at, argument_at, call_at, function_or_column, enclosed_at, prim_at, with_rest, after_comparison, right_side, cmp_at, chain_at}
 use Rattle.query_tokens.specs.declared.word.Symbol.TheVariants as symbols
-use Rattle.query_tokens.specs.Words.{Lexeme, Name, Integer, Text, Sign}
-use Rattle.query_tokens.specs.Reserved.{is_reserved}
 use Rattle.grouping_model.specs.Datum as datum
 use Rattle.grouping_model.specs.Aggregates as function
-use Rattle.grouping_model.specs.Aggregates.{Function}
-use Rattle.grouping_model.specs.Condition.{Comparison}
 use Rattle.query_checks.specs.Forms as form
-use Rattle.query_checks.specs.Operators.{comparison_named}
-use Rattle.query_grammar.specs.Terminals.{function_named, is_word, is_sign}
 use Rattle.query_grammar.specs.Grammar as grammar
-use Rattle.query_grammar.specs.Grammar.{Named, opening, closing, word, IsCallArgument, IsCondition, IsAnd, IsNot, IsTested, IsCompared, IsOperand, IsCall}
-use Rattle.query_grammar.specs.Reading.{Read, Inner, ◌>>=◌, unexpected, expect, name_at, filter_at, argument_at, call_at, function_or_column, word_at, enclosed_at, prim_at, with_rest, after_comparison, right_side, cmp_at, chain_at}
+use Rattle.query_grammar.specs.Reading.{◌>>=◌, name_at, word_at}
 use Rattle.query_grammar.specs.Laws.{Part, Means, CanBecome}
 use Rattle.query_grammar.specs.Lemmas.Marks.{the_word, same_bytes, the_sign}
 use Rattle.query_grammar.specs.Lemmas.Steps.{behind, done, refused, widen, weaken, bind, mapped, chosen, expected}

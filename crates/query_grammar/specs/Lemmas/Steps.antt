@@ -1,8 +1,7 @@
 -- How the meaning of reading goes through the steps that readers are made of.
 use Rattle.std.proofs.Common.{◌≡◌, Bool, true, false, cond, List, [], ◌∷◌, ◌++◌, Some, None, Ok, Err, refl, sym, ap, subst, ◌∙◌, append_assoc, arith}
-use Rattle.query_tokens.specs.Words.{Lexeme}
-use Rattle.query_grammar.specs.Grammar.{opening}
-use Rattle.query_grammar.specs.Reading.{Read, Unexpected, Too_deep, ◌>>=◌, unexpected, after, choose, expect}
+use Rattle.query_grammar.specs.Lemmas.Words.{Lexeme, opening, Read, Unexpected, Too_deep, unexpected, after, choose, expect}
+use Rattle.query_grammar.specs.Reading.{◌>>=◌}
 use Rattle.query_grammar.specs.Laws.{Part, Means, MeansThat, CanBecome}
 use Rattle.std.proofs.lemmas.Bool.Decides.{nat_tests}
 use Rattle.std.proofs.lemmas.Grind.{common_steps}

@@ -1,15 +1,10 @@
 -- What is read as a term of ORDER BY is in the grammar and the other way round, and it is read alike before two tails.
 use Rattle.std.proofs.Common.{◌≡◌, ℕ, Bool, true, false, cond, List, [], ◌∷◌, ◌++◌, Option, Some, None, Ok, refl, append_assoc, arith}
 use Rattle.std.specs.Prelude.{codes}
-use Rattle.query_tokens.specs.Words.{Lexeme, Name, Integer, Text, Sign}
-use Rattle.query_tokens.specs.Reserved.{is_reserved}
-use Rattle.query_checks.specs.Order.{Target, By_name, By_place, Term}
-use Rattle.query_grammar.specs.Terminals.{is_word}
-use Rattle.query_grammar.specs.Grammar.{word}
+use Rattle.query_grammar.specs.Lemmas.Words.{Lexeme, Name, Integer, Text, Sign, is_reserved, Target, By_name, By_place, Term, is_word, word, IsTarget, IsDirection, IsNulls, Read, unexpected, after, choose, target_at, direction_at, first_or_last, nulls_at, term_at}
 use Rattle.query_grammar.specs.Queries as grammar
-use Rattle.query_grammar.specs.Queries.{IsTarget, IsDirection, IsNulls, IsTerm}
-use Rattle.query_grammar.specs.Reading.{Read, ◌>>=◌, unexpected, after, choose}
-use Rattle.query_grammar.specs.Whole.{target_at, direction_at, first_or_last, nulls_at, term_at}
+use Rattle.query_grammar.specs.Queries.{IsTerm}
+use Rattle.query_grammar.specs.Reading.{◌>>=◌}
 use Rattle.query_grammar.specs.Laws.{Part, Means, CanBecome}
 use Rattle.query_grammar.specs.Lemmas.Steps.{behind, done, refused, widen, bind, mapped, chosen}
 use Rattle.query_grammar.specs.Lemmas.Sound.{a_name, word_law}

@@ -7,18 +7,15 @@ use Rattle.std.proofs.Math.Seq.{take-append_seam, drop-append_seam}
 use Rattle.std.proofs.lemmas.Bool.{and_parts, false≢true, le-ltb, leb-true}
 use Rattle.std.proofs.lemmas.List.{length-drop}
 use Rattle.query_tokens.specs.declared.fault.Fault.{Fault}
-use Rattle.query_tokens.specs.Words.{Lexeme, Name, Placed}
+use Rattle.query_grammar.specs.Lemmas.Words.{Lexeme, Name, Placed, tokens_at, IsLexeme, EndsBefore, spell, lexemes_read, runs_on, test_text, test_word, opening, closing}
 use Rattle.query_tokens.specs.Bytes.{first_is, is_space, begins_name, is_in_name}
-use Rattle.query_tokens.specs.Tokens.{◌>>=◌, name_at, word_at, tokens_at}
-use Rattle.query_tokens.specs.Spelling.{IsLexeme, EndsBefore, spell, lexemes_read, runs_on}
+use Rattle.query_tokens.specs.Tokens.{◌>>=◌, name_at, word_at}
 use Rattle.query_tokens.specs.Lemmas.Steps.{passes, word_end}
 use Rattle.query_tokens.specs.Lemmas.Respelled.{run_length, word_again}
 use Rattle.query_tokens.specs.Lemmas.Pieces.{IsSolid, spell_solid}
 use Rattle.query_tokens.specs.EndLaws.{before_others}
 use Rattle.grouping_model.specs.declared.limits.TheConstants.{LONGEST_NAME}
 use Rattle.grouping_model.specs.Condition as model
-use Rattle.query_checks.specs.Operators.{test_text, test_word}
-use Rattle.query_grammar.specs.Grammar.{opening, closing}
 use Rattle.std.proofs.lemmas.Bool.Decides.{nat_tests}
 use Rattle.std.proofs.lemmas.Grind.{common_steps}
 

@@ -4,17 +4,11 @@ use Rattle.std.specs.Prelude.{codes}
 use Rattle.std.specs.Str.{bytes_eq}
 use Rattle.std.proofs.lemmas.List.{length-append}
 use Rattle.query_tokens.specs.declared.word.Symbol.TheVariants as symbols
-use Rattle.query_tokens.specs.Words.{Lexeme, Name, Sign}
-use Rattle.query_grammar.specs.Grammar.{Named, word, IsCall}
-use Rattle.query_checks.specs.Order.{Term, Asked}
-use Rattle.query_tokens.specs.Reserved.{is_reserved}
-use Rattle.query_checks.specs.Operators.{comparison_named}
-use Rattle.query_grammar.specs.Terminals.{function_named, is_word, is_sign, symbol_number}
-use Rattle.query_grammar.specs.Reading.{Read, after, name_at, prim_at, conditions}
-use Rattle.query_grammar.specs.Whole.{item_value_at, alias_or_none, alias_at, item_at, list_at, clause_at, keys_at, term_at, order_at, end_at, query_at}
+use Rattle.query_grammar.specs.Lemmas.Words.{Lexeme, Name, Sign, Named, word, IsCall, Term, Asked, is_reserved, comparison_named, function_named, is_word, is_sign, symbol_number, Read, after, prim_at, conditions, item_value_at, alias_or_none, alias_at, item_at, list_at, clause_at, keys_at, term_at, order_at, end_at, query_at, IsItemValue, IsAlias, IsItem, IsKey, IsListOf, IsClause, IsKeys, IsOrder, IsEnd, IsQuery}
+use Rattle.query_grammar.specs.Reading.{name_at}
 use Rattle.query_grammar.specs.Grammar as conditions
 use Rattle.query_grammar.specs.Queries as grammar
-use Rattle.query_grammar.specs.Queries.{IsItemValue, IsAlias, IsItem, IsKey, IsListOf, IsClause, IsKeys, IsTerm, IsOrder, IsEnd, IsQuery}
+use Rattle.query_grammar.specs.Queries.{IsTerm}
 use Rattle.query_grammar.specs.Lemmas.Complete.{sign_rank, rank, Stops, column_reads, not_this, word_free, condition_reads, function_call_reads}
 use Rattle.query_grammar.specs.Lemmas.Terms.{Closes, term_reads}
 

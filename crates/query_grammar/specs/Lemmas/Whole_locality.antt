@@ -3,14 +3,8 @@ use Rattle.std.proofs.Common.{◌≡◌, ℕ, zero, suc, ◌≤◌, ◌<◌, Boo
 use Rattle.std.specs.Prelude.{codes}
 use Rattle.std.proofs.lemmas.List.{length-append, append-nil}
 use Rattle.query_tokens.specs.declared.word.Symbol.TheVariants as symbols
-use Rattle.query_tokens.specs.Words.{Lexeme, Name, Integer, Text, Sign}
-use Rattle.query_tokens.specs.Reserved.{is_reserved}
-use Rattle.query_checks.specs.Order.{Term, Asked}
-use Rattle.query_grammar.specs.Terminals.{is_word, is_sign}
-use Rattle.query_grammar.specs.Grammar.{Named}
-use Rattle.query_grammar.specs.Queries.{Begins}
-use Rattle.query_grammar.specs.Reading.{Read, Unexpected, Too_deep, ◌>>=◌, after, choose, expect, name_at, condition_at, conditions}
-use Rattle.query_grammar.specs.Whole.{item_value_at, alias_or_none, alias_at, item_at, list_at, clause_at, keys_at, term_at, order_at, nothing_at, end_at, query_at}
+use Rattle.query_grammar.specs.Lemmas.Words.{Lexeme, Name, Integer, Text, Sign, is_reserved, Term, Asked, is_word, is_sign, Named, Begins, Read, Unexpected, Too_deep, after, choose, expect, condition_at, conditions, item_value_at, alias_or_none, alias_at, item_at, list_at, clause_at, keys_at, term_at, order_at, nothing_at, end_at, query_at}
+use Rattle.query_grammar.specs.Reading.{◌>>=◌, name_at}
 use Rattle.query_grammar.specs.Laws.{NoneGoesOn}
 use Rattle.query_grammar.specs.Lemmas.Whole_sound.{Value_part, Alias_part, value_means, alias_or_none_means, from_order, from_having, from_keys, from_where, from_items, made}
 use Rattle.query_grammar.specs.Lemmas.Terms.{terms_agree}

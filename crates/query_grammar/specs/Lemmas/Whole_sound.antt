@@ -3,17 +3,10 @@ use Rattle.std.proofs.Common.{◌≡◌, ℕ, zero, suc, pos, Bool, true, false,
 use Rattle.std.specs.Prelude.{codes}
 use Rattle.std.proofs.lemmas.List.{append-nil}
 use Rattle.query_tokens.specs.declared.word.Symbol.TheVariants as symbols
-use Rattle.query_tokens.specs.Words.{Lexeme, Name, Integer, Text, Sign}
-use Rattle.query_tokens.specs.Reserved.{is_reserved}
-use Rattle.grouping_model.specs.Aggregates.{Function}
+use Rattle.query_grammar.specs.Lemmas.Words.{Lexeme, Name, Integer, Text, Sign, is_reserved, Function, By_place, Term, Asked, function_named, is_word, is_sign, Named, opening, word, IsItemValue, IsAlias, IsItem, IsKey, IsListOf, IsClause, IsKeys, IsOrder, IsEnd, IsQuery, Read, unexpected, after, choose, expect, call_at, function_or_column, condition_at, conditions, item_value_at, alias_or_none, alias_at, item_at, list_at, clause_at, keys_at, term_at, order_at, nothing_at, end_at, query_at}
 use Rattle.query_checks.specs.Forms as form
-use Rattle.query_checks.specs.Order.{By_place, Term, Asked}
-use Rattle.query_grammar.specs.Terminals.{function_named, is_word, is_sign}
-use Rattle.query_grammar.specs.Grammar.{Named, opening, word}
 use Rattle.query_grammar.specs.Queries as grammar
-use Rattle.query_grammar.specs.Queries.{IsItemValue, IsAlias, IsItem, IsKey, IsListOf, IsClause, IsKeys, IsOrder, IsEnd, IsQuery}
-use Rattle.query_grammar.specs.Reading.{Read, ◌>>=◌, unexpected, after, choose, expect, name_at, call_at, function_or_column, condition_at, conditions}
-use Rattle.query_grammar.specs.Whole.{item_value_at, alias_or_none, alias_at, item_at, list_at, clause_at, keys_at, term_at, order_at, nothing_at, end_at, query_at}
+use Rattle.query_grammar.specs.Reading.{◌>>=◌, name_at}
 use Rattle.query_grammar.specs.Laws.{Part, Means, CanBecome}
 use Rattle.query_grammar.specs.Lemmas.Marks.{the_sign}
 use Rattle.query_grammar.specs.Lemmas.Steps.{behind, done, refused, widen, weaken, bind, mapped, chosen, expected}

@@ -6,19 +6,11 @@ use Rattle.std.specs.Str.{bytes_eq}
 use Rattle.std.specs.List.{AllByRecursion}
 use Rattle.std.specs.Option.{ForSome}
 use Rattle.query_tokens.specs.declared.word.Symbol.TheVariants as symbols
-use Rattle.query_tokens.specs.Words.{Lexeme, Sign}
-use Rattle.query_tokens.specs.Spelling.{IsLexeme}
-use Rattle.grouping_model.specs.Aggregates.{Function}
-use Rattle.query_checks.specs.Spelling.{Argument, Each_row, Any_value, Values_of, signature, functions, is_value, is_named}
-use Rattle.packed_rows.specs.Columns.{IsColumnName}
-use Rattle.query_checks.specs.Order.{Target, Term, Asked}
+use Rattle.query_grammar.specs.Lemmas.Words.{Lexeme, Sign, IsLexeme, Function, Argument, Each_row, Any_value, Values_of, signature, functions, is_value, is_named, IsColumnName, Target, Term, Asked, IsForm, IsColumnOrCall, CanBeAsked, function_named, Named, opening, closing, word, IsCallArgument, IsCondition, IsAnd, IsNot, IsTested, IsCompared, IsOperand, IsCall, IsItemValue, IsAlias, IsItem, IsKey, IsListOf, IsClause, IsKeys, IsTarget, IsOrder, IsQuery}
 use Rattle.query_checks.specs.Writable as writable
-use Rattle.query_checks.specs.Writable.{IsForm, IsColumnOrCall, CanBeAsked}
-use Rattle.query_grammar.specs.Terminals.{function_named}
 use Rattle.query_grammar.specs.Grammar as grammar
-use Rattle.query_grammar.specs.Grammar.{Named, opening, closing, word, IsCallArgument, IsCondition, IsAnd, IsNot, IsTested, IsCompared, IsOperand, IsCall}
 use Rattle.query_grammar.specs.Queries as queries
-use Rattle.query_grammar.specs.Queries.{IsItemValue, IsAlias, IsItem, IsKey, IsListOf, IsClause, IsKeys, IsTarget, IsTerm, IsOrder, IsQuery}
+use Rattle.query_grammar.specs.Queries.{IsTerm}
 
 abbrev Legal : List Lexeme → Type 0
 Legal ts = AllByRecursion IsLexeme ts

@@ -7,21 +7,7 @@ use Rattle.std.specs.List.{AllByRecursion}
 use Rattle.std.specs.List.Sorted.{IsStrictlySortedBy}
 use Rattle.std.specs.Ordering.{nat_cmp}
 use Rattle.std.specs.declared.cmp.Ordering.TheVariants.{Less}
-use Rattle.list_laws.specs.Each.{each_weaker}
-use Rattle.grouping_model.specs.Datum.{Datum, Kind, Row, HasKind, HasKinds, Null, Bigint, Boolean, Text, Bigint_kind, Boolean_kind, Text_kind}
-use Rattle.grouping_model.specs.Grouping.{Group}
-use Rattle.grouping_model.specs.Query.{Query}
-use Rattle.grouping_model.specs.declared.limits.TheConstants.{LAST_NUMBER, LAST_ORIGIN, MOST_ROWS, MOST_COLUMNS}
-use Rattle.packed_rows.specs.Columns.{Column, kinds, names, printed, column_text, kind_text, AreColumns, IsColumnName}
-use Rattle.packed_rows.specs.Packing.{packing, value_packing}
-use Rattle.batch_reader.specs.Rows.{packings}
-use Rattle.having_filter.specs.Kept.{IsCheckedQuery, key_kinds}
-use Rattle.query_checks.specs.Checks.{Checked}
-use Rattle.having_filter.specs.Meaning.{meaning}
-use Rattle.group_runs.specs.Runs.{Entry}
-use Rattle.group_runs.specs.Standing.{AreGroups}
-use Rattle.origin_prefix.specs.Parts.{Part, IsEarly, IsPartOf}
-use Rattle.origin_prefix.specs.Held.{Parts, IsHeldPart, AreHeldParts}
+use Rattle.summary_codec.specs.Lemmas.Words.{each_weaker, Datum, Kind, Row, HasKind, HasKinds, Null, Bigint, Boolean, Text, Bigint_kind, Boolean_kind, Text_kind, Group, Query, LAST_NUMBER, LAST_ORIGIN, MOST_ROWS, MOST_COLUMNS, Column, kinds, names, printed, column_text, kind_text, AreColumns, IsColumnName, packing, value_packing, packings, IsCheckedQuery, key_kinds, Checked, meaning, Entry, AreGroups, Part, IsEarly, IsPartOf, Parts, IsHeldPart, AreHeldParts}
 use Rattle.summary_codec.specs.Short.{IsShort, HaveShortKeys, IsShortBatch, IsShortPart}
 
 -- ---- packed values and rows

@@ -4,23 +4,10 @@ use Rattle.std.proofs.lemmas.List.{length-append}
 use Rattle.std.specs.Prelude.{IsUtf8}
 use Rattle.std.specs.Ordering.{nat_cmp}
 use Rattle.std.specs.Cmp.Lexicographic.{slice_cmp}
-use Rattle.grouping_model.specs.Datum.{Kind}
-use Rattle.grouping_model.specs.Query.{Query}
-use Rattle.grouping_model.specs.declared.limits.TheConstants.{LAST_ORIGIN}
-use Rattle.packed_rows.specs.Columns.{Column, kinds, printed}
+use Rattle.summary_codec.specs.Lemmas.Words.{Kind, Query, LAST_ORIGIN, Column, kinds, printed, by_names, key_kinds, Checked, meaning, spelling, Entry, packed_keys, Part, Parts, opening, last_number, most_batch_rows, Version, IsSummaryIn, IsSummary, HasFault, Outcome, Reader, done, both, must, taken, number, number_within, sized, each, IsNext, IsPacking, AreStateBytes, states_width, MayFollow, IsCutShort, row, batch, batches, contents, columns_in, query_in, text, schema, query, opened, ended, parts, heading, rest, body, summary, SummaryError}
 use Rattle.packed_rows.specs.PrintedLaws.{one_schema}
-use Rattle.having_filter.specs.Kept.{by_names, key_kinds}
-use Rattle.query_checks.specs.Checks.{Checked}
-use Rattle.having_filter.specs.Meaning.{meaning}
-use Rattle.query_checks.specs.Spelling.{spelling}
 use Rattle.group_parser.specs.Lemmas.ParseLaws.{one_accepted, one_refused, not_both}
-use Rattle.group_runs.specs.Runs.{Entry, packed_keys}
-use Rattle.origin_prefix.specs.Parts.{Part}
-use Rattle.origin_prefix.specs.Held.{Parts}
-use Rattle.summary_codec.specs.Versions.{opening, last_number, most_batch_rows}
-use Rattle.summary_codec.specs.declared.version.Version.{Version}
-use Rattle.summary_codec.specs.Reading.{IsSummaryIn, IsSummary, HasFault, Outcome, Reader, done, both, must, taken, number, number_within, sized, each, IsNext, IsPacking, AreStateBytes, states_width, MayFollow, IsCutShort, group, row, batch, batches, contents, part, columns_in, query_in, text, schema, query, opened, ended, parts, heading, rest, body, summary}
-use Rattle.summary_codec.specs.declared.error.SummaryError.{SummaryError}
+use Rattle.summary_codec.specs.Reading.{group, part}
 use Rattle.summary_codec.specs.declared.error.SummaryError.TheVariants as fault
 use Rattle.summary_codec.specs.declared.error.SummaryError.TheVariants.{NotASummary, Truncated, NotCanonical, OutOfRange, BadPacked, BadState}
 use Rattle.summary_codec.specs.Lemmas.TotalLaws.{AreBytes, LeavesBytes, HasOutcome, some_done, some_both, some_must, some_taken, some_number, some_each, some_columns, some_query_in, some_opened, some_ended}

@@ -1,27 +1,17 @@
 -- A query that was read passed the checks, and its text is UTF-8.
 use Rattle.std.specs.Prelude.{◌≡◌, refl, ℕ, ◌++◌, List, Result, Ok, Err, IsUtf8}
 use Rattle.std.proofs.Common.{sym, ◌∙◌, ap, subst}
-use Rattle.packed_rows.specs.Columns.{Column, AreColumns, kinds}
+use Rattle.summary_codec.specs.Lemmas.Words.{Column, AreColumns, kinds, Checked, checked, are_plain, is_grouped, kinds_fit, placed, spelling, IsCheckedQuery, by_names, Accepts, query_checked, asked_checked, asked_in, Parts, text, schema, query, heading, body, IsSummaryIn, IsSummary, IsSaved, file_bytes, body_bytes, opening, Version, Second}
 use Rattle.query_checks.specs.declared.error.QueryError.{QueryError}
 use Rattle.query_checks.specs.Forms.{Written}
 use Rattle.query_checks.specs.Order.{Asked, is_ambiguously_ordered}
-use Rattle.query_checks.specs.Checks.{Checked, checked, are_plain, is_grouped, kinds_fit, placed}
 use Rattle.query_checks.specs.Lemmas.CheckedLaws.{gives_checked}
 use Rattle.query_checks.specs.CheckedLaws.{reaches_places}
-use Rattle.query_checks.specs.Spelling.{spelling}
 use Rattle.query_checks.specs.Writable.{IsWritable}
-use Rattle.having_filter.specs.Kept.{IsCheckedQuery, by_names}
 use Rattle.having_filter.specs.Lemmas.PassedLaws.{passes_first, by_places}
 use Rattle.having_filter.specs.Lemmas.WellLaws.{passed_query}
 use Rattle.group_parser.specs.declared.error.ParseError.{ParseError}
-use Rattle.group_parser.specs.Parsing.{Accepts, query_checked, asked_checked, asked_in}
 use Rattle.group_parser.specs.Lemmas.ParseLaws.{accepts_parses, can_be_written}
-use Rattle.origin_prefix.specs.Held.{Parts}
-use Rattle.summary_codec.specs.Reading.{text, schema, query, heading, body, IsSummaryIn, IsSummary, IsSaved}
-use Rattle.summary_codec.specs.File.{file_bytes, body_bytes}
-use Rattle.summary_codec.specs.Versions.{opening}
-use Rattle.summary_codec.specs.declared.version.Version.{Version}
-use Rattle.summary_codec.specs.declared.version.Version.TheVariants.{Second}
 use Rattle.summary_codec.specs.Lemmas.SpelledRead.{spelled}
 use Rattle.summary_codec.specs.Lemmas.TextLaws.{schema_text}
 use Rattle.summary_codec.specs.Lemmas.VersionLaws.{held_within, one_body}

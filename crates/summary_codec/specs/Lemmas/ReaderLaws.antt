@@ -5,9 +5,7 @@ use Rattle.std.proofs.Math.Seq.{take-append_seam, drop-append_seam}
 use Rattle.std.specs.Int.{bytes_high_first}
 use Rattle.byteorder.specs.Numbers.{length-bytes_high_first}
 use Rattle.agg_protocol.specs.ByteLaws.{reads}
-use Rattle.summary_codec.specs.File.{sized_bytes}
-use Rattle.summary_codec.specs.Reading.{Outcome, Reader, done, both, must, taken, number, number_within, sized, each}
-use Rattle.summary_codec.specs.declared.error.SummaryError.{SummaryError}
+use Rattle.summary_codec.specs.Lemmas.Words.{sized_bytes, Outcome, Reader, done, both, must, taken, number, number_within, sized, each, SummaryError}
 
 -- ---- one outcome
 

@@ -8,24 +8,20 @@ use Rattle.std.specs.declared.cmp.Ordering.TheVariants.{Less, Equal, Greater}
 use Rattle.std.specs.Ordering.{match_ordering}
 use Rattle.std.specs.List.{AllByRecursion}
 use Rattle.std.specs.List.Sorted.{IsStrictlySortedBy}
-use Rattle.grouping_model.specs.Datum.{Datum, Kind, Row, HasKinds, row_cmp, same_row}
+use Rattle.summary_codec.specs.Lemmas.Words.{Datum, Kind, Row, HasKinds, row_cmp, same_row, argument, arguments, column_of, key_of, keys, partials, selected, Query, Aggregate, IsState, shape_of, rows_of, IsWellFormed, TakesRows, key_kinds, Rises, AreGroups, run_bytes, IsGroupOf}
 use Rattle.grouping_model.specs.Aggregates.{partial}
 use Rattle.grouping_model.specs.Condition.{is_met}
 use Rattle.grouping_model.specs.DatumOrderLaws.{row_cmp_total}
-use Rattle.grouping_model.specs.Grouping.{argument, arguments, column_of, group, key_of, keys, part, partials, selected}
+use Rattle.grouping_model.specs.Grouping.{group, part}
 use Rattle.grouping_model.specs.MemberLaws.{Member}
 use Rattle.grouping_model.specs.Parts.{functions}
-use Rattle.grouping_model.specs.Query.{Query, Aggregate}
 use Rattle.grouping_model.specs.Rising.{put, distinct}
 use Rattle.grouping_model.specs.Rising.Facts.{distinct-rises}
 use Rattle.grouping_model.specs.Lemmas.PartLaws.{keys_of-part}
 use Rattle.agg_protocol.specs.Arguments.{Takes}
 use Rattle.agg_protocol.specs.DenotingLaws.{within}
-use Rattle.agg_protocol.specs.States.{IsState, shape_of, rows_of}
 use Rattle.agg_protocol.specs.Lemmas.ArgumentLaws.{partial_state, rows_within}
-use Rattle.having_filter.specs.Kept.{IsWellFormed, TakesRows, key_kinds}
-use Rattle.group_runs.specs.Runs.{Rises}
-use Rattle.group_runs.specs.Standing.{AreGroups, group_bytes, run_bytes, IsGroupOf}
+use Rattle.group_runs.specs.Standing.{group_bytes}
 use Rattle.group_runs.specs.Lemmas.MergeLaws.{distinct_few}
 use Rattle.group_runs.specs.Lemmas.SpliceLaws.{packed_rise}
 use Rattle.agg_library.specs.StateRows.{ArePartials}

@@ -12,29 +12,14 @@ use Rattle.std.specs.Ordering.{nat_cmp}
 use Rattle.std.specs.Cmp.{IsTotalOrder, nat_cmp_total}
 use Rattle.std.specs.Cmp.Lexicographic.{slice_cmp}
 use Rattle.std.specs.declared.cmp.Ordering.{Ordering}
-use Rattle.grouping_model.specs.Datum.{Kind, Row, HasKinds}
-use Rattle.grouping_model.specs.Grouping.{Group}
-use Rattle.grouping_model.specs.Query.{Query}
-use Rattle.grouping_model.specs.declared.limits.TheConstants.{LAST_ORIGIN, MOST_ROWS}
+use Rattle.summary_codec.specs.Lemmas.Words.{Kind, Row, HasKinds, Group, Query, LAST_ORIGIN, MOST_ROWS, Column, kinds, printed, packings, checked, checked_places, checked_order, with_order, all_of, has_too_many, is_shallow, are_shallow, has_columns, placed, Checked, by_names, key_kinds, meaning, spelling, Entry, packed_keys, AreGroups, Part, IsEarly, IsPartOf, Parts, IsHeldPart, AreHeldParts, sized_bytes, batch_bytes, part_bytes, body_bytes, file_in, IsNext, IsPacking, AreStateBytes, MayFollow, number, row, batch, batches, contents, text, schema, query, opened, parts, heading, rest, body, IsSummaryIn, opening, last_number, most_batch_rows, IsBatchWithin, IsWithin, AreWithin, Version}
 use Rattle.group_runs.specs.StandingLaws.{groups_raised}
-use Rattle.packed_rows.specs.Columns.{Column, kinds, printed}
-use Rattle.batch_reader.specs.Rows.{packings}
 use Rattle.query_checks.specs.declared.order.OrderTerm.{OrderTerm}
 use Rattle.query_checks.specs.Order.{Asked, names_items}
-use Rattle.query_checks.specs.Checks.{checked, checked_places, checked_order, with_order, all_of, has_too_many, is_shallow, are_shallow, has_columns, placed, Checked}
 use Rattle.query_checks.specs.Forms.{Written}
-use Rattle.having_filter.specs.Kept.{by_names, key_kinds}
-use Rattle.having_filter.specs.Meaning.{meaning}
-use Rattle.query_checks.specs.Spelling.{spelling}
 use Rattle.query_checks.specs.declared.error.QueryError.{QueryError}
-use Rattle.group_runs.specs.Runs.{Entry, packed_keys}
-use Rattle.group_runs.specs.Standing.{AreGroups}
-use Rattle.origin_prefix.specs.Parts.{Part, IsEarly, IsPartOf}
-use Rattle.origin_prefix.specs.Held.{Parts, IsHeldPart, AreHeldParts}
-use Rattle.summary_codec.specs.File.{sized_bytes, group_bytes, batch_bytes, part_bytes, body_bytes, file_in}
-use Rattle.summary_codec.specs.Reading.{IsNext, IsPacking, AreStateBytes, MayFollow, number, group, row, batch, batches, contents, part, text, schema, query, opened, parts, heading, rest, body, IsSummaryIn}
-use Rattle.summary_codec.specs.Versions.{opening, last_number, most_batch_rows, IsBatchWithin, IsWithin, AreWithin}
-use Rattle.summary_codec.specs.declared.version.Version.{Version}
+use Rattle.summary_codec.specs.File.{group_bytes}
+use Rattle.summary_codec.specs.Reading.{group, part}
 use Rattle.summary_codec.specs.Lemmas.RisingLaws.{rises_next}
 use Rattle.summary_codec.specs.Lemmas.VersionLaws.{number_low, rows_low, product_low}
 use Rattle.summary_codec.specs.Lemmas.ReaderLaws.{AreRight, Spells, spells_within, spells_sized, spells_each}

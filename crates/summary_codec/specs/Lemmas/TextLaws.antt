@@ -5,10 +5,8 @@ use Rattle.std.proofs.lemmas.Bool.{ltb-true}
 use Rattle.std.proofs.lemmas.Str.{IsUtf8-from_ascii}
 use Rattle.std.specs.Char.{is_ascii_alphanumeric}
 use Rattle.std.specs.List.{AllByRecursion, list_all}
-use Rattle.list_laws.specs.Each.{each_append}
-use Rattle.grouping_model.specs.Datum.{Kind, Bigint_kind, Boolean_kind, Text_kind}
+use Rattle.summary_codec.specs.Lemmas.Words.{each_append, Kind, Bigint_kind, Boolean_kind, Text_kind, Column, names, printed, column_text, kind_text, AreColumns, IsColumnName}
 use Rattle.grouping_model.specs.MemberLaws.{false_is_not_true}
-use Rattle.packed_rows.specs.Columns.{Column, names, printed, column_text, kind_text, AreColumns, IsColumnName}
 
 abbrev AreLow : List ℕ → Type 0
 AreLow bytes = AllByRecursion (λ b. b < 128) bytes

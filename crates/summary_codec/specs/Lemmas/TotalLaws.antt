@@ -6,14 +6,9 @@ use Rattle.std.proofs.lemmas.Bool.{cases_lt}
 use Rattle.byteorder.specs.Endian.{big_from}
 use Rattle.byteorder.specs.Numbers.{big_from-lt}
 use Rattle.agg_protocol.specs.Lemmas.Bytes.{own_bytes}
-use Rattle.packed_rows.specs.Columns.{Column}
-use Rattle.query_checks.specs.Checks.{Checked}
-use Rattle.group_parser.specs.Parsing.{parsing}
+use Rattle.summary_codec.specs.Lemmas.Words.{Column, Checked, parsing, opening, Outcome, Reader, done, both, must, taken, number, each, columns_in, query_in, opened, ended, SummaryError}
 use Rattle.group_parser.specs.declared.error.ParseError.{ParseError}
 use Rattle.group_parser.specs.Lemmas.ParseLaws.{parses_accepts, parses_refuses}
-use Rattle.summary_codec.specs.Versions.{opening}
-use Rattle.summary_codec.specs.Reading.{Outcome, Reader, done, both, must, taken, number, each, columns_in, query_in, opened, ended}
-use Rattle.summary_codec.specs.declared.error.SummaryError.{SummaryError}
 use Rattle.summary_codec.specs.declared.error.SummaryError.TheVariants as fault
 use Rattle.summary_codec.specs.declared.error.SummaryError.TheVariants.{NotASummary, Truncated, Trailing, BadSchema}
 use Rattle.summary_codec.specs.Lemmas.LoopLaws.{goes_on}

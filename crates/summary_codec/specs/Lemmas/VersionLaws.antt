@@ -1,15 +1,7 @@
 -- What the versions of a file have in common, and how they differ.
 use Rattle.std.proofs.Common.{◌≡◌, refl, ℕ, ◌*◌, ◌^◌, ◌<◌, ◌≤◌, List, ◌++◌, length, slice_index, ap, sym, ◌∙◌, arith}
 use Rattle.std.proofs.lemmas.List.{append_cancel_left}
-use Rattle.list_laws.specs.Each.{each_weaker}
-use Rattle.grouping_model.specs.declared.limits.TheConstants.{LAST_NUMBER, MOST_ROWS}
-use Rattle.packed_rows.specs.Columns.{kinds}
-use Rattle.query_checks.specs.Checks.{Checked}
-use Rattle.origin_prefix.specs.Parts.{Part, IsEarly, IsPartOf}
-use Rattle.origin_prefix.specs.Held.{Parts, IsHeldPart, AreHeldParts}
-use Rattle.summary_codec.specs.Versions.{opening, last_number, most_batch_rows, IsBatchWithin, IsWithin, AreWithin}
-use Rattle.summary_codec.specs.declared.version.Version.{Version}
-use Rattle.summary_codec.specs.declared.version.Version.TheVariants.{First, Second}
+use Rattle.summary_codec.specs.Lemmas.Words.{each_weaker, LAST_NUMBER, MOST_ROWS, kinds, Checked, Part, IsEarly, IsPartOf, Parts, IsHeldPart, AreHeldParts, opening, last_number, most_batch_rows, IsBatchWithin, IsWithin, AreWithin, Version, First, Second}
 
 -- ---- openings
 

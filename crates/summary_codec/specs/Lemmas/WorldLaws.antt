@@ -7,34 +7,18 @@ use Rattle.std.proofs.lemmas.List.{length-append, length-map}
 use Rattle.std.specs.List.{AllByRecursion}
 use Rattle.std.specs.List.Sorted.{IsStrictlySortedBy}
 use Rattle.std.specs.Ordering.{nat_cmp}
-use Rattle.list_laws.specs.Each.{each_append}
-use Rattle.grouping_model.specs.Datum.{Row, Kind, HasKinds}
+use Rattle.summary_codec.specs.Lemmas.Words.{each_append, Row, Kind, HasKinds, MOST_ROWS, kinds, packing, packings, Checked, spelling, IsCheckedQuery, by_names, meaning, AreGroups, run_bytes, IsHeldPart, AreHeldParts, Part, IsEarly, IsPartOf, IsSummaryIn, last_number, most_batch_rows, IsBatchWithin, IsWithin, AreWithin, Version, Second}
 use Rattle.grouping_model.specs.EarlyLaws.{early_are, early_rise, origins_are, origins_rise}
 use Rattle.grouping_model.specs.Grouping.{part}
 use Rattle.grouping_model.specs.MemberLaws.{Member, from_contains, to_contains, false_is_not_true}
 use Rattle.grouping_model.specs.World.{World, IsWorld, Knowledge, knows, origins, prefix, early, count_up, batch_rows, rows_upto}
-use Rattle.grouping_model.specs.declared.limits.TheConstants.{MOST_ROWS}
 use Rattle.grouping_model.specs.Lemmas.LearningLaws.{next_unknown}
 use Rattle.grouping_model.specs.Lemmas.PrefixLaws.{prefix_unbroken}
-use Rattle.packed_rows.specs.Columns.{kinds}
-use Rattle.packed_rows.specs.Packing.{packing}
-use Rattle.batch_reader.specs.Rows.{packings}
-use Rattle.query_checks.specs.Checks.{Checked}
-use Rattle.query_checks.specs.Spelling.{spelling}
-use Rattle.having_filter.specs.Kept.{IsCheckedQuery, by_names}
-use Rattle.having_filter.specs.Meaning.{meaning}
-use Rattle.group_runs.specs.Standing.{AreGroups, run_bytes}
 use Rattle.origin_prefix.specs.Fitting.{FitsOrigin}
-use Rattle.origin_prefix.specs.Held.{IsHeldPart, AreHeldParts}
 use Rattle.origin_prefix.specs.WorldRows.{batch_kinds, count_length}
-use Rattle.origin_prefix.specs.Parts.{Part, IsEarly, IsPartOf}
 use Rattle.origin_prefix.specs.Lemmas.ByNumber.{found_holds}
-use Rattle.summary_codec.specs.Reading.{IsSummaryIn}
-use Rattle.summary_codec.specs.Versions.{last_number, most_batch_rows, IsBatchWithin, IsWithin, AreWithin}
 use Rattle.summary_codec.specs.WorldFile.{world_part, world_file_in}
 use Rattle.summary_codec.specs.Worlds.{IsKnownOf, IsKnownWithin, world_parts}
-use Rattle.summary_codec.specs.declared.version.Version.{Version}
-use Rattle.summary_codec.specs.declared.version.Version.TheVariants.{Second}
 use Rattle.summary_codec.specs.Lemmas.RowGroups.{each_mapped, groups_few, groups_rise, groups_stand}
 use Rattle.summary_codec.specs.Lemmas.TextLaws.{schema_text}
 use Rattle.summary_codec.specs.Lemmas.WrittenRead.{read_again}

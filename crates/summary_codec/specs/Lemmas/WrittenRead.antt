@@ -10,34 +10,16 @@ use Rattle.std.specs.List.Sorted.{IsStrictlySortedBy}
 use Rattle.std.specs.Ordering.{nat_cmp}
 use Rattle.std.specs.Cmp.Lexicographic.{slice_cmp}
 use Rattle.grouping_model.specs.Aggregates.{Function, Partial}
-use Rattle.grouping_model.specs.Datum.{Kind, Row, HasKinds}
-use Rattle.grouping_model.specs.Grouping.{Group}
-use Rattle.grouping_model.specs.Query.{Query}
-use Rattle.grouping_model.specs.declared.limits.TheConstants.{LAST_ORIGIN, MOST_COLUMNS}
-use Rattle.packed_rows.specs.Packing.{packing}
-use Rattle.batch_reader.specs.Rows.{packings}
-use Rattle.packed_rows.specs.Columns.{Column, kinds, printed}
+use Rattle.summary_codec.specs.Lemmas.Words.{Kind, Row, HasKinds, Group, Query, LAST_ORIGIN, MOST_COLUMNS, packing, packings, Column, kinds, printed, shape_of, width_of, IsCheckedQuery, by_names, key_kinds, Checked, meaning, spelling, Accepts, Entry, Rises, packed_keys, AreGroups, Part, IsEarly, IsPartOf, Parts, IsHeldPart, AreHeldParts, sized_bytes, batch_bytes, part_bytes, body_bytes, file_in, IsNext, IsPacking, AreStateBytes, states_width, MayFollow, row, batch, batches, contents, text, schema, query, parts, heading, rest, opened, body, IsSummaryIn, opening, last_number, most_batch_rows, IsBatchWithin, IsWithin, AreWithin, Version}
 use Rattle.packed_rows.specs.Lemmas.PrintedColumns.{printed_again}
-use Rattle.agg_protocol.specs.States.{shape_of, width_of}
 use Rattle.agg_protocol.specs.DenotingLaws.{width_known}
 use Rattle.agg_protocol.specs.declared.kind.AggKind.{AggKind}
 use Rattle.agg_protocol.specs.Kinds.{kind_shape, kind_width, row_width}
 use Rattle.agg_library.specs.StateRows.{DenotesAll}
-use Rattle.having_filter.specs.Kept.{IsCheckedQuery, by_names, key_kinds}
-use Rattle.query_checks.specs.Checks.{Checked}
-use Rattle.having_filter.specs.Meaning.{meaning}
-use Rattle.query_checks.specs.Spelling.{spelling}
-use Rattle.group_parser.specs.Parsing.{Accepts}
 use Rattle.group_parser.specs.Lemmas.PrintLaws.{parsed_again}
-use Rattle.group_runs.specs.Runs.{Entry, Rises, packed_keys}
-use Rattle.group_runs.specs.Standing.{AreGroups}
-use Rattle.origin_prefix.specs.Parts.{Part, IsEarly, IsPartOf}
-use Rattle.origin_prefix.specs.Held.{Parts, IsHeldPart, AreHeldParts}
-use Rattle.summary_codec.specs.File.{sized_bytes, group_bytes, batch_bytes, part_bytes, body_bytes, file_in}
+use Rattle.summary_codec.specs.File.{group_bytes}
 use Rattle.summary_codec.specs.Short.{IsShort, IsShortPart}
-use Rattle.summary_codec.specs.Reading.{IsNext, IsPacking, AreStateBytes, states_width, MayFollow, group, row, batch, batches, contents, part, text, schema, query, parts, heading, rest, opened, body, IsSummaryIn}
-use Rattle.summary_codec.specs.Versions.{opening, last_number, most_batch_rows, IsBatchWithin, IsWithin, AreWithin}
-use Rattle.summary_codec.specs.declared.version.Version.{Version}
+use Rattle.summary_codec.specs.Reading.{group, part}
 use Rattle.summary_codec.specs.Lemmas.GroupLaws.{width_by_functions}
 use Rattle.summary_codec.specs.Lemmas.LengthLaws.{short_packing, short_part, few_key_kinds, few_parts, short_schema}
 use Rattle.summary_codec.specs.Lemmas.RisingLaws.{next_of}

@@ -1,6 +1,5 @@
 use Rattle.std.proofs.Common.{◌<◌, List, Option, None, length, sym, ap, ◌∙◌, subst, arith}
-use Rattle.context_tree.specs.Links.{is_under, AreFree}
-use Rattle.context_tree.specs.declared.links.Link.{Link}
+use Rattle.context_tree.proofs.Words.{is_under, AreFree, Link}
 use Rattle.context_tree.proofs.Clearing.{length-cleared, cut-too, free-emptied, low-there}
 use Rattle.context_tree.proofs.links.cut.Goals as goal
 

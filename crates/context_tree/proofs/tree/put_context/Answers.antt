@@ -1,7 +1,6 @@
 use Rattle.std.proofs.Common.{◌≡◌, List, length, set, refl, sym, ap, ◌∙◌, arith}
 use Rattle.std.proofs.lemmas.List.{length-set}
-use Rattle.context_tree.specs.Links.{placed}
-use Rattle.context_tree.specs.declared.context.Context.{Context}
+use Rattle.context_tree.proofs.Words.{placed, Context}
 use Rattle.context_tree.proofs.Slots.{refill-whole, placed-set, placed-end}
 use Rattle.context_tree.proofs.tree.put_context.Goals as goal
 

@@ -1,8 +1,7 @@
 use Rattle.std.proofs.Common.{◌≡◌, ◌<◌, true, false, length, get_or, cond, sym, ap, ◌∙◌, arith}
 use Rattle.std.proofs.lemmas.Bool.{cond-true, cond-false}
 use Rattle.std.proofs.lemmas.List.{get_or_read}
-use Rattle.context_tree.specs.Contexts.{no_context, held_by}
-use Rattle.context_tree.specs.Links.{is_below}
+use Rattle.context_tree.proofs.Words.{no_context, held_by, is_below}
 use Rattle.context_tree.proofs.TreeLaws.{held-step}
 use Rattle.context_tree.proofs.tree.sum_below.Goals.{then-is_below, else-is_below}
 use Rattle.context_tree.proofs.tree.sum_below.Goals as goal

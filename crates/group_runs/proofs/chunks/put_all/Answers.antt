@@ -2,9 +2,7 @@ use Rattle.std.specs.Prelude.{◌≡◌, ℕ, ◌++◌, ◌∷◌, ◌<◌, List
 use Rattle.std.specs.List.{AllByRecursion}
 use Rattle.std.proofs.Common.{sym, ◌∙◌, ap, subst}
 use Rattle.std.proofs.lemmas.List.{length-set}
-use Rattle.list_laws.specs.Each.{each_front}
-use Rattle.group_runs.specs.Runs.{Entry}
-use Rattle.group_runs.specs.Chunks.{replaced}
+use Rattle.group_runs.proofs.Words.{each_front, Entry, replaced}
 use Rattle.group_runs.proofs.ChunkLaws.{replaced_more}
 use Rattle.group_runs.proofs.chunks.put_all.Goals as goal
 

@@ -1,7 +1,6 @@
 use Rattle.std.specs.Prelude.{◌≡◌, ℕ, ◌<◌, List, length}
 use Rattle.std.specs.List.{AllByRecursion}
-use Rattle.group_runs.specs.Runs.{Entry}
-use Rattle.group_runs.specs.Chunks.{replaced}
+use Rattle.group_runs.proofs.Words.{Entry, replaced}
 use Rattle.group_runs.proofs.chunks.put_all.Given as goal
 
 abbrev pub invariant-loop-at : goal.invariant-loop-at

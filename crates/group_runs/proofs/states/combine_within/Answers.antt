@@ -1,12 +1,7 @@
 use Rattle.std.specs.Prelude.{◌+◌}
 use Rattle.std.proofs.Common.{subst}
 use Rattle.std.proofs.lemmas.Result.{on_ok_weaker, on_err_weaker}
-use Rattle.grouping_model.specs.Query.{Query}
-use Rattle.grouping_model.specs.Combining.{combine_all}
-use Rattle.grouping_model.specs.Parts.{functions}
-use Rattle.agg_library.specs.StateRows.{DenotesAll}
-use Rattle.agg_protocol.specs.Kinds.{functions_of}
-use Rattle.having_filter.specs.Meaning.{meaning}
+use Rattle.group_runs.proofs.Words.{Query, combine_all, functions, DenotesAll, functions_of, meaning}
 use Rattle.group_runs.specs.StandingLaws.{states_by}
 use Rattle.group_runs.proofs.StateLaws.{combined, can_combine}
 use Rattle.group_runs.proofs.states.combine_within.Goals as goal

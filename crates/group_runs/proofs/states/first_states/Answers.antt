@@ -1,11 +1,6 @@
 use Rattle.std.specs.Prelude.{[]}
 use Rattle.std.proofs.Common.{sym, subst, rules}
-use Rattle.grouping_model.specs.Query.{Query}
-use Rattle.grouping_model.specs.Grouping.{partials}
-use Rattle.grouping_model.specs.Parts.{functions}
-use Rattle.agg_library.specs.StateRows.{DenotesAll}
-use Rattle.having_filter.specs.Meaning.{meaning}
-use Rattle.group_runs.specs.Standing.{AreStates}
+use Rattle.group_runs.proofs.Words.{Query, partials, functions, DenotesAll, meaning, AreStates}
 use Rattle.agg_library.specs.StateRowLaws.{fits}
 use Rattle.group_runs.proofs.StateLaws.{initial_are, written_over}
 use Rattle.group_runs.proofs.states.first_states.Goals as goal

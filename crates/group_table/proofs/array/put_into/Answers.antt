@@ -1,9 +1,5 @@
 use Rattle.std.proofs.Common.{sym, subst}
-use Rattle.chunk_layout.specs.Pieces.{place_of}
-use Rattle.context_tree.specs.Contexts.{with_bytes}
-use Rattle.context_tree.specs.Tree.{context_at}
-use Rattle.context_tree.specs.declared.context.Context.{Context}
-use Rattle.group_table.specs.Arrays.{IsRewritten}
+use Rattle.group_table.proofs.Words.{place_of, with_bytes, context_at, Context, IsRewritten}
 use Rattle.group_table.proofs.TreeFacts.{at_same}
 use Rattle.group_table.proofs.ArrayLaws.{rewritten_once}
 use Rattle.group_table.proofs.array.put_into.Goals as goal

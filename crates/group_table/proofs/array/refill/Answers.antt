@@ -1,8 +1,5 @@
 use Rattle.std.proofs.Common.{◌∙◌, sym, ap, subst, ◌+◌, arith}
-use Rattle.context_tree.specs.Tree.{TreeState, context_at}
-use Rattle.group_table.specs.Buckets.{bucket_at}
-use Rattle.group_table.specs.Index.{HasAll}
-use Rattle.group_table.specs.Arrays.{IsRewritten, OnlyIn, bytes_at, count_of}
+use Rattle.group_table.proofs.Words.{TreeState, context_at, bucket_at, HasAll, IsRewritten, OnlyIn, bytes_at, count_of}
 use Rattle.group_table.proofs.ArrayLaws.{not_rewritten, rewritten_twice, other_bytes, as_named}
 use Rattle.group_table.proofs.IndexLaws.{none_yet, passed_over, put_over, room}
 use Rattle.group_table.proofs.TreeFacts.{only_once, only_twice}

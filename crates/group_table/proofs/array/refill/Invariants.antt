@@ -1,6 +1,4 @@
-use Rattle.context_tree.specs.Tree.{context_at}
-use Rattle.group_table.specs.Index.{HasAll}
-use Rattle.group_table.specs.Arrays.{IsRewritten, OnlyIn, bytes_at, count_of}
+use Rattle.group_table.proofs.Words.{context_at, HasAll, IsRewritten, OnlyIn, bytes_at, count_of}
 use Rattle.group_table.proofs.array.refill.Given as goal
 
 abbrev pub invariant-loop-place : goal.invariant-loop-place

@@ -1,8 +1,6 @@
 use Rattle.std.proofs.Common.{Option, sym, ap, ◌∙◌, subst}
-use Rattle.context_tree.specs.Tree.{has_stamp}
+use Rattle.group_table.proofs.Words.{has_stamp, Link, IsNew, IsAsBefore}
 use Rattle.context_tree.specs.declared.kind.Kind.TheVariants as kind
-use Rattle.context_tree.specs.declared.links.Link.{Link}
-use Rattle.group_table.specs.Children.{IsNew, IsAsBefore}
 use Rattle.group_table.proofs.ChildLaws.{there_made, there_still, taken_back, as_before, all_made}
 use Rattle.group_table.proofs.children.make_children.Goals as goal
 

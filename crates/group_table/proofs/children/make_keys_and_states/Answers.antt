@@ -1,10 +1,8 @@
 use Rattle.std.proofs.Common.{sym, ap, ◌∙◌, subst, arith}
 use Rattle.std.specs.Prelude.{◌==◌}
 use Rattle.std.proofs.lemmas.Bool.{eqb-true}
-use Rattle.context_tree.specs.Contexts.{kind_refusal}
-use Rattle.context_tree.specs.Tree.{TreeState, is_there}
+use Rattle.group_table.proofs.Words.{kind_refusal, TreeState, is_there, IsNew, IsSameBySlot}
 use Rattle.context_tree.specs.declared.kind.Kind.TheVariants as kind
-use Rattle.group_table.specs.Children.{IsNew, IsSameBySlot}
 use Rattle.group_table.proofs.ChildLaws.{there_made, there_still, taken_back, same_as_itself, refused_of, slab_allowed, last_is}
 use Rattle.group_table.proofs.children.make_keys_and_states.Goals as goal
 

@@ -1,6 +1,5 @@
 use Rattle.std.proofs.Common.{◌<◌, ◌≤◌, ℕ}
-use Rattle.context_tree.specs.Tree.{context_at}
-use Rattle.group_table.specs.Search.{IsOther}
+use Rattle.group_table.proofs.Words.{context_at, IsOther}
 use Rattle.group_table.proofs.search.look.Given as goal
 
 abbrev pub invariant-loop-place : goal.invariant-loop-place

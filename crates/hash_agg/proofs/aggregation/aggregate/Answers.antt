@@ -1,12 +1,8 @@
 use Rattle.std.specs.Prelude.{map}
 use Rattle.std.proofs.Common.{arith}
 use Rattle.aggregation_cost.specs.Lemmas.BoundLaws.{spilled_few}
-use Rattle.grouping_model.specs.Query.{Query}
-use Rattle.having_filter.specs.Meaning.{meaning}
-use Rattle.group_runs.specs.Standing.{states_width}
+use Rattle.hash_agg.proofs.Words.{Query, meaning, states_width, brought, records_of, all_pieces}
 use Rattle.hash_agg.specs.Counting.{cost_given, setting_by}
-use Rattle.hash_agg.specs.Inputs.{brought}
-use Rattle.hash_agg.specs.Passes.{records_of, all_pieces}
 use Rattle.hash_agg.proofs.FewLaws.{run_few, records_few}
 use Rattle.hash_agg.proofs.WholeLaws.{all_given}
 use Rattle.hash_agg.proofs.WorkLaws.{is_work, cost_counts, work_few}

@@ -3,22 +3,9 @@ use Rattle.std.specs.List.{AllByRecursion}
 use Rattle.std.proofs.Common.{sym, ◌∙◌, ap, subst, arith}
 use Rattle.std.proofs.lemmas.Result.{IfOk-weaker, IfErr-weaker}
 use Rattle.tape_disks.specs.DiskLaws.{leaves_twice}
-use Rattle.spill_lists.specs.declared.error.SpillError.TheVariants.{NoMemory}
-use Rattle.aggregation_cost.specs.Cost.{cost}
-use Rattle.aggregation_cost.specs.Space.{Setting}
-use Rattle.grouping_model.specs.Query.{Query}
+use Rattle.hash_agg.proofs.Words.{NoMemory, cost, Setting, Query, meaning, Entry, Rises, AreGroups, CountsWithin, IsSafeRun, query_of, setting_in, on_end, Brought, brought, all_rows, IsInput, IsAggregate, IsRunOver, Given, AllGive, AreSafe, CountUpTo, IsPlan, Stands, setting_for, records_of, all_pieces, AddsUp, Pass, Plan}
 use Rattle.query_checks.specs.Checks.{Checked}
-use Rattle.having_filter.specs.Meaning.{meaning}
-use Rattle.group_runs.specs.Runs.{Entry, Rises}
-use Rattle.group_runs.specs.Standing.{AreGroups}
-use Rattle.hash_agg.specs.Added.{CountsWithin, IsSafeRun, query_of, setting_in}
 use Rattle.hash_agg.specs.Counting.{HasFewPasses, IsCounted, setting_by}
-use Rattle.packed_rows.specs.RowsOnEnd.{on_end}
-use Rattle.hash_agg.specs.Inputs.{Brought, brought, all_rows, IsInput, IsAggregate, IsRunOver, Given, AllGive}
-use Rattle.hash_agg.specs.Passes.{AreSafe, CountUpTo, IsPlan, Stands, setting_for, records_of, all_pieces}
-use Rattle.hash_agg.specs.Waiting.{AddsUp}
-use Rattle.hash_agg.specs.declared.pass.Pass.{Pass}
-use Rattle.hash_agg.specs.declared.plan.Plan.{Plan}
 use Rattle.hash_agg.proofs.CountLaws.{all_made, made_rise, all_few, keys_give, few_keys}
 use Rattle.hash_agg.proofs.DiskLaws.{left_out, still_out}
 use Rattle.hash_agg.proofs.FewLaws.{few_passes}

@@ -4,18 +4,9 @@ use Rattle.std.proofs.lemmas.List.{length-map, take_all}
 use Rattle.std.proofs.lemmas.List.Sums.{sum_by-cons}
 use Rattle.std.proofs.lemmas.Result.{IfOk-weaker}
 use Rattle.tape_disks.specs.DiskLaws.{leaves_none, leaves_twice}
-use Rattle.spill_lists.specs.Errors.{spill_faults}
-use Rattle.spill_lists.specs.Standing.{full_pages, written_pages}
-use Rattle.spill_lists.specs.declared.error.SpillError.TheVariants.{NoMemory}
-use Rattle.aggregation_cost.specs.Space.{Setting}
-use Rattle.grouping_model.specs.Query.{Query}
-use Rattle.having_filter.specs.Meaning.{meaning}
+use Rattle.hash_agg.proofs.Words.{spill_faults, full_pages, written_pages, NoMemory, Setting, Query, meaning, AreInputs, Finished, MadeFirst, query_of, setting_in, source_of, Brought, brought, rows_in, IsInput, PassState, standing, entries_of, AreSafe, Holds, total, all_pieces, brought_by, AddsUp, pass_cost, Plan}
 use Rattle.group_runs.specs.PlaceLaws.{all_at}
-use Rattle.hash_agg.specs.Added.{AreInputs, Finished, MadeFirst, query_of, setting_in, source_of}
-use Rattle.hash_agg.specs.Inputs.{Brought, brought, rows_in, IsInput, Gives}
-use Rattle.hash_agg.specs.Passes.{PassState, standing, entries_of, AreSafe, Holds, total, all_pieces, brought_by}
-use Rattle.hash_agg.specs.Waiting.{AddsUp, pass_cost}
-use Rattle.hash_agg.specs.declared.plan.Plan.{Plan}
+use Rattle.hash_agg.specs.Inputs.{Gives}
 use Rattle.hash_agg.proofs.AddedLaws.{same_pass, keeps_twice, added_first, refused_first}
 use Rattle.hash_agg.proofs.CountLaws.{can_read_input, input_read, input_brings}
 use Rattle.hash_agg.proofs.DiskLaws.{left_out, still_out}

@@ -1,8 +1,5 @@
 use Rattle.std.specs.Prelude.{◌≤◌, List, [], map, take}
-use Rattle.tape_disks.specs.Disk.{Leaves}
-use Rattle.hash_agg.specs.Added.{IsReady, KeepsPass, query_of, setting_in}
-use Rattle.hash_agg.specs.Inputs.{brought, Given, AllGive}
-use Rattle.hash_agg.specs.Passes.{AreSafe, WritesPages, standing, entries_of, Holds, total, all_pieces, brought_by}
+use Rattle.hash_agg.proofs.Words.{Leaves, IsReady, KeepsPass, query_of, setting_in, brought, Given, AllGive, AreSafe, WritesPages, standing, entries_of, Holds, total, all_pieces, brought_by}
 use Rattle.hash_agg.proofs.aggregation.first_pass.Given as goal
 
 abbrev pub invariant-loop-input : goal.invariant-loop-input

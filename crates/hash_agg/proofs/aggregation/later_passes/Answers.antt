@@ -6,18 +6,7 @@ use Rattle.std.proofs.lemmas.List.{length-append, nil_from_length}
 use Rattle.std.proofs.lemmas.List.Sorted.{length_permutation}
 use Rattle.std.proofs.lemmas.Result.{IfErr-weaker}
 use Rattle.tape_disks.specs.DiskLaws.{leaves_none, leaves_twice}
-use Rattle.spill_lists.specs.Errors.{spill_faults}
-use Rattle.spill_lists.specs.Standing.{count_of, waiting_number, full_pages, written_pages}
-use Rattle.spill_lists.specs.declared.error.SpillError.TheVariants.{NoMemory}
-use Rattle.aggregation_cost.specs.Space.{Setting}
-use Rattle.grouping_model.specs.Query.{Query}
-use Rattle.group_runs.specs.Runs.{Entry, Rises}
-use Rattle.packed_rows.specs.RowsOnEnd.{on_end}
-use Rattle.hash_agg.specs.Added.{IsDone, query_of, setting_in}
-use Rattle.having_filter.specs.Meaning.{meaning}
-use Rattle.hash_agg.specs.Passes.{AreOnce, AreSafe, PassState, ReadsList, CanReadList, entries_of, standing}
-use Rattle.hash_agg.specs.Waiting.{AddsUp, pass_cost}
-use Rattle.hash_agg.specs.declared.plan.Plan.{Plan}
+use Rattle.hash_agg.proofs.Words.{spill_faults, count_of, waiting_number, full_pages, written_pages, NoMemory, Setting, Query, Entry, Rises, on_end, IsDone, query_of, setting_in, meaning, AreOnce, AreSafe, PassState, ReadsList, CanReadList, entries_of, standing, AddsUp, pass_cost, Plan}
 use Rattle.hash_agg.proofs.DiskLaws.{left_out, still}
 use Rattle.hash_agg.proofs.KeyLaws.{if_ok_both}
 use Rattle.hash_agg.proofs.LaterLaws.{IsWaiting, pass_can, pass_made, waiting_ends}

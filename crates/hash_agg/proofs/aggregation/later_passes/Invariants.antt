@@ -1,9 +1,5 @@
 use Rattle.std.specs.Prelude.{◌≡◌, ◌+◌, ◌≤◌, ◌∷◌, length}
-use Rattle.tape_disks.specs.Disk.{Leaves}
-use Rattle.spill_lists.specs.Standing.{waiting_number}
-use Rattle.packed_rows.specs.RowsOnEnd.{on_end}
-use Rattle.hash_agg.specs.Added.{Continues, CountsWithin, IsOver, query_of, setting_in}
-use Rattle.hash_agg.specs.Passes.{AreSafe}
+use Rattle.hash_agg.proofs.Words.{Leaves, waiting_number, on_end, Continues, CountsWithin, IsOver, query_of, setting_in, AreSafe}
 use Rattle.hash_agg.proofs.LaterLaws.{IsWaiting}
 use Rattle.hash_agg.proofs.aggregation.later_passes.Given as goal
 

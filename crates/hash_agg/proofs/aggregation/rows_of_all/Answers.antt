@@ -2,8 +2,7 @@ use Rattle.std.specs.Prelude.{◌≡◌, ◌+◌, ◌<◌, ◌≤◌, ℕ, List,
 use Rattle.std.proofs.Common.{ap, arith, subst, sym, ◌∙◌}
 use Rattle.std.proofs.lemmas.List.{get_or-map, length-map, take-map}
 use Rattle.std.proofs.lemmas.List.Sums.{sum_by_more, sum_by-take-le}
-use Rattle.hash_agg.specs.Inputs.{Brought, brought, rows_in, all_rows}
-use Rattle.hash_agg.specs.declared.input.Input.{Input}
+use Rattle.hash_agg.proofs.Words.{Brought, brought, rows_in, all_rows, Input}
 use Rattle.hash_agg.proofs.aggregation.rows_of_all.Goals as goal
 
 -- the rows of one more input

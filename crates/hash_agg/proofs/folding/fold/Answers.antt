@@ -1,8 +1,7 @@
 use Rattle.std.specs.Prelude.{◌+◌, ◌≤◌, map}
 use Rattle.std.proofs.Common.{arith}
 use Rattle.agg_protocol.specs.States.{most_rows}
-use Rattle.having_filter.specs.Meaning.{meaning}
-use Rattle.hash_agg.specs.Inputs.{brought, all_rows}
+use Rattle.hash_agg.proofs.Words.{meaning, brought, all_rows}
 use Rattle.hash_agg.proofs.FoldLaws.{folded, folded_over}
 use Rattle.hash_agg.proofs.folding.fold.Goals as goal
 

@@ -2,11 +2,7 @@ use Rattle.std.specs.Prelude.{◌<◌, length, map}
 use Rattle.std.proofs.Common.{sym, ◌∙◌, ap, subst}
 use Rattle.std.proofs.lemmas.List.{take_all}
 use Rattle.std.specs.List.{AllByRecursion}
-use Rattle.grouping_model.specs.Datum.{at_place}
-use Rattle.grouping_model.specs.Query.{Query}
-use Rattle.packed_rows.specs.View.{row_of}
-use Rattle.packed_rows.specs.Packing.{packing}
-use Rattle.having_filter.specs.Meaning.{meaning}
+use Rattle.hash_agg.proofs.Words.{at_place, Query, row_of, packing, meaning}
 use Rattle.hash_agg.proofs.KeyLaws.{place_within, key_more}
 use Rattle.hash_agg.proofs.plan.pack_key_of.Goals as goal
 

@@ -1,7 +1,5 @@
 use Rattle.std.specs.Prelude.{◌≡◌, map, take}
-use Rattle.grouping_model.specs.Datum.{at_place}
-use Rattle.packed_rows.specs.Packing.{packing}
-use Rattle.packed_rows.specs.View.{row_of}
+use Rattle.hash_agg.proofs.Words.{at_place, packing, row_of}
 use Rattle.hash_agg.proofs.plan.pack_key_of.Given as goal
 
 abbrev pub invariant-loop-place : goal.invariant-loop-place

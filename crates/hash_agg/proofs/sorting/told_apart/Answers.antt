@@ -4,8 +4,7 @@ use Rattle.std.specs.List.Sorted.{IsPermutation}
 use Rattle.std.specs.Prelude.{◌≢◌, ℕ, ◌-◌, ◌<◌, List, [], ◌∷◌, ◌++◌, slice_index_or}
 use Rattle.std.proofs.Common.{sym, ◌∙◌, ap, subst, arith}
 use Rattle.std.proofs.lemmas.List.Sorted.{All-permutation}
-use Rattle.group_runs.specs.Runs.{Rises}
-use Rattle.hash_agg.specs.Passes.{Led, IsLed, pairs}
+use Rattle.hash_agg.proofs.Words.{Rises, Led, IsLed, pairs}
 use Rattle.hash_agg.proofs.SortLaws.{once_permuted, pair_at, take_next, pairs_moved, all_taken, told_rises, told_twice}
 use Rattle.hash_agg.proofs.sorting.told_apart.Goals as goal
 use Rattle.hash_agg.proofs.sorting.told_apart.Goals.{else-place-gt0-via-then-place-gt0+else-eq, else-place-gt0-via-else-place-gt0}

@@ -1,6 +1,5 @@
 use Rattle.std.specs.Prelude.{◌≡◌, take}
-use Rattle.group_runs.specs.Runs.{Rises}
-use Rattle.hash_agg.specs.Passes.{pairs}
+use Rattle.hash_agg.proofs.Words.{Rises, pairs}
 use Rattle.hash_agg.proofs.sorting.told_apart.Given as goal
 
 abbrev pub invariant-loop-place : goal.invariant-loop-place

@@ -2,9 +2,7 @@ use Rattle.std.specs.Prelude.{◌≡◌, ◌≢◌, ◌∷◌}
 use Rattle.std.proofs.Common.{sym, ◌∙◌, ap, subst}
 use Rattle.std.proofs.lemmas.List.{take_all}
 use Rattle.std.proofs.lemmas.Result.{IfErr-weaker}
-use Rattle.spill_lists.specs.declared.error.SpillError.TheVariants.{TapeDamaged}
-use Rattle.packed_rows.specs.RowsOnEnd.{on_end}
-use Rattle.hash_agg.specs.Passes.{AreOnce, pairs}
+use Rattle.hash_agg.proofs.Words.{TapeDamaged, on_end, AreOnce, pairs}
 use Rattle.hash_agg.proofs.sorting.united.Goals as goal
 
 pub returns-clause-undamaged : goal.returns-clause-undamaged

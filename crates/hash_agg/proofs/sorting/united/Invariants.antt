@@ -1,7 +1,6 @@
 use Rattle.std.specs.Prelude.{◌≡◌, ◌∷◌, take}
 use Rattle.std.specs.List.{All}
-use Rattle.packed_rows.specs.RowsOnEnd.{on_end}
-use Rattle.hash_agg.specs.Passes.{IsLed, pairs}
+use Rattle.hash_agg.proofs.Words.{on_end, IsLed, pairs}
 use Rattle.hash_agg.proofs.sorting.united.Given as goal
 
 abbrev pub invariant-loop-run : goal.invariant-loop-run

@@ -1,8 +1,7 @@
 use Rattle.std.specs.Prelude.{◌++◌, [], ◌∷◌, map, slice_index_or}
 use Rattle.std.proofs.Common.{sym, ◌∙◌, ap}
 use Rattle.std.proofs.lemmas.List.{map-append, map_more, take_all}
-use Rattle.grouping_model.specs.Datum.{Bigint_kind}
-use Rattle.packed_rows.specs.View.{kind_of, kinds_of}
+use Rattle.having_filter.proofs.Words.{Bigint_kind, kind_of, kinds_of}
 use Rattle.having_filter.proofs.plan.kinds_at.Goals as goal
 
 pub loop-place-preserved : goal.loop-place-preserved

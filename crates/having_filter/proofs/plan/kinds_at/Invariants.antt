@@ -1,6 +1,5 @@
 use Rattle.std.specs.Prelude.{◌≡◌, map, take, slice_index_or}
-use Rattle.grouping_model.specs.Datum.{Bigint_kind}
-use Rattle.packed_rows.specs.View.{kinds_of}
+use Rattle.having_filter.proofs.Words.{Bigint_kind, kinds_of}
 use Rattle.having_filter.proofs.plan.kinds_at.Given as goal
 
 abbrev pub invariant-loop-place : goal.invariant-loop-place

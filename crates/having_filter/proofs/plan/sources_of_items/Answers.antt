@@ -1,9 +1,7 @@
 use Rattle.std.specs.Prelude.{◌++◌, [], ◌∷◌, map}
 use Rattle.std.proofs.Common.{sym, ◌∙◌, ap}
 use Rattle.std.proofs.lemmas.List.{map-append, map_more, take_all}
-use Rattle.query_checks.specs.Forms.{call_form, item_form}
-use Rattle.having_filter.specs.Meaning.{source_of_form}
-use Rattle.having_filter.specs.Plans.{source_of}
+use Rattle.having_filter.proofs.Words.{call_form, item_form, source_of_form, source_of}
 use Rattle.having_filter.proofs.plan.sources_of_items.Goals as goal
 
 pub loop-item-preserved : goal.loop-item-preserved

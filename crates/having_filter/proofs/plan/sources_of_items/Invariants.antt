@@ -1,7 +1,5 @@
 use Rattle.std.specs.Prelude.{◌≡◌, map, take}
-use Rattle.query_checks.specs.Forms.{call_form, item_form}
-use Rattle.having_filter.specs.Meaning.{source_of_form}
-use Rattle.having_filter.specs.Plans.{source_of}
+use Rattle.having_filter.proofs.Words.{call_form, item_form, source_of_form, source_of}
 use Rattle.having_filter.proofs.plan.sources_of_items.Given as goal
 
 abbrev pub invariant-loop-item : goal.invariant-loop-item

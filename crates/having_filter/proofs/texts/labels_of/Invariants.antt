@@ -1,6 +1,5 @@
 use Rattle.std.specs.Prelude.{◌≡◌, map, take, string_bytes}
-use Rattle.query_checks.specs.Forms.{items_of}
-use Rattle.having_filter.specs.Kept.{label_of}
+use Rattle.having_filter.proofs.Words.{items_of, label_of}
 use Rattle.having_filter.proofs.texts.labels_of.Given as goal
 
 abbrev pub invariant-loop-item : goal.invariant-loop-item

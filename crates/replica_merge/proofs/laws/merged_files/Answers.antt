@@ -1,13 +1,8 @@
 use Rattle.std.specs.Prelude.{◌≡◌, refl, true, ℕ, List}
 use Rattle.std.proofs.Common.{◌∙◌, ap, sym}
-use Rattle.grouping_model.specs.World.{World, union}
+use Rattle.replica_merge.proofs.Words.{World, union, Checked, IsSaved, Second, world_file, Parts, told, Fits, AreHeldParts, MergesIn}
 use Rattle.grouping_model.specs.KnowledgeLaws.{union_commutes, union_associates, union_itself}
-use Rattle.query_checks.specs.Checks.{Checked}
-use Rattle.summary_codec.specs.Reading.{IsSaved}
-use Rattle.summary_codec.specs.declared.version.Version.TheVariants.{Second}
-use Rattle.summary_codec.specs.WorldFile.{world_file}
 use Rattle.summary_codec.specs.Lemmas.SpelledRead.{spelled}
-use Rattle.replica_merge.specs.Replicas.{Parts, told, Fits, AreHeldParts, MergesIn}
 use Rattle.replica_merge.proofs.MergedLaws.{merges_told, merges_fit}
 use Rattle.replica_merge.proofs.SavedLaws.{saved_world}
 use Rattle.replica_merge.proofs.laws.merged_files.Goals as goal

@@ -1,7 +1,6 @@
 use Rattle.std.proofs.Common.{◌∙◌, ap, sym}
-use Rattle.grouping_model.specs.World.{union}
+use Rattle.replica_merge.proofs.Words.{union, told}
 use Rattle.grouping_model.specs.KnowledgeLaws.{union_commutes, union_associates, union_itself}
-use Rattle.replica_merge.specs.Replicas.{told}
 use Rattle.replica_merge.proofs.MergedLaws.{merges_told}
 use Rattle.replica_merge.proofs.laws.merged_knowledge.Goals as goal
 

@@ -5,18 +5,11 @@ use Rattle.std.proofs.lemmas.Result.{err_from_is_err_and}
 use Rattle.std.specs.List.{AllByRecursion}
 use Rattle.std.specs.List.Sorted.{IsStrictlySortedBy}
 use Rattle.std.specs.Ordering.{nat_cmp}
-use Rattle.having_filter.specs.Meaning.{meaning}
-use Rattle.grouping_model.specs.Query.{Query}
+use Rattle.replica_merge.proofs.Words.{meaning, Query, setting_by, Joins, PartsDisagree, JoinTells, JoinIsCounted, Spill, MergeIsCounted, JoinsInOrder, Part, empty, IsPartOf, Parts, part_at, part_of, IsHeldPart, IsFirstRefused, MergeTells}
 use Rattle.aggregation_cost.specs.Space.{Setting}
-use Rattle.hash_agg.specs.Counting.{setting_by}
-use Rattle.origin_prefix.specs.Joins.{Joins, PartsDisagree, JoinTells, JoinIsCounted}
-use Rattle.origin_prefix.specs.declared.error.JoinError.TheVariants.{Spill}
 use Rattle.spill_lists.specs.declared.error.SpillError.TheVariants.{TapeDamaged}
 use Rattle.replica_merge.specs.declared.error.MergeError.TheVariants.{Join}
-use Rattle.replica_merge.specs.Counting.{MergeIsCounted, JoinsInOrder}
-use Rattle.origin_prefix.specs.Parts.{Part, empty, IsPartOf}
 use Rattle.origin_prefix.specs.Lemmas.ByNumber.{numbers, rising_rest}
-use Rattle.replica_merge.specs.Replicas.{Parts, part_at, part_of, IsHeldPart, IsFirstRefused, MergeTells}
 use Rattle.tape_disks.specs.Disk.{Leaves}
 use Rattle.tape_disks.specs.DiskLaws.{leaves_twice}
 use Rattle.replica_merge.specs.Errors.{merge_faults}

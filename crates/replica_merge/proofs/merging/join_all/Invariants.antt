@@ -2,12 +2,8 @@ use Rattle.std.specs.Prelude.{◌≡◌, ℕ, ◌++◌, map, IsTrue}
 use Rattle.std.specs.List.{AllByRecursion}
 use Rattle.std.specs.List.Sorted.{IsStrictlySortedBy}
 use Rattle.std.specs.Ordering.{nat_cmp}
-use Rattle.having_filter.specs.Meaning.{meaning}
-use Rattle.hash_agg.specs.Counting.{setting_by}
-use Rattle.origin_prefix.specs.Parts.{Part}
+use Rattle.replica_merge.proofs.Words.{meaning, setting_by, Part, MergeIsCounted, Parts, part_at, part_of, IsHeldPart}
 use Rattle.tape_disks.specs.Disk.{Leaves}
-use Rattle.replica_merge.specs.Counting.{MergeIsCounted}
-use Rattle.replica_merge.specs.Replicas.{Parts, part_at, part_of, IsHeldPart}
 use Rattle.replica_merge.proofs.MergedLaws.{JoinedSoFar}
 use Rattle.replica_merge.proofs.merging.join_all.Given as goal
 

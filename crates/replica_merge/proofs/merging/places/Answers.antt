@@ -2,9 +2,7 @@ use Rattle.std.specs.Prelude.{◌≡◌, option_map}
 use Rattle.std.proofs.Common.{◌∙◌, sym, ap, subst}
 use Rattle.std.specs.BTreeMap.{insert_entry}
 use Rattle.std.specs.Ordering.{nat_cmp}
-use Rattle.origin_prefix.specs.Joins.{either}
-use Rattle.origin_prefix.specs.Parts.{Part, empty}
-use Rattle.replica_merge.specs.Replicas.{Parts, part_at}
+use Rattle.replica_merge.proofs.Words.{either, Part, empty, Parts, part_at}
 use Rattle.replica_merge.proofs.DeliveredLaws.{when_fine}
 use Rattle.replica_merge.proofs.MergedLaws.{placed}
 use Rattle.replica_merge.proofs.merging.places.Goals as goal

@@ -2,11 +2,8 @@ use Rattle.std.specs.Prelude.{◌≡◌, None, IsTrue}
 use Rattle.std.proofs.Common.{sym, ◌∙◌, ap, subst}
 use Rattle.std.specs.BTreeMap.{insert_entry}
 use Rattle.std.specs.Ordering.{nat_cmp}
-use Rattle.having_filter.specs.Meaning.{meaning}
-use Rattle.hash_agg.specs.Counting.{AreCounted, setting_by}
-use Rattle.origin_prefix.specs.Parts.{Part, empty, aggregations_on}
+use Rattle.replica_merge.proofs.Words.{meaning, AreCounted, setting_by, Part, empty, aggregations_on, Parts, part_at}
 use Rattle.list_laws.specs.Outcomes.{none_there}
-use Rattle.replica_merge.specs.Replicas.{Parts, part_at}
 use Rattle.replica_merge.proofs.DeliveredLaws.{part_is, when_fine, made_part, first_delivers, first_refused}
 use Rattle.replica_merge.proofs.replica.deliver_in.Goals as goal
 

@@ -1,9 +1,6 @@
 use Rattle.std.specs.Prelude.{◌≡◌, OnOk, IsTrue, unwrap_or}
 use Rattle.std.proofs.Common.{ap, sym, subst}
-use Rattle.having_filter.specs.Meaning.{meaning}
-use Rattle.hash_agg.specs.Counting.{AreCounted, setting_by}
-use Rattle.origin_prefix.specs.Parts.{Part, empty, aggregations_on}
-use Rattle.replica_merge.specs.Replicas.{part_of}
+use Rattle.replica_merge.proofs.Words.{meaning, AreCounted, setting_by, Part, empty, aggregations_on, part_of}
 use Rattle.replica_merge.proofs.DeliveredLaws.{taken_at}
 use Rattle.replica_merge.proofs.replica.deliver_to.Goals as goal
 

@@ -1,6 +1,5 @@
 use Rattle.std.specs.Prelude.{◌≡◌, ◌++◌, map}
-use Rattle.replica_merge.specs.Unions.{brought_by}
-use Rattle.replica_merge.specs.Replicas.{counted_part}
+use Rattle.replica_merge.proofs.Words.{brought_by, counted_part}
 use Rattle.replica_merge.proofs.uniting.listed.Given as goal
 
 abbrev pub invariant-loop-part : goal.invariant-loop-part

@@ -3,8 +3,7 @@ use Rattle.std.proofs.Common.{arith, ap, sym, ◌∙◌}
 use Rattle.std.proofs.lemmas.List.{length-drop}
 use Rattle.csv.specs.Records.{fields_of}
 use Rattle.tape_disks.specs.DiskLaws.{leaves_none}
-use Rattle.script_commands.specs.Commands.{command_at, owned_by}
-use Rattle.replies.specs.Text.{is_refusal}
+use Rattle.script_machine.proofs.Words.{command_at, owned_by, is_refusal}
 use Rattle.replies.specs.declared.error.RunError.TheVariants as stop
 use Rattle.script_machine.proofs.RunLaws.{passed_as, fails_as, honest_steps, left_both, ran_front, ran_more, ran_start, ran_stop}
 use Rattle.script_machine.proofs.engine.answer_all.Goals as goal

@@ -1,7 +1,6 @@
 use Rattle.std.proofs.Common.{◌≡◌, ℕ, ◌+◌, ◌≤◌, false, length}
-use Rattle.tape_disks.specs.Disk.{Leaves}
+use Rattle.script_machine.proofs.Words.{Leaves, commands_of}
 use Rattle.script_io.specs.Fused.{has_failed, written}
-use Rattle.script_commands.specs.Commands.{commands_of}
 use Rattle.script_machine.proofs.RunLaws.{Ran}
 use Rattle.script_machine.proofs.engine.answer_all.Given as goal
 

@@ -1,5 +1,4 @@
-use Rattle.script_machine.specs.Agreement.{after_all}
-use Rattle.script_machine.specs.Machine.{start}
+use Rattle.script_machine.proofs.Words.{after_all, start}
 use Rattle.script_machine.proofs.SameLaws as laws
 use Rattle.script_machine.proofs.laws.same_batches_same_bytes.Goals as goal
 

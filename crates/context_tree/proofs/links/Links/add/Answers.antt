@@ -3,8 +3,7 @@ use Rattle.std.specs.Prelude.{is_some, Result, Ok, Err, IfOk}
 use Rattle.std.specs.List.{refill}
 use Rattle.std.proofs.lemmas.List.{length-set}
 use Rattle.context_tree.specs.SlotLaws.{placed-here, placed-other}
-use Rattle.context_tree.specs.Links.{stamp_of, placed, IsForest, IsFull, IsMadeBelow, AreFree}
-use Rattle.context_tree.specs.declared.links.Link.{Link}
+use Rattle.context_tree.proofs.Words.{stamp_of, placed, IsForest, IsFull, IsMadeBelow, AreFree, Link}
 use Rattle.context_tree.specs.Lemmas.Forest.{forest-added}
 use Rattle.context_tree.proofs.Slots.{refill-whole, placed-set, free-used, full-unmarked}
 use Rattle.context_tree.proofs.links.Links.add.Goals as goal

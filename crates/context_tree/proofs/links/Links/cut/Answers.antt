@@ -1,6 +1,5 @@
 use Rattle.std.proofs.Common.{List, Option, None, ap, ◌∙◌}
-use Rattle.context_tree.specs.Links.{is_below, cleared}
-use Rattle.context_tree.specs.declared.links.Link.{Link}
+use Rattle.context_tree.proofs.Words.{is_below, cleared, Link}
 use Rattle.context_tree.proofs.Clearing.{forest-cut, items-cleared, fields-cleared}
 use Rattle.context_tree.proofs.links.Links.cut.Goals as goal
 

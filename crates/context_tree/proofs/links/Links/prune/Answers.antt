@@ -1,6 +1,5 @@
 use Rattle.std.proofs.Common.{List, Option, None, ap, ◌∙◌}
-use Rattle.context_tree.specs.Links.{is_under, cleared}
-use Rattle.context_tree.specs.declared.links.Link.{Link}
+use Rattle.context_tree.proofs.Words.{is_under, cleared, Link}
 use Rattle.context_tree.proofs.Clearing.{forest-pruned, items-cleared, fields-cleared}
 use Rattle.context_tree.proofs.links.Links.prune.Goals as goal
 

@@ -1,8 +1,7 @@
 use Rattle.std.proofs.Common.{◌≡◌, List, [], ◌∷◌, ◌++◌, Option, Some, None, length, sym, ap, ◌∙◌, subst, arith}
 use Rattle.std.proofs.lemmas.List.{get_or_past, length-append}
 use Rattle.context_tree.specs.SlotLaws.{placed-here, placed-other}
-use Rattle.context_tree.specs.Links.{placed, IsForest, IsMadeBelow, AreFree}
-use Rattle.context_tree.specs.declared.links.Link.{Link}
+use Rattle.context_tree.proofs.Words.{placed, IsForest, IsMadeBelow, AreFree, Link}
 use Rattle.context_tree.specs.Lemmas.Forest.{forest-added}
 use Rattle.context_tree.proofs.Slots.{placed-end, free-pushed}
 use Rattle.context_tree.proofs.links.Links.push.Goals as goal

@@ -1,10 +1,6 @@
 use Rattle.std.proofs.Common.{◌≡◌, ◌+◌, ◌≤◌, None, length, get_or, ap, arith}
 use Rattle.std.specs.Prelude.{IsTrue, is_some}
-use Rattle.list_laws.specs.Outcomes.{always_err}
-use Rattle.chunk_contexts.specs.Chunks.{chunk_of, Adds, Keeps, IsRefused}
-use Rattle.context_tree.specs.Contexts.{chunks_of, blocks_of, room_in, refusal_of, growth_of, may_lie_in, with_chunk, has_chunk, chunk_bytes, held_by}
-use Rattle.context_tree.specs.Tree.{is_there}
-use Rattle.context_tree.specs.declared.context.Context.{Context}
+use Rattle.context_tree.proofs.Words.{always_err, chunk_of, Adds, Keeps, IsRefused, chunks_of, blocks_of, room_in, refusal_of, growth_of, may_lie_in, with_chunk, has_chunk, chunk_bytes, held_by, is_there, Context}
 use Rattle.context_tree.proofs.TreeLaws.{IsLent, read-changed, fits-asked, said, new-by, unchanged, fields-written, refused-gone, refused-own}
 use Rattle.context_tree.proofs.tree.Tree.alloc.Goals.{After-deref_mut}
 use Rattle.context_tree.proofs.tree.Tree.alloc.Goals as goal

@@ -1,9 +1,7 @@
 use Rattle.std.proofs.Common.{◌≡◌, Option, get_or, subst}
 use Rattle.std.specs.Prelude.{IfSome}
 use Rattle.std.specs.Borrow.{MutBor}
-use Rattle.chunk_layout.specs.Pieces.{place_of}
-use Rattle.context_tree.specs.Contexts.{with_bytes}
-use Rattle.context_tree.specs.declared.context.Context.{Context}
+use Rattle.context_tree.proofs.Words.{place_of, with_bytes, Context}
 use Rattle.context_tree.proofs.Bounds.{written-held}
 use Rattle.context_tree.proofs.TreeLaws.{fields-lent}
 use Rattle.context_tree.proofs.tree.Tree.bytes_mut.Goals as goal

@@ -1,14 +1,9 @@
 use Rattle.std.proofs.Common.{◌≡◌, ◌+◌, ◌≤◌, true, false, List, Option, Some, None, length, get_or, refl, sym, ap, ◌∙◌, subst, arith}
 use Rattle.std.specs.Prelude.{◌==◌}
 use Rattle.std.proofs.lemmas.Bool.{eq-eqb, ne_eqb}
-use Rattle.list_laws.specs.Outcomes.{always_err}
+use Rattle.context_tree.proofs.Words.{always_err, new_context, placed, IsFull, TreeState, Stamped, Emptied, IsBounded, with_new, Context, Link}
 use Rattle.std.proofs.lemmas.Result.{err_from_is_err_and}
-use Rattle.context_tree.specs.Contexts.{new_context}
-use Rattle.context_tree.specs.Links.{placed, IsFull}
-use Rattle.context_tree.specs.Tree.{TreeState, Stamped, Emptied, IsBounded, with_new}
 use Rattle.context_tree.specs.declared.error.TreeError.TheVariants.{StampsSpent}
-use Rattle.context_tree.specs.declared.context.Context.{Context}
-use Rattle.context_tree.specs.declared.links.Link.{Link}
 use Rattle.context_tree.proofs.TreeLaws.{stamp-low, stamps-made, empty-made, bounded-made, long-made, not-made, refused-made}
 use Rattle.context_tree.proofs.tree.Tree.create.Goals.{Else-self}
 use Rattle.context_tree.proofs.tree.Tree.create.Goals as goal

@@ -1,6 +1,5 @@
 use Rattle.std.proofs.Common.{◌+◌, ap, ◌∙◌}
-use Rattle.context_tree.specs.Links.{is_below}
-use Rattle.context_tree.specs.Tree.{TreeState, deleted, held_below, held_by_all}
+use Rattle.context_tree.proofs.Words.{is_below, TreeState, deleted, held_below, held_by_all}
 use Rattle.context_tree.proofs.Bounds.{all-given}
 use Rattle.context_tree.proofs.TreeLaws.{AreGivenUp, given-long, given-up, fields-given}
 use Rattle.context_tree.proofs.tree.Tree.delete.Goals.{After-give_up_free}

@@ -1,12 +1,7 @@
 use Rattle.std.proofs.Common.{◌≡◌, true, false, sym, subst, arith}
 use Rattle.std.specs.Prelude.{IsTrue}
 use Rattle.std.proofs.lemmas.Bool.{not-true}
-use Rattle.list_laws.specs.Outcomes.{always_err}
-use Rattle.chunk_layout.specs.Pieces.{place_of, without}
-use Rattle.chunk_contexts.specs.Chunks.{KeepsOthers}
-use Rattle.context_tree.specs.Contexts.{chunks_of, can_free, without_chunk, has_chunk}
-use Rattle.context_tree.specs.Tree.{is_there}
-use Rattle.context_tree.specs.declared.context.Context.{Context}
+use Rattle.context_tree.proofs.Words.{always_err, place_of, without, KeepsOthers, chunks_of, can_free, without_chunk, has_chunk, is_there, Context}
 use Rattle.context_tree.proofs.TreeLaws.{IsLent, old-is, fits-grown, said, new-by, unchanged, fields-written, refused-gone, refused-own}
 use Rattle.context_tree.proofs.tree.Tree.free.Goals.{After-deref_mut}
 use Rattle.context_tree.proofs.tree.Tree.free.Goals as goal

@@ -1,10 +1,6 @@
 use Rattle.std.proofs.Common.{◌≡◌, List, Option, None, get_or, refl, ap, ◌∙◌}
 use Rattle.std.proofs.lemmas.Bool.{cond-false}
-use Rattle.context_tree.specs.Contexts.{no_context}
-use Rattle.context_tree.specs.Links.{is_under}
-use Rattle.context_tree.specs.Tree.{TreeState, has_stamp, is_there, context_at, without_slots}
-use Rattle.context_tree.specs.declared.context.Context.{Context}
-use Rattle.context_tree.specs.declared.links.Link.{Link}
+use Rattle.context_tree.proofs.Words.{no_context, is_under, TreeState, has_stamp, is_there, context_at, without_slots, Context, Link}
 use Rattle.context_tree.proofs.Clearing.{get_or-cleared}
 use Rattle.context_tree.specs.Lemmas.Forest.{not-under-itself}
 use Rattle.context_tree.proofs.TreeLaws.{AreGivenUp, given-long, all-given, given-up, fields-given}

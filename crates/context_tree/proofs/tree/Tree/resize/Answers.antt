@@ -1,12 +1,7 @@
 use Rattle.std.proofs.Common.{◌≡◌, ◌+◌, ◌<◌, ◌≤◌, true, None, inl, inr, get_or, sym, ap, subst, ◌∙◌, arith}
 use Rattle.std.proofs.lemmas.Bool.{cases_lt}
 use Rattle.std.specs.Prelude.{IsTrue}
-use Rattle.list_laws.specs.Outcomes.{always_err}
-use Rattle.chunk_layout.specs.Pieces.{piece_at, place_of, resized}
-use Rattle.chunk_contexts.specs.Chunks.{chunk_of, IsResized, IsResizeRefused, KeepsOthers}
-use Rattle.context_tree.specs.Contexts.{chunks_of, chunk_bytes, room_in, refusal_of, growth_of, can_free, may_lie_in, held_by, with_resized, with_chunk, without_chunk, has_chunk}
-use Rattle.context_tree.specs.Tree.{is_there}
-use Rattle.context_tree.specs.declared.context.Context.{Context}
+use Rattle.context_tree.proofs.Words.{always_err, piece_at, place_of, resized, chunk_of, IsResized, IsResizeRefused, KeepsOthers, chunks_of, chunk_bytes, room_in, refusal_of, growth_of, can_free, may_lie_in, held_by, with_resized, with_chunk, without_chunk, has_chunk, is_there, Context}
 use Rattle.context_tree.proofs.Bounds.{resized-held}
 use Rattle.context_tree.proofs.TreeLaws.{IsLent, old-is, read-changed, fits-asked, said, new-by, unchanged, fields-written, refused-gone, refused-own}
 use Rattle.context_tree.proofs.tree.Tree.resize.Goals.{After-deref_mut}

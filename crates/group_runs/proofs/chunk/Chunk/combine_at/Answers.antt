@@ -1,10 +1,7 @@
 use Rattle.std.specs.Prelude.{◌≡◌, ◌<◌, ◌+◌, ℕ, List, ◌∷◌, ◌++◌, length, slice_index_or}
 use Rattle.std.proofs.Common.{sym, ◌∙◌, ap, subst, arith}
 use Rattle.std.proofs.lemmas.List.{length-append}
-use Rattle.grouping_model.specs.Parts.{functions}
-use Rattle.having_filter.specs.Meaning.{meaning}
-use Rattle.group_runs.specs.Runs.{Entry, LieAs, Rises}
-use Rattle.group_runs.specs.Steps.{HaveRoomForMore, CombineWith}
+use Rattle.group_runs.proofs.Words.{functions, meaning, Entry, LieAs, Rises, HaveRoomForMore, CombineWith}
 use Rattle.group_runs.proofs.FlatLaws.{MiddleAt, ends_long, middle_at, middle_is, middle_high, written_at, cut_is, are_run, same_keys_rise}
 use Rattle.group_runs.proofs.chunk.Chunk.combine_at.Goals.{After-bound-to}
 use Rattle.group_runs.proofs.chunk.Chunk.combine_at.Goals as goal

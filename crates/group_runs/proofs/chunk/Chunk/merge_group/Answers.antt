@@ -2,11 +2,8 @@ use Rattle.std.specs.Prelude.{◌+◌, ◌∷◌, ◌++◌, [], List, length, dr
 use Rattle.std.proofs.Common.{sym, ◌∙◌, ap, subst, arith, append-nil}
 use Rattle.std.proofs.lemmas.List.{length-append}
 use Rattle.group_runs.proofs.MergedLaws.{Merged, merged_there, merged_new}
-use Rattle.grouping_model.specs.Query.{Query}
+use Rattle.group_runs.proofs.Words.{Query, meaning, Entry, Rises, HasRoomForGroup}
 use Rattle.grouping_model.specs.MemberLaws.{false_is_not_true}
-use Rattle.having_filter.specs.Meaning.{meaning}
-use Rattle.group_runs.specs.Runs.{Entry, Rises}
-use Rattle.group_runs.specs.Steps.{HasRoomForGroup}
 use Rattle.group_runs.proofs.RunLaws.{run_front_rises}
 use Rattle.group_runs.specs.Lemmas.PlaceLaws.{Moves, Passes, rises_between}
 use Rattle.group_runs.proofs.PlaceLaws.{moves, passes, some_moved}

@@ -1,12 +1,8 @@
 use Rattle.std.specs.Prelude.{◌≡◌, ◌+◌, ◌++◌, ℕ, drop, slice_range}
 use Rattle.std.proofs.Common.{sym, ◌∙◌, ap, subst, arith}
 use Rattle.std.proofs.lemmas.List.{take_rest}
-use Rattle.having_filter.specs.Meaning.{meaning}
-use Rattle.group_runs.specs.Runs.{Entry, Rises}
-use Rattle.packed_rows.specs.RowsOnEnd.{on_end}
+use Rattle.group_runs.proofs.Words.{meaning, Entry, Rises, on_end, AreGroups, AddsRun}
 use Rattle.group_runs.specs.Places.{AllBelow}
-use Rattle.group_runs.specs.Standing.{AreGroups}
-use Rattle.group_runs.specs.Steps.{AddsRun}
 use Rattle.group_runs.specs.StandingLaws.{groups_raised}
 use Rattle.group_runs.proofs.RunLaws.{room_next, added_next, added_all}
 use Rattle.group_runs.proofs.ChunkLaws.{get_range, range_long}

@@ -1,12 +1,6 @@
 use Rattle.std.specs.Prelude.{◌≡◌, ℕ, ◌+◌, ◌≤◌, ◌++◌, List, length, take, drop, slice_get, slice_range, Some}
-use Rattle.grouping_model.specs.Grouping.{Group}
-use Rattle.agg_protocol.specs.States.{most_rows}
-use Rattle.having_filter.specs.Meaning.{meaning}
-use Rattle.group_runs.specs.Runs.{Entry, Rises}
-use Rattle.packed_rows.specs.RowsOnEnd.{on_end}
+use Rattle.group_runs.proofs.Words.{Group, most_rows, meaning, Entry, Rises, on_end, AreGroups, groups_added}
 use Rattle.group_runs.specs.Places.{AllBelow}
-use Rattle.group_runs.specs.Standing.{AreGroups}
-use Rattle.group_runs.specs.Adding.{groups_added}
 use Rattle.group_runs.proofs.chunk.Chunk.merged.Given as goal
 
 abbrev pub invariant-loop-place : goal.invariant-loop-place

@@ -1,8 +1,7 @@
 use Rattle.std.specs.Prelude.{◌≡◌, ◌+◌, ℕ, drop}
 use Rattle.std.proofs.Common.{subst, arith, rules}
 use Rattle.std.specs.List.{AllByRecursion}
-use Rattle.group_runs.specs.Runs.{Entry}
-use Rattle.group_runs.specs.Places.{IsBelow, IsNotBelow}
+use Rattle.group_runs.proofs.Words.{Entry, IsBelow, IsNotBelow}
 use Rattle.group_runs.specs.Lemmas.PlaceLaws.{below_to}
 use Rattle.group_runs.proofs.PlaceLaws.{not_below_from}
 use Rattle.group_runs.proofs.chunk.Chunk.seek.Goals as goal

@@ -1,12 +1,7 @@
 use Rattle.std.specs.Prelude.{◌≡◌, length}
 use Rattle.std.proofs.Common.{sym, ◌∙◌, ap, subst, arith}
 use Rattle.std.proofs.lemmas.List.{nil_from_length}
-use Rattle.grouping_model.specs.Query.{Query}
-use Rattle.having_filter.specs.Meaning.{meaning}
-use Rattle.group_runs.specs.Runs.{Rises}
-use Rattle.group_runs.specs.Steps.{HasRoomForRun, AddsRun}
-use Rattle.packed_rows.specs.RowsOnEnd.{on_end}
-use Rattle.group_runs.specs.Chunks.{replaced}
+use Rattle.group_runs.proofs.Words.{Query, meaning, Rises, HasRoomForRun, AddsRun, on_end, replaced}
 use Rattle.group_runs.proofs.JoinLaws.{adds_all, added_rises, added_few}
 use Rattle.group_runs.proofs.chunks.Chunks.absorb.Goals as goal
 

@@ -1,7 +1,6 @@
 use Rattle.std.specs.Prelude.{◌+◌, ◌<◌, ◌≤◌, ◌∷◌, length, slice_index_or}
 use Rattle.std.proofs.Common.{sym, ◌∙◌, ap, subst}
-use Rattle.packed_rows.specs.RowsOnEnd.{on_end}
-use Rattle.group_runs.specs.Chunks.{IsAmong}
+use Rattle.group_runs.proofs.Words.{on_end, IsAmong}
 use Rattle.group_runs.proofs.ChunkLaws.{some_end, whole_is, among}
 use Rattle.group_runs.proofs.chunks.Chunks.chunk_of.Goals as goal
 

@@ -1,13 +1,10 @@
 use Rattle.std.specs.Prelude.{◌+◌, take, slice_get}
 use Rattle.std.proofs.Common.{refl, ◌∙◌, ap, arith}
-use Rattle.having_filter.specs.Meaning.{meaning}
-use Rattle.group_runs.specs.Runs.{Entry, packed_keys}
-use Rattle.group_runs.specs.Places.{HasKey}
+use Rattle.group_runs.proofs.Words.{meaning, Entry, packed_keys, HasKey, on_end}
 use Rattle.group_runs.specs.PlaceLaws.{all_at}
 use Rattle.group_runs.specs.StandingLaws.{groups_raised}
 use Rattle.group_runs.proofs.RunLaws.{room_next, added_next, added_all}
 use Rattle.group_runs.proofs.PlaceLaws.{key_at, all_up_to, keys_next}
-use Rattle.packed_rows.specs.RowsOnEnd.{on_end}
 use Rattle.group_runs.proofs.chunks.Chunks.combine_all.Goals as goal
 
 pub loop-place-init : goal.loop-place-init

@@ -1,13 +1,7 @@
 use Rattle.std.specs.Prelude.{◌≡◌, ℕ, ◌-◌, ◌<◌, ◌+◌, ◌∷◌, List, length, take, slice_get, slice_set, Some}
 use Rattle.std.proofs.Common.{sym, ◌∙◌, ap, subst, arith}
 use Rattle.std.proofs.lemmas.List.{length-append}
-use Rattle.grouping_model.specs.Aggregates.{Function}
-use Rattle.grouping_model.specs.Parts.{functions}
-use Rattle.having_filter.specs.Meaning.{meaning}
-use Rattle.group_runs.specs.Runs.{Entry, Rises}
-use Rattle.group_runs.specs.Places.{HasStatesFor, CombinesAt}
-use Rattle.packed_rows.specs.RowsOnEnd.{on_end}
-use Rattle.group_runs.specs.Chunks.{IsAmong, AreChunks}
+use Rattle.group_runs.proofs.Words.{Function, functions, meaning, Entry, Rises, HasStatesFor, CombinesAt, on_end, IsAmong, AreChunks}
 use Rattle.group_runs.proofs.ChunkLaws.{got_by, got_low, got_same, states_in, combined_in, set_counts}
 use Rattle.group_runs.proofs.FlatLaws.{same_keys_rise}
 use Rattle.group_runs.proofs.chunks.Chunks.combine_at.Goals.{After-index_mut}

@@ -1,16 +1,11 @@
 use Rattle.std.specs.Prelude.{◌+◌, ◌∷◌, ◌++◌, List, take, drop, length}
 use Rattle.std.proofs.Common.{sym, ◌∙◌, ap, subst, arith}
-use Rattle.grouping_model.specs.Query.{Query}
-use Rattle.having_filter.specs.Meaning.{meaning}
-use Rattle.group_runs.specs.Runs.{Entry, packed_keys}
-use Rattle.group_runs.specs.Steps.{HasRoomForGroup, AddsGroup}
+use Rattle.group_runs.proofs.Words.{Query, meaning, Entry, packed_keys, HasRoomForGroup, AddsGroup, AreUpTo, on_end}
 use Rattle.group_runs.proofs.FlatLaws.{same_keys}
 use Rattle.std.proofs.lemmas.List.{length-append}
-use Rattle.group_runs.specs.Places.{AreUpTo}
 use Rattle.group_runs.specs.Lemmas.PlaceLaws.{KeyStands}
 use Rattle.group_runs.proofs.PlaceLaws.{up_to_here, key_stands, found_place, below_front}
 use Rattle.group_runs.proofs.SpliceLaws.{present_room, present_added}
-use Rattle.packed_rows.specs.RowsOnEnd.{on_end}
 use Rattle.group_runs.proofs.chunks.Chunks.combine_group.Goals.{After-seek-place}
 use Rattle.group_runs.proofs.chunks.Chunks.combine_group.Goals as goal
 

@@ -2,13 +2,10 @@ use Rattle.std.specs.Prelude.{◌≡◌, ◌<◌, [], ◌∷◌, length, take}
 use Rattle.std.proofs.Common.{sym, subst, arith}
 use Rattle.std.proofs.lemmas.List.{take_all, length-map}
 use Rattle.std.specs.List.{AllByRecursion}
-use Rattle.list_laws.specs.Each.{each_append}
-use Rattle.group_runs.specs.Runs.{Entry, packed_keys}
-use Rattle.group_runs.specs.Places.{HasKey, HasKeyAt}
+use Rattle.group_runs.proofs.Words.{each_append, Entry, packed_keys, HasKey, HasKeyAt, on_end}
 use Rattle.group_runs.proofs.ChunkLaws.{got_low}
 use Rattle.group_runs.specs.PlaceLaws.{take_found}
 use Rattle.group_runs.proofs.PlaceLaws.{key_at}
-use Rattle.packed_rows.specs.RowsOnEnd.{on_end}
 use Rattle.group_runs.proofs.chunks.Chunks.has_all.Goals as goal
 
 pub loop-place-preserved : goal.loop-place-preserved

@@ -1,8 +1,6 @@
 use Rattle.std.specs.Prelude.{◌≤◌, length, take}
 use Rattle.std.specs.List.{AllByRecursion}
-use Rattle.group_runs.specs.Runs.{packed_keys}
-use Rattle.group_runs.specs.Places.{HasKey}
-use Rattle.packed_rows.specs.RowsOnEnd.{on_end}
+use Rattle.group_runs.proofs.Words.{packed_keys, HasKey, on_end}
 use Rattle.group_runs.proofs.chunks.Chunks.has_all.Given as goal
 
 abbrev pub invariant-loop-place : goal.invariant-loop-place

@@ -1,7 +1,6 @@
 use Rattle.std.proofs.Common.{sym, subst, arith, rules}
-use Rattle.packed_rows.specs.RowsOnEnd.{on_end}
-use Rattle.group_runs.specs.Runs.{Entry}
-use Rattle.group_runs.specs.Places.{AllBelow, IsNotBelow}
+use Rattle.group_runs.proofs.Words.{on_end, Entry, IsNotBelow}
+use Rattle.group_runs.specs.Places.{AllBelow}
 use Rattle.group_runs.proofs.PlaceLaws.{range_none, not_below_from}
 use Rattle.group_runs.proofs.chunks.Chunks.is_next.Goals as goal
 

@@ -2,10 +2,7 @@ use Rattle.std.specs.Prelude.{◌≡◌, ◌+◌, ◌++◌, take, drop, slice_ra
 use Rattle.std.proofs.Common.{sym, ◌∙◌, ap, subst, arith}
 use Rattle.std.proofs.lemmas.List.{take-append-drop}
 use Rattle.std.proofs.lemmas.List.Folds.{drop_split}
-use Rattle.grouping_model.specs.Query.{Query}
-use Rattle.having_filter.specs.Meaning.{meaning}
-use Rattle.group_runs.specs.Steps.{HasRoomForRun, AddsRun}
-use Rattle.packed_rows.specs.RowsOnEnd.{on_end}
+use Rattle.group_runs.proofs.Words.{Query, meaning, HasRoomForRun, AddsRun, on_end}
 use Rattle.group_runs.proofs.ChunkLaws.{got_low, got_same, around, range_rises}
 use Rattle.group_runs.proofs.JoinLaws.{room_part}
 use Rattle.group_runs.proofs.PartLaws.{Merges, merges_none, merges_next, merges_end}

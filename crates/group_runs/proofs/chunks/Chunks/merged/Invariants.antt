@@ -1,6 +1,5 @@
 use Rattle.std.specs.Prelude.{◌-◌, length}
-use Rattle.having_filter.specs.Meaning.{meaning}
-use Rattle.packed_rows.specs.RowsOnEnd.{on_end}
+use Rattle.group_runs.proofs.Words.{meaning, on_end}
 use Rattle.group_runs.proofs.PartLaws.{Merges}
 use Rattle.group_runs.proofs.chunks.Chunks.merged.Given as goal
 

@@ -1,8 +1,7 @@
 use Rattle.std.specs.Prelude.{◌≡◌, ◌+◌, ◌-◌, ℕ, slice_range}
 use Rattle.std.proofs.Common.{subst, arith, rules}
-use Rattle.group_runs.specs.Runs.{Entry}
-use Rattle.group_runs.specs.Places.{IsBelow, IsNotBelow, AllBelow}
-use Rattle.packed_rows.specs.RowsOnEnd.{on_end}
+use Rattle.group_runs.proofs.Words.{Entry, IsBelow, IsNotBelow, on_end}
+use Rattle.group_runs.specs.Places.{AllBelow}
 use Rattle.group_runs.specs.Lemmas.PlaceLaws.{below_to}
 use Rattle.group_runs.proofs.PlaceLaws.{not_below_from}
 use Rattle.group_runs.proofs.ComeLaws.{starts_rise}

@@ -1,6 +1,5 @@
 use Rattle.std.specs.Prelude.{◌+◌, ◌≤◌, ◌-◌, length, take}
-use Rattle.packed_rows.specs.RowsOnEnd.{on_end}
-use Rattle.group_runs.specs.Places.{IsBetween}
+use Rattle.group_runs.proofs.Words.{on_end, IsBetween}
 use Rattle.group_runs.proofs.chunks.Chunks.narrow.Given as goal
 
 abbrev pub invariant-loop-first : goal.invariant-loop-first

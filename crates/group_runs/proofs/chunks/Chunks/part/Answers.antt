@@ -1,9 +1,7 @@
 use Rattle.std.specs.Prelude.{take}
 use Rattle.std.proofs.Common.{sym, subst, arith}
-use Rattle.group_runs.specs.Runs.{Entry}
+use Rattle.group_runs.proofs.Words.{Entry, on_end, IsAmong, AreBefore, ComeInto}
 use Rattle.group_runs.specs.Places.{AllBelow}
-use Rattle.packed_rows.specs.RowsOnEnd.{on_end}
-use Rattle.group_runs.specs.Chunks.{IsAmong, AreBefore, ComeInto}
 use Rattle.group_runs.proofs.ChunkLaws.{front_few, got_low}
 use Rattle.group_runs.proofs.ComeLaws.{IsFor, for_place, for_last, comes_up_to, comes_all}
 use Rattle.group_runs.specs.PlaceLaws.{drop_at}

@@ -1,7 +1,6 @@
 use Rattle.std.specs.Prelude.{◌+◌, ◌++◌, length}
 use Rattle.std.proofs.Common.{sym, ◌∙◌, ap, subst, arith, rules}
-use Rattle.group_runs.specs.Runs.{Rises}
-use Rattle.packed_rows.specs.RowsOnEnd.{on_end}
+use Rattle.group_runs.proofs.Words.{Rises, on_end}
 use Rattle.group_runs.proofs.ChunkLaws.{more_are}
 use Rattle.group_runs.proofs.chunks.Chunks.push_chunk.Goals as goal
 

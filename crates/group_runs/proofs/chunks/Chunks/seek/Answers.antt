@@ -1,8 +1,7 @@
 use Rattle.std.specs.Prelude.{◌≡◌, ◌+◌, drop}
 use Rattle.std.proofs.Common.{subst, arith}
 use Rattle.std.specs.List.{AllByRecursion}
-use Rattle.packed_rows.specs.RowsOnEnd.{on_end}
-use Rattle.group_runs.specs.Places.{IsNotBelow, IsPlaceOf}
+use Rattle.group_runs.proofs.Words.{on_end, IsNotBelow, IsPlaceOf}
 use Rattle.group_runs.proofs.ChunkLaws.{next_start}
 use Rattle.group_runs.proofs.PlaceLaws.{place_within}
 use Rattle.group_runs.proofs.SeekLaws.{lies_there, place_in}

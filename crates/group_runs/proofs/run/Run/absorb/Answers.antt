@@ -1,8 +1,6 @@
 use Rattle.std.specs.Prelude.{OnOk}
 use Rattle.std.proofs.Common.{subst}
-use Rattle.having_filter.specs.Meaning.{meaning}
-use Rattle.group_runs.specs.Steps.{AddsRun}
-use Rattle.packed_rows.specs.RowsOnEnd.{on_end}
+use Rattle.group_runs.proofs.Words.{meaning, AddsRun, on_end}
 use Rattle.group_runs.proofs.run.Run.absorb.Goals as goal
 
 pub returns-clause-added : goal.returns-clause-added

@@ -1,10 +1,6 @@
 use Rattle.std.proofs.Common.{◌≡◌, ◌+◌, ◌-◌, ◌≤◌, None, sym, subst, ap, ◌∙◌}
 use Rattle.std.specs.Vec.{vec_capacity, vec_len}
-use Rattle.context_tree.specs.Tree.{TreeState, reset, held_below}
-use Rattle.group_table.specs.Table.{TableState, held_in, without_groups, IsEmptied}
-use Rattle.group_table.specs.Standing.{IsTableIn, KeepsBeside}
-use Rattle.group_table.specs.Space.{HoldsKeys}
-use Rattle.group_table.specs.Children.{IsCleared}
+use Rattle.group_table.proofs.Words.{TreeState, reset, held_below, TableState, held_in, without_groups, IsEmptied, IsTableIn, KeepsBeside, HoldsKeys, IsCleared}
 use Rattle.group_table.proofs.EmptyLaws.{p1, p2, table_cleared, is_cleared, keeps_beside, less_held, is_emptied, holds_none}
 use Rattle.group_table.proofs.table.GroupTable.clear.Goals as goal
 

@@ -1,11 +1,7 @@
 use Rattle.std.specs.Prelude.{◌≡◌, ◌<◌, ℕ, Some, length, true, option_map, slice_get, IsTrue}
 use Rattle.std.proofs.Common.{refl, sym, subst, ap, ◌∙◌, get_or}
 use Rattle.std.proofs.lemmas.Option.{slice_get-map, slice_get_read}
-use Rattle.context_tree.specs.Contexts.{has_chunk}
-use Rattle.context_tree.specs.Tree.{context_at, is_there}
-use Rattle.context_tree.specs.declared.links.ContextId.{ContextId}
-use Rattle.group_table.specs.Table.{TableState, group_in, key_in, state_in}
-use Rattle.group_table.specs.declared.table.Slot.{Slot}
+use Rattle.group_table.proofs.Words.{has_chunk, context_at, is_there, ContextId, TableState, group_in, key_in, state_in, Slot}
 use Rattle.group_table.proofs.table.GroupTable.entry.Goals as goal
 
 -- the slot at a place of a table's slots, as they are kept

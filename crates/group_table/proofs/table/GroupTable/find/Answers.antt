@@ -1,6 +1,5 @@
 use Rattle.std.proofs.Common.{sym, subst}
-use Rattle.group_table.specs.Table.{TableState, HasNo}
-use Rattle.group_table.specs.Standing.{IsStanding}
+use Rattle.group_table.proofs.Words.{TableState, HasNo, IsStanding}
 use Rattle.group_table.proofs.TableLaws.{keys_live, not_found}
 use Rattle.group_table.proofs.table.GroupTable.find.Goals as goal
 

@@ -1,10 +1,9 @@
 use Rattle.std.proofs.Common.{◌≡◌, ◌++◌, ◌∷◌, [], sym, subst, ap}
 use Rattle.std.specs.Prelude.{OnOk, OnErr}
 use Rattle.list_laws.specs.Outcomes.{always_err}
-use Rattle.group_table.specs.Table.{TableState, groups}
-use Rattle.group_table.specs.Standing.{IsTableIn, KeepsOthers}
+use Rattle.group_table.proofs.Words.{TableState, groups, IsTableIn, HoldsKeys}
+use Rattle.group_table.specs.Standing.{KeepsOthers}
 use Rattle.group_table.proofs.HeldLaws.{others_held}
-use Rattle.group_table.specs.Space.{HoldsKeys}
 use Rattle.group_table.proofs.SpaceLaws.{holds_spare, ok_map}
 use Rattle.group_table.proofs.InsertLaws.{spare_table}
 use Rattle.group_table.proofs.table.GroupTable.insert.Goals as goal

@@ -1,12 +1,8 @@
 use Rattle.std.proofs.Common.{◌≡◌, refl, ◌+◌, ◌-◌, ◌++◌, ◌∷◌, [], length, sym, subst, ◌∙◌, ap, arith}
 use Rattle.std.proofs.lemmas.Result.{err_from_is_err_and}
 use Rattle.std.specs.Vec.{vec_capacity, vec_len}
-use Rattle.context_tree.specs.Tree.{TreeState, context_at, held_below}
-use Rattle.context_tree.specs.declared.links.ContextId.{ContextId}
-use Rattle.group_table.specs.Table.{TableState, groups, held_in, HasNo, IsSameBut}
-use Rattle.group_table.specs.Standing.{IsSetWith, IsTableIn, IsFirst, HasArray, KeepsOthers}
-use Rattle.group_table.specs.Arrays.{IsNext, with_slot}
-use Rattle.group_table.specs.Space.{keys_in, IsRunWith, IsSlabWith, HoldsArray, HoldsNext, HoldsKeyBlocks, HoldsStates}
+use Rattle.group_table.proofs.Words.{TreeState, context_at, held_below, ContextId, TableState, groups, held_in, HasNo, IsSameBut, IsSetWith, IsTableIn, IsFirst, HasArray, IsNext, with_slot, keys_in, IsRunWith, IsSlabWith, HoldsArray, HoldsNext, HoldsKeyBlocks, HoldsStates}
+use Rattle.group_table.specs.Standing.{KeepsOthers}
 use Rattle.group_table.proofs.HeldLaws.{others_held}
 use Rattle.group_table.proofs.SpaceLaws.{holds_more, buckets_at, keys_after, states_after}
 use Rattle.group_table.proofs.InsertLaws.{next_but, next_kept, keys_left, states_left, next_same, others_twice, others_left, next_others, any_space, groups_left, groups_pushed, held_left, next_left, settled_groups, settled_others, settled_next, settled_absent, settled_held}

@@ -1,7 +1,5 @@
 use Rattle.std.proofs.Common.{◌≡◌, ◌≤◌, length, subst, ◌∙◌, ap, arith}
-use Rattle.context_tree.specs.Contexts.{IsCounted}
-use Rattle.context_tree.specs.Tree.{context_at, held_below}
-use Rattle.group_table.specs.Table.{TableState, buckets_in, buckets_for, most_buckets}
+use Rattle.group_table.proofs.Words.{IsCounted, context_at, held_below, TableState, buckets_in, buckets_for, most_buckets}
 use Rattle.group_table.proofs.SpaceLaws.{none_fit, need_is, fit_is}
 use Rattle.group_table.proofs.table.GroupTable.need_for.Goals as goal
 

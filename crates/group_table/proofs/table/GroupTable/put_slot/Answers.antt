@@ -1,7 +1,5 @@
 use Rattle.std.proofs.Common.{None, sym, subst}
-use Rattle.group_table.specs.Table.{TableState, HasNo}
-use Rattle.group_table.specs.Standing.{IsStanding}
-use Rattle.group_table.specs.Arrays.{OnlyIn, HasNext, IsNext, with_slot}
+use Rattle.group_table.proofs.Words.{TableState, HasNo, IsStanding, OnlyIn, HasNext, IsNext, with_slot}
 use Rattle.group_table.proofs.PutLaws.{array_at, index_at, room_at, stands_more}
 use Rattle.group_table.proofs.table.GroupTable.put_slot.Goals as goal
 

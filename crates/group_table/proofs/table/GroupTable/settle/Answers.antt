@@ -1,12 +1,6 @@
 use Rattle.std.proofs.Common.{Option, ◌≤◌, ◌+◌, ◌-◌, Some, sym, subst, arith}
 use Rattle.std.specs.Vec.{vec_capacity, vec_len}
-use Rattle.chunk_layout.specs.declared.place.ChunkName.{ChunkName}
-use Rattle.context_tree.specs.Contexts.{held_by}
-use Rattle.context_tree.specs.Tree.{TreeState, context_at}
-use Rattle.group_table.specs.Table.{TableState}
-use Rattle.group_table.specs.Standing.{IsSetWith, IsStanding}
-use Rattle.group_table.specs.Arrays.{HasNext, IsSpare, OnlyIn}
-use Rattle.group_table.specs.Space.{HoldsArray, HoldsNext}
+use Rattle.group_table.proofs.Words.{ChunkName, held_by, TreeState, context_at, TableState, IsSetWith, IsStanding, HasNext, IsSpare, OnlyIn, HoldsArray, HoldsNext}
 use Rattle.group_table.proofs.MoveLaws.{first_moved, larger_moved, only_moved, less_held, first_holds, larger_holds}
 use Rattle.group_table.proofs.TreeFacts.{only_once}
 use Rattle.group_table.proofs.table.GroupTable.settle.Goals as goal

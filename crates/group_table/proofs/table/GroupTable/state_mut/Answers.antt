@@ -1,12 +1,8 @@
 use Rattle.std.proofs.Common.{◌≡◌, ℕ, List, length, refl, sym, subst, ◌∙◌, ap}
 use Rattle.std.specs.Prelude.{IsTrue}
-use Rattle.chunk_layout.specs.Pieces.{place_of}
+use Rattle.group_table.proofs.Words.{place_of, chunks_of, has_chunk, chunk_bytes, with_bytes, context_at, ContextId, TableState}
 use Rattle.chunk_contexts.specs.Chunks.{KeepsOthers}
-use Rattle.context_tree.specs.Contexts.{chunks_of, has_chunk, chunk_bytes, with_bytes}
-use Rattle.context_tree.specs.Tree.{context_at}
 use Rattle.context_tree.specs.TreeLends.{with_bytes_in}
-use Rattle.context_tree.specs.declared.links.ContextId.{ContextId}
-use Rattle.group_table.specs.Table.{TableState}
 use Rattle.group_table.proofs.SpaceLaws.{holds_written}
 use Rattle.group_table.proofs.WriteLaws.{table_written, others_written, groups_written}
 use Rattle.group_table.proofs.table.GroupTable.state_mut.Goals as goal

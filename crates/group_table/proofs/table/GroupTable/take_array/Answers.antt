@@ -1,10 +1,5 @@
 use Rattle.std.proofs.Common.{◌≡◌, ◌+◌, ◌<◌, ◌≤◌, arith, ◌*◌, Some, length, sym, subst, ◌∙◌, ap, refl}
-use Rattle.group_table.specs.Table.{TableState, buckets_in, buckets_for, most_buckets}
-use Rattle.context_tree.specs.Tree.{TreeState, context_at}
-use Rattle.context_tree.specs.Contexts.{growth_of, held_by}
-use Rattle.group_table.specs.Arrays.{OnlyIn}
-use Rattle.group_table.specs.Space.{HoldsArray, HoldsNext}
-use Rattle.group_table.specs.Standing.{IsSetWith, IsStanding, IsTableIn}
+use Rattle.group_table.proofs.Words.{TableState, buckets_in, buckets_for, most_buckets, TreeState, context_at, growth_of, held_by, OnlyIn, HoldsArray, HoldsNext, IsSetWith, IsStanding, IsTableIn}
 use Rattle.group_table.proofs.SpaceLaws.{none_taken, next_taken}
 use Rattle.group_table.proofs.TakeLaws.{Taken, taken_by_array, room_left, array_grown}
 use Rattle.group_table.proofs.TreeFacts.{only_once, only_with}

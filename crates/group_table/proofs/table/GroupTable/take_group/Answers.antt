@@ -1,12 +1,7 @@
 use Rattle.std.proofs.Common.{◌≡◌, ◌+◌, ◌≤◌, ◌++◌, ◌∷◌, [], length, sym, subst, ◌∙◌, ap, arith}
-use Rattle.context_tree.specs.Contexts.{growth_of, has_chunk, chunk_bytes, IsCounted}
+use Rattle.group_table.proofs.Words.{growth_of, has_chunk, chunk_bytes, IsCounted, TreeState, context_at, held_below, Context, TableState, groups, IsStanding, IsNext, IsRunWith, IsSlabWith, HoldsKeyBlocks, HoldsStates}
 use Rattle.std.specs.Prelude.{IsTrue}
-use Rattle.context_tree.specs.Tree.{TreeState, context_at, held_below}
-use Rattle.context_tree.specs.declared.context.Context.{Context}
-use Rattle.group_table.specs.Table.{TableState, groups}
-use Rattle.group_table.specs.Standing.{IsStanding, KeepsOthers}
-use Rattle.group_table.specs.Arrays.{IsNext}
-use Rattle.group_table.specs.Space.{IsRunWith, IsSlabWith, HoldsKeyBlocks, HoldsStates}
+use Rattle.group_table.specs.Standing.{KeepsOthers}
 use Rattle.group_table.proofs.GroupLaws.{buckets_same, others_by_key, buckets_same_by_state, others_by_state, keys_is, key_taken, groups_by_key, held_by_key, states_same, states_is, state_taken, keys_same, groups_by_state, held_by_state}
 use Rattle.group_table.proofs.InsertLaws.{others_none, others_twice}
 use Rattle.group_table.proofs.SpaceLaws.{run_more, slab_more}

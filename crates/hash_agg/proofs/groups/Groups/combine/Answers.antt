@@ -2,11 +2,7 @@ use Rattle.std.specs.Prelude.{◌≡◌, ℕ, List, length}
 use Rattle.std.proofs.Common.{subst, rules}
 use Rattle.std.proofs.lemmas.Result.{on_ok_weaker, on_err_weaker}
 use Rattle.context_tree.specs.TreeLends.{with_bytes_in}
-use Rattle.group_table.specs.Table.{state_in}
-use Rattle.grouping_model.specs.Parts.{functions}
-use Rattle.having_filter.specs.Meaning.{meaning}
-use Rattle.hash_agg.specs.Passes.{GroupsState, WritesAt}
-use Rattle.group_runs.specs.Steps.{HaveRoomWithin, AreCombined}
+use Rattle.hash_agg.proofs.Words.{state_in, functions, meaning, GroupsState, WritesAt, HaveRoomWithin, AreCombined}
 use Rattle.hash_agg.proofs.NeedLaws.{still_held}
 use Rattle.hash_agg.proofs.groups.Groups.combine.Goals as goal
 

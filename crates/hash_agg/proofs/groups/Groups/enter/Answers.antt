@@ -1,8 +1,6 @@
 use Rattle.std.specs.Prelude.{◌++◌, ◌∷◌, []}
 use Rattle.std.proofs.Common.{sym, ◌∙◌, ap}
-use Rattle.aggregation_cost.specs.Space.{need}
-use Rattle.group_runs.specs.Runs.{packed_keys}
-use Rattle.hash_agg.specs.Passes.{GroupsState, entries_of}
+use Rattle.hash_agg.proofs.Words.{need, packed_keys, GroupsState, entries_of}
 use Rattle.hash_agg.proofs.NeedLaws.{most_entered, none_needed}
 use Rattle.hash_agg.proofs.TableLaws.{held_alone}
 use Rattle.hash_agg.proofs.groups.Groups.enter.Goals as goal

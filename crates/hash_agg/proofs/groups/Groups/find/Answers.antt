@@ -1,6 +1,5 @@
 use Rattle.std.proofs.Common.{subst}
-use Rattle.key_hashes.specs.SipHashes.{low_hash}
-use Rattle.hash_agg.specs.Passes.{GroupsState, AreOnce, entries_of}
+use Rattle.hash_agg.proofs.Words.{low_hash, GroupsState, AreOnce, entries_of}
 use Rattle.hash_agg.proofs.TableLaws.{once_groups}
 use Rattle.hash_agg.proofs.groups.Groups.find.Goals as goal
 

@@ -1,9 +1,7 @@
 use Rattle.std.specs.Prelude.{◌++◌, ◌∷◌, [], is_some}
 use Rattle.std.proofs.Common.{sym, ◌∙◌, ap, arith}
-use Rattle.aggregation_cost.specs.Space.{need, fits}
+use Rattle.hash_agg.proofs.Words.{need, fits, packed_keys, GroupsState, entries_of}
 use Rattle.group_table.specs.Space.{is_within}
-use Rattle.group_runs.specs.Runs.{packed_keys}
-use Rattle.hash_agg.specs.Passes.{GroupsState, entries_of}
 use Rattle.hash_agg.proofs.NeedLaws.{within_told, beyond_told}
 use Rattle.hash_agg.proofs.groups.Groups.need_within.Goals as goal
 

@@ -2,14 +2,7 @@ use Rattle.std.specs.Prelude.{◌≡◌, refl, ◌∷◌, ◌≤◌, [], length}
 use Rattle.std.proofs.Common.{sym, ◌∙◌, subst}
 use Rattle.std.proofs.lemmas.Result.{IfErr-weaker}
 use Rattle.tape_disks.specs.DiskLaws.{leaves_none}
-use Rattle.spill_tapes.specs.Records.{Record}
-use Rattle.spill_lists.specs.declared.error.SpillError.TheVariants.{NoMemory}
-use Rattle.grouping_model.specs.Query.{Query}
-use Rattle.grouping_model.specs.Grouping.{partials}
-use Rattle.grouping_model.specs.Parts.{functions}
-use Rattle.group_runs.specs.Steps.{AreCombined}
-use Rattle.hash_agg.specs.Added.{Entries, Are, query_of}
-use Rattle.hash_agg.specs.Passes.{group_record}
+use Rattle.hash_agg.proofs.Words.{Record, NoMemory, Query, partials, functions, AreCombined, Entries, Are, query_of, group_record}
 use Rattle.hash_agg.proofs.AddedLaws.{same_pass, there_added, new_added, left_added, refused_still, damaged_here}
 use Rattle.hash_agg.proofs.ReturnLaws.{same_table, same_rest, moved_table}
 use Rattle.hash_agg.proofs.StepLaws.{key_brief, key_short, group_short, same_wide, entry_told, there_room, one_group, is_group_record}

@@ -2,9 +2,7 @@ use Rattle.std.specs.Prelude.{refl, ◌∷◌, [], List, ℕ}
 use Rattle.std.proofs.Common.{sym, ◌∙◌}
 use Rattle.std.proofs.lemmas.Result.{IfErr-weaker}
 use Rattle.list_laws.specs.Outcomes.{ok_both}
-use Rattle.packed_rows.specs.Packing.{packing}
-use Rattle.hash_agg.specs.Added.{Entries, On_tape, query_of}
-use Rattle.hash_agg.specs.Passes.{Of_group, standing}
+use Rattle.hash_agg.proofs.Words.{packing, Entries, On_tape, query_of, Of_group, standing}
 use Rattle.hash_agg.proofs.AddedLaws.{same_pass, added_by, refused_by, refused_still, damaged_here}
 use Rattle.hash_agg.proofs.RecordLaws.{can_group_record, split_right, record_is_group}
 use Rattle.hash_agg.proofs.ReturnLaws.{ok_any}

@@ -1,9 +1,7 @@
 use Rattle.std.specs.Prelude.{◌∷◌, []}
 use Rattle.std.proofs.Common.{sym, subst, arith}
 use Rattle.std.proofs.lemmas.List.Sums.{sum_by-cons}
-use Rattle.hash_agg.specs.declared.input.Input.{Input}
-use Rattle.hash_agg.specs.Added.{Added, Adds, AreInputs, query_of, source_of}
-use Rattle.hash_agg.specs.Inputs.{Counted, brought, rows_in}
+use Rattle.hash_agg.proofs.Words.{Input, Added, Adds, AreInputs, query_of, source_of, Counted, brought, rows_in}
 use Rattle.hash_agg.proofs.ReturnLaws.{run_within}
 use Rattle.hash_agg.proofs.pass.Pass.add_input.Goals as goal
 

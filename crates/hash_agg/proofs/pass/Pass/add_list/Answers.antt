@@ -2,11 +2,7 @@ use Rattle.std.specs.Prelude.{◌≡◌, refl, ◌+◌, ◌∷◌, ℕ, List, []
 use Rattle.std.proofs.Common.{sym, ap, subst, arith, inl}
 use Rattle.tape_disks.specs.DiskLaws.{leaves_none, leaves_twice, reads_leaves}
 use Rattle.spill_tapes.specs.Tape.{Gives}
-use Rattle.spill_lists.specs.Errors.{spill_faults}
-use Rattle.spill_lists.specs.Standing.{HasLists, count_of, spilled_number, ahead_number}
-use Rattle.grouping_model.specs.Query.{Query}
-use Rattle.hash_agg.specs.Added.{On_tape, query_of}
-use Rattle.hash_agg.specs.Passes.{ArePieces, AreSafe, Reads, CanRead, entries_of, standing}
+use Rattle.hash_agg.proofs.Words.{spill_faults, HasLists, count_of, spilled_number, ahead_number, Query, On_tape, query_of, ArePieces, AreSafe, Reads, CanRead, entries_of, standing}
 use Rattle.hash_agg.proofs.AddedLaws.{added_first, refused_first, later_none, later_next, later_same}
 use Rattle.hash_agg.proofs.DiskLaws.{left_out}
 use Rattle.hash_agg.proofs.ReadLaws.{reading_begins, can_read_next, reads_next, reading_ends, spent_next, spent_ends}

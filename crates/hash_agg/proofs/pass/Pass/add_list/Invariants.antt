@@ -1,10 +1,5 @@
 use Rattle.std.specs.Prelude.{◌+◌, ◌≤◌, List, [], IsTrue}
-use Rattle.tape_disks.specs.Disk.{Leaves}
-use Rattle.spill_tapes.specs.Records.{Record}
-use Rattle.spill_lists.specs.Lists.{LeftList}
-use Rattle.spill_lists.specs.Standing.{HasLists, ahead_number}
-use Rattle.hash_agg.specs.Added.{IsReady, KeepsLater, query_of}
-use Rattle.hash_agg.specs.Passes.{Piece, ArePieces, CountUpTo, WritesPages, AreSafe, entries_of, standing, total}
+use Rattle.hash_agg.proofs.Words.{Leaves, Record, LeftList, HasLists, ahead_number, IsReady, KeepsLater, query_of, Piece, ArePieces, CountUpTo, WritesPages, AreSafe, entries_of, standing, total}
 use Rattle.hash_agg.proofs.ReadLaws.{IsReading, IsSpent}
 use Rattle.hash_agg.proofs.pass.Pass.add_list.Given as goal
 

@@ -2,8 +2,7 @@ use Rattle.std.specs.Prelude.{refl}
 use Rattle.std.proofs.Common.{sym, ◌∙◌, arith}
 use Rattle.std.proofs.lemmas.Result.{on_ok_weaker}
 use Rattle.tape_disks.specs.DiskLaws.{leaves_none}
-use Rattle.packed_rows.specs.View.{row_of}
-use Rattle.hash_agg.specs.Passes.{standing}
+use Rattle.hash_agg.proofs.Words.{row_of, standing}
 use Rattle.hash_agg.proofs.AddedLaws.{same_pass, refused_still}
 use Rattle.hash_agg.proofs.RecordLaws.{can_row, row_over}
 use Rattle.hash_agg.proofs.pass.Pass.add_row.Goals as goal

@@ -2,10 +2,7 @@ use Rattle.std.specs.Prelude.{refl, ◌∷◌, [], List, ℕ}
 use Rattle.std.proofs.Common.{sym, ◌∙◌, ap}
 use Rattle.std.proofs.lemmas.Result.{IfErr-weaker}
 use Rattle.list_laws.specs.Outcomes.{ok_both}
-use Rattle.spill_lists.specs.declared.error.SpillError.TheVariants.{NoMemory}
-use Rattle.packed_rows.specs.View.{row_of}
-use Rattle.hash_agg.specs.Added.{Packed_rows, On_tape, query_of}
-use Rattle.hash_agg.specs.Passes.{Of_row, standing}
+use Rattle.hash_agg.proofs.Words.{NoMemory, row_of, Packed_rows, On_tape, query_of, Of_row, standing}
 use Rattle.hash_agg.proofs.AddedLaws.{same_pass, added_by, refused_by, refused_still, damaged_here}
 use Rattle.hash_agg.proofs.RecordLaws.{can_row_record, record_is_row, row_right}
 use Rattle.hash_agg.proofs.ReturnLaws.{ok_any}

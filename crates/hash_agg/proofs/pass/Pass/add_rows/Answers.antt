@@ -1,9 +1,7 @@
 use Rattle.std.specs.Prelude.{◌∷◌, []}
 use Rattle.std.proofs.Common.{arith}
 use Rattle.tape_disks.specs.DiskLaws.{leaves_none, leaves_twice}
-use Rattle.spill_lists.specs.Errors.{spill_faults}
-use Rattle.hash_agg.specs.Added.{Packed_rows, query_of}
-use Rattle.hash_agg.specs.Inputs.{packings_in}
+use Rattle.hash_agg.proofs.Words.{spill_faults, Packed_rows, query_of, packings_in}
 use Rattle.hash_agg.proofs.AddedLaws.{none_added, next_added, next_refused, all_added, refused_out}
 use Rattle.hash_agg.proofs.StepLaws.{flat_is_at, flat_short}
 use Rattle.hash_agg.proofs.pass.Pass.add_rows.Goals as goal

@@ -1,6 +1,4 @@
-use Rattle.tape_disks.specs.Disk.{Leaves}
-use Rattle.hash_agg.specs.Added.{Packed_rows}
-use Rattle.hash_agg.specs.Inputs.{packings_in}
+use Rattle.hash_agg.proofs.Words.{Leaves, Packed_rows, packings_in}
 use Rattle.hash_agg.proofs.AddedLaws.{AddedSome}
 use Rattle.hash_agg.proofs.pass.Pass.add_rows.Given as goal
 

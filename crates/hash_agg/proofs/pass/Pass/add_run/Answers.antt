@@ -1,13 +1,8 @@
 use Rattle.std.specs.Prelude.{◌∷◌, [], List, ℕ}
 use Rattle.std.proofs.Common.{sym, subst, arith}
 use Rattle.tape_disks.specs.DiskLaws.{leaves_none, leaves_twice}
-use Rattle.spill_lists.specs.Errors.{spill_faults}
-use Rattle.grouping_model.specs.Grouping.{Group}
-use Rattle.having_filter.specs.Meaning.{meaning}
-use Rattle.group_runs.specs.Standing.{StandsFor}
+use Rattle.hash_agg.proofs.Words.{spill_faults, Group, meaning, StandsFor, Entries, query_of, Plan}
 use Rattle.group_runs.specs.StandingLaws.{group_at}
-use Rattle.hash_agg.specs.Added.{Entries, query_of}
-use Rattle.hash_agg.specs.declared.plan.Plan.{Plan}
 use Rattle.hash_agg.proofs.AddedLaws.{none_added, next_added, next_refused, all_added, entry_is_at, refused_out}
 use Rattle.hash_agg.proofs.StepLaws.{run_short}
 use Rattle.hash_agg.proofs.pass.Pass.add_run.Goals as goal

@@ -1,5 +1,4 @@
-use Rattle.tape_disks.specs.Disk.{Leaves}
-use Rattle.hash_agg.specs.Added.{Entries}
+use Rattle.hash_agg.proofs.Words.{Leaves, Entries}
 use Rattle.hash_agg.proofs.AddedLaws.{AddedSome}
 use Rattle.hash_agg.proofs.pass.Pass.add_run.Given as goal
 

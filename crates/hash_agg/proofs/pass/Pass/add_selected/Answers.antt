@@ -2,13 +2,8 @@ use Rattle.std.specs.Prelude.{refl, ◌∷◌, ◌++◌, []}
 use Rattle.std.proofs.Common.{sym, ◌∙◌, ap, arith}
 use Rattle.std.proofs.lemmas.Result.{IfErr-weaker}
 use Rattle.tape_disks.specs.DiskLaws.{leaves_none}
-use Rattle.grouping_model.specs.Grouping.{key_of, partials}
-use Rattle.grouping_model.specs.Query.{Query}
-use Rattle.packed_rows.specs.View.{row_of}
-use Rattle.group_runs.specs.Steps.{AreAdvanced}
-use Rattle.spill_lists.specs.declared.error.SpillError.TheVariants.{NoMemory}
-use Rattle.hash_agg.specs.Added.{Packed_rows, query_of}
-use Rattle.hash_agg.specs.Passes.{AreRows, entries_of}
+use Rattle.hash_agg.proofs.Words.{partials, Query, row_of, AreAdvanced, NoMemory, Packed_rows, query_of, AreRows, entries_of}
+use Rattle.grouping_model.specs.Grouping.{key_of}
 use Rattle.hash_agg.proofs.AddedLaws.{same_pass, there_added, new_added, left_added, refused_still, damaged_here}
 use Rattle.hash_agg.specs.Lemmas.KeyLaws.{key_has}
 use Rattle.hash_agg.proofs.ReturnLaws.{same_table, same_rest, moved_table}

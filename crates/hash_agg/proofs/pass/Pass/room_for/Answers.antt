@@ -1,9 +1,6 @@
 use Rattle.std.specs.Prelude.{◌≡◌, ◌++◌, ◌∷◌, ◌&&◌, [], ℕ, List}
 use Rattle.std.proofs.Common.{sym, ◌∙◌, ap}
-use Rattle.aggregation_cost.specs.Passes.{is_empty}
-use Rattle.aggregation_cost.specs.Space.{fits}
-use Rattle.group_runs.specs.Runs.{packed_keys}
-use Rattle.hash_agg.specs.Passes.{entries_of, setting_of}
+use Rattle.hash_agg.proofs.Words.{is_empty, fits, packed_keys, entries_of, setting_of}
 use Rattle.hash_agg.proofs.pass.Pass.room_for.Goals as goal
 
 pub returns-clause-exact : goal.returns-clause-exact

@@ -1,9 +1,5 @@
 use Rattle.std.proofs.Common.{subst}
-use Rattle.grouping_model.specs.Datum.{HasKinds}
-use Rattle.grouping_model.specs.Query.{Query}
-use Rattle.grouping_model.specs.Parts.{functions}
-use Rattle.packed_rows.specs.View.{row_of}
-use Rattle.having_filter.specs.Meaning.{meaning}
+use Rattle.hash_agg.proofs.Words.{HasKinds, Query, functions, row_of, meaning}
 use Rattle.group_runs.specs.StandingLaws.{states_by}
 use Rattle.agg_library.specs.StateRowLaws.{all_raised}
 use Rattle.hash_agg.proofs.plan.Plan.check_group.Goals as goal

@@ -1,6 +1,5 @@
 use Rattle.std.specs.Prelude.{◌≡◌, [], map, drop, slice_index_or}
-use Rattle.having_filter.specs.Meaning.{order_term}
-use Rattle.grouping_model.specs.Order.{terms_cmp}
+use Rattle.having_filter.proofs.Words.{order_term, terms_cmp}
 use Rattle.having_filter.proofs.answer.AnswerRows.compare.Given as goal
 
 abbrev pub invariant-loop-term : goal.invariant-loop-term

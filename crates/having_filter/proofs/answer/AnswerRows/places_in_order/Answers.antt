@@ -5,9 +5,7 @@ use Rattle.std.proofs.Common.{◌∙◌, ap, rules}
 use Rattle.std.proofs.lemmas.Fn.{always_returns_same}
 use Rattle.std.proofs.lemmas.List.MinMax.{ranks_by}
 use Rattle.std.proofs.lemmas.List.Sorted.{All-permutation}
-use Rattle.grouping_model.specs.Aggregates.{Outcome}
-use Rattle.having_filter.specs.Meaning.{order_term}
-use Rattle.grouping_model.specs.Order.{Term, terms_cmp, comes_before}
+use Rattle.having_filter.proofs.Words.{Outcome, order_term, Term, terms_cmp, comes_before}
 use Rattle.grouping_model.specs.OrderLaws.{terms_cmp_total}
 use Rattle.grouping_model.specs.Sorting.{sorted_by, sorted_once, sorted_mapped}
 use Rattle.having_filter.proofs.answer.AnswerRows.places_in_order.Goals as goal

@@ -1,7 +1,6 @@
 use Rattle.std.specs.Prelude.{◌≡◌, ◌∷◌, length, slice_index_or, refl}
 use Rattle.std.proofs.Common.{sym, ◌∙◌, ap, subst, arith}
-use Rattle.agg_protocol.specs.Results.{outcome_of}
-use Rattle.packed_rows.specs.RowsOnEnd.{LieAs}
+use Rattle.having_filter.proofs.Words.{outcome_of, LieAs}
 use Rattle.packed_rows.specs.RowsOnEndLaws.{cut_long, row_at, row_long, element_is}
 use Rattle.having_filter.proofs.answer.AnswerRows.value.Goals as goal
 

@@ -1,8 +1,7 @@
 use Rattle.std.specs.Prelude.{string_bytes, ◌++◌, ◌∷◌, []}
 use Rattle.std.proofs.Common.{◌∙◌, ap, subst, sym, rules}
 use Rattle.std.proofs.lemmas.Result.{err_from_is_err_and}
-use Rattle.agg_protocol.specs.Results.{outcome_of}
-use Rattle.having_filter.specs.Answers.{outcomes_in, AllLieIn}
+use Rattle.having_filter.proofs.Words.{outcome_of, outcomes_in, AllLieIn}
 use Rattle.having_filter.proofs.AnswerLaws.{all_stay, same_outcomes, all_with, outcomes_with}
 use Rattle.having_filter.proofs.cells.Values.push.Goals as goal
 

@@ -1,9 +1,6 @@
 use Rattle.std.proofs.Common.{ℕ, ap, ◌∙◌, map, get_or, List, option_map}
-use Rattle.grouping_model.specs.Datum.{Bigint_kind}
-use Rattle.agg_protocol.specs.Kinds.{function_of}
+use Rattle.having_filter.proofs.Words.{Bigint_kind, function_of, call_form, item_form, form_of, source_of_form, group_condition}
 use Rattle.query_checks.specs.declared.condition.AggCall.{AggCall}
-use Rattle.query_checks.specs.Forms.{call_form, item_form, form_of}
-use Rattle.having_filter.specs.Meaning.{source_of_form, group_condition}
 use Rattle.having_filter.proofs.PlanLaws.{plans}
 use Rattle.having_filter.proofs.plan.Plan.new.Goals as goal
 

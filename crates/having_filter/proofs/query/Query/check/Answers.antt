@@ -1,11 +1,8 @@
 use Rattle.std.specs.Prelude.{Ok}
 use Rattle.std.proofs.Common.{◌∙◌, ap, sym, subst, map}
 use Rattle.std.specs.String.{string_bytes}
-use Rattle.packed_rows.specs.Columns.{AreColumns}
-use Rattle.query_checks.specs.Order.{asked_of}
-use Rattle.query_checks.specs.Parts.{checked_of}
+use Rattle.having_filter.proofs.Words.{AreColumns, asked_of, checked_of, IsKept}
 use Rattle.query_checks.specs.CheckedLaws.{refused_as}
-use Rattle.having_filter.specs.Plans.{IsKept}
 use Rattle.having_filter.specs.declared.query.Kept.{Kept}
 use Rattle.having_filter.proofs.CheckedLaws.{kept, checked_here, refused_places, refused_order}
 use Rattle.having_filter.proofs.query.Query.check.Goals as goal

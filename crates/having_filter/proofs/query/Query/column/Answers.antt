@@ -1,9 +1,5 @@
 use Rattle.std.proofs.Common.{ap, ◌∙◌, ◌==◌, Option, Some, map, option_map}
-use Rattle.grouping_model.specs.Query.{Aggregate}
-use Rattle.agg_protocol.specs.Kinds.{function_of}
-use Rattle.query_checks.specs.Checks.{Checked}
-use Rattle.query_checks.specs.Forms.{call_form}
-use Rattle.query_checks.specs.Calls.{distinct_calls}
+use Rattle.having_filter.proofs.Words.{Aggregate, function_of, Checked, call_form, distinct_calls}
 use Rattle.having_filter.proofs.PlanLaws.{aggregate_at, column_of_call}
 use Rattle.having_filter.proofs.query.Query.column.Goals as goal
 

@@ -1,13 +1,6 @@
 use Rattle.std.proofs.Common.{ap, sym, ◌∙◌, ◌==◌, Option, Some, map, option_map}
-use Rattle.grouping_model.specs.Query.{Aggregate}
-use Rattle.grouping_model.specs.Condition.{is_met}
+use Rattle.having_filter.proofs.Words.{Aggregate, is_met, row_of, function_of, Checked, call_form, distinct_calls, column_leaf}
 use Rattle.grouping_model.specs.Grouping.{column_of}
-use Rattle.packed_rows.specs.View.{row_of}
-use Rattle.agg_protocol.specs.Kinds.{function_of}
-use Rattle.query_checks.specs.Checks.{Checked}
-use Rattle.query_checks.specs.Forms.{call_form}
-use Rattle.query_checks.specs.Calls.{distinct_calls}
-use Rattle.having_filter.specs.Meaning.{column_leaf}
 use Rattle.having_filter.proofs.ValueLaws.{met_in_steps}
 use Rattle.having_filter.proofs.PlanLaws.{aggregate_at, filter_of_call}
 use Rattle.having_filter.proofs.query.Query.filter_true.Goals as goal

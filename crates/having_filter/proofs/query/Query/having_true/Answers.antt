@@ -1,11 +1,7 @@
 use Rattle.std.proofs.Common.{ap, ◌∙◌, Option, map, option_map}
 use Rattle.grouping_model.specs.Query.{Source}
-use Rattle.grouping_model.specs.Condition.{Condition, is_met}
+use Rattle.having_filter.proofs.Words.{Condition, is_met, outcome_of, Checked, meaning, by_sources}
 use Rattle.grouping_model.specs.Answer.{outcome_at}
-use Rattle.agg_protocol.specs.Results.{outcome_of}
-use Rattle.query_checks.specs.Checks.{Checked}
-use Rattle.having_filter.specs.Meaning.{meaning}
-use Rattle.having_filter.specs.Plans.{by_sources}
 use Rattle.having_filter.proofs.PlanLaws.{having_in_steps}
 use Rattle.having_filter.proofs.query.Query.having_true.Goals as goal
 

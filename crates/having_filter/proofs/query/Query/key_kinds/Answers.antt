@@ -1,8 +1,5 @@
 use Rattle.std.proofs.Common.{ap, ◌∙◌}
-use Rattle.packed_rows.specs.View.{kinds_of}
-use Rattle.query_checks.specs.Checks.{Checked}
-use Rattle.having_filter.specs.Meaning.{meaning}
-use Rattle.having_filter.specs.Kept.{key_kinds}
+use Rattle.having_filter.proofs.Words.{kinds_of, Checked, meaning, key_kinds}
 use Rattle.having_filter.proofs.query.Query.key_kinds.Goals as goal
 
 pub returns : goal.returns

@@ -1,8 +1,6 @@
 use Rattle.std.specs.Prelude.{map}
 use Rattle.std.proofs.Common.{ap, ◌∙◌}
-use Rattle.query_checks.specs.Checks.{Checked}
-use Rattle.having_filter.specs.Meaning.{meaning}
-use Rattle.having_filter.specs.Plans.{source_of}
+use Rattle.having_filter.proofs.Words.{Checked, meaning, source_of}
 use Rattle.having_filter.proofs.query.Query.sources.Goals as goal
 
 pub returns : goal.returns

@@ -1,10 +1,6 @@
 use Rattle.std.proofs.Common.{ap, ◌∙◌, option_map}
-use Rattle.grouping_model.specs.Condition.{is_met}
+use Rattle.having_filter.proofs.Words.{is_met, row_of, form_of, Checked, column_leaf, row_condition}
 use Rattle.grouping_model.specs.Grouping.{column_of}
-use Rattle.packed_rows.specs.View.{row_of}
-use Rattle.query_checks.specs.Forms.{form_of}
-use Rattle.query_checks.specs.Checks.{Checked}
-use Rattle.having_filter.specs.Meaning.{column_leaf, row_condition}
 use Rattle.having_filter.proofs.ValueLaws.{met_in_steps}
 use Rattle.having_filter.proofs.query.Query.where_true.Goals as goal
 

@@ -3,11 +3,7 @@ use Rattle.std.proofs.Common.{◌∙◌, ap, subst}
 use Rattle.std.proofs.lemmas.Result.{IfOk-weaker}
 use Rattle.grouping_model.specs.Aggregates.{Outcome}
 use Rattle.grouping_model.specs.Answer.{answer}
-use Rattle.grouping_model.specs.World.{World, IsWorld}
-use Rattle.packed_rows.specs.Columns.{kinds}
-use Rattle.having_filter.specs.Meaning.{meaning}
-use Rattle.replica_merge.specs.Replicas.{Held, Fits, told, counted_part}
-use Rattle.replica_merge.specs.Unions.{brought_by}
+use Rattle.replica_merge.proofs.Words.{World, IsWorld, kinds, meaning, Held, Fits, told, counted_part, brought_by}
 use Rattle.replica_merge.proofs.AnswerLaws.{IsOfParts, shows, only_run, whole_run, listed_inputs, listed_few, shown_wide, shown_answer}
 use Rattle.replica_merge.proofs.replica.Replica.answer.Goals as goal
 

@@ -1,8 +1,6 @@
 use Rattle.std.specs.Prelude.{◌≡◌, ℕ, Bool, IsTrue}
 use Rattle.std.proofs.Common.{◌∙◌, sym, subst}
-use Rattle.grouping_model.specs.World.{World, IsWorld, union}
-use Rattle.packed_rows.specs.Columns.{kinds}
-use Rattle.replica_merge.specs.Replicas.{Parts, Held, part_at, told, Fits, AreHeldParts, JoinedAside, Merges, filled}
+use Rattle.replica_merge.proofs.Words.{World, IsWorld, union, kinds, Parts, Held, part_at, told, Fits, AreHeldParts, JoinedAside, Merges, filled}
 use Rattle.replica_merge.proofs.MergedLaws.{merges, merged_held, merged_told, merged_fits}
 use Rattle.replica_merge.proofs.replica.Replica.commit.Goals as goal
 

@@ -1,16 +1,7 @@
 use Rattle.std.specs.Prelude.{◌≡◌, ◌≢◌, ℕ, List, Option, Some, IfOk, IfErr, OnOk, IsTrue, false}
 use Rattle.std.proofs.Common.{subst}
-use Rattle.grouping_model.specs.Datum.{Row}
-use Rattle.grouping_model.specs.Replies.{reply_of}
-use Rattle.grouping_model.specs.World.{World, IsWorld, knows, learn}
-use Rattle.packed_rows.specs.Columns.{kinds}
-use Rattle.batch_reader.specs.Rows.{packings}
-use Rattle.having_filter.specs.Meaning.{meaning}
-use Rattle.hash_agg.specs.Counting.{AreCounted, setting_by}
-use Rattle.origin_prefix.specs.Parts.{Disagrees, BatchTells, aggregations_on}
-use Rattle.origin_prefix.specs.declared.error.JoinError.TheVariants.{OriginDisagrees, Spill}
+use Rattle.replica_merge.proofs.Words.{Row, reply_of, World, IsWorld, knows, learn, kinds, packings, meaning, AreCounted, setting_by, Disagrees, BatchTells, aggregations_on, OriginDisagrees, Spill, Held, part_of, told, Fits, DeliversAt}
 use Rattle.spill_lists.specs.declared.error.SpillError.{SpillError}
-use Rattle.replica_merge.specs.Replicas.{Held, part_of, told, Fits, DeliversAt}
 use Rattle.replica_merge.proofs.DeliveredLaws.{still_held, reply_told, more_told, still_fits, handed_back, why_told, agreed_else, unknown_else, world_agrees}
 use Rattle.replica_merge.proofs.replica.Replica.deliver.Goals as goal
 

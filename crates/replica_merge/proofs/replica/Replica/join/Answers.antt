@@ -1,14 +1,8 @@
 use Rattle.std.specs.Prelude.{◌≡◌, ℕ, Option, IfErr, IsTrue}
 use Rattle.std.proofs.Common.{◌∙◌, sym, ap, subst}
 use Rattle.std.proofs.lemmas.Result.{err_from_is_err_and}
-use Rattle.grouping_model.specs.World.{World}
-use Rattle.query_checks.specs.Checks.{Checked}
-use Rattle.having_filter.specs.Meaning.{meaning}
-use Rattle.hash_agg.specs.Counting.{setting_by}
+use Rattle.replica_merge.proofs.Words.{World, Checked, meaning, setting_by, JoinsInOrder, Held, Fits, AreHeldParts, DisagreeSomewhere, MergeTells, OriginDisagrees}
 use Rattle.query_grammar.specs.Lemmas.OneText.{one_text}
-use Rattle.replica_merge.specs.Counting.{JoinsInOrder}
-use Rattle.replica_merge.specs.Replicas.{Held, Fits, AreHeldParts, DisagreeSomewhere, MergeTells}
-use Rattle.origin_prefix.specs.declared.error.JoinError.TheVariants.{OriginDisagrees}
 use Rattle.replica_merge.specs.declared.error.MergeError.TheVariants.{Join}
 use Rattle.replica_merge.proofs.MergedLaws.{never_refused, aside_agree}
 use Rattle.replica_merge.proofs.replica.Replica.join.Goals as goal

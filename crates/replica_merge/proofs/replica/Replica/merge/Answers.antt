@@ -1,6 +1,5 @@
 use Rattle.std.proofs.Common.{subst}
-use Rattle.query_checks.specs.Checks.{Checked}
-use Rattle.replica_merge.specs.Replicas.{Fits}
+use Rattle.replica_merge.proofs.Words.{Checked, Fits}
 use Rattle.replica_merge.proofs.replica.Replica.merge.Goals as goal
 
 pub commit-requires : goal.commit-requires

@@ -1,9 +1,7 @@
 use Rattle.std.specs.Prelude.{◌≡◌, IfOk}
 use Rattle.std.proofs.Common.{subst}
 use Rattle.std.proofs.lemmas.Result.{IfOk-weaker}
-use Rattle.grouping_model.specs.World.{World}
-use Rattle.summary_codec.specs.WorldFile.{world_file}
-use Rattle.replica_merge.specs.Replicas.{Held, told, Fits}
+use Rattle.replica_merge.proofs.Words.{World, world_file, Held, told, Fits}
 use Rattle.replica_merge.proofs.SavedLaws.{saved_world}
 use Rattle.replica_merge.proofs.replica.Replica.save.Goals as goal
 

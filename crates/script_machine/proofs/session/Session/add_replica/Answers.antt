@@ -5,8 +5,7 @@ use Rattle.std.specs.declared.vec.Vec.{Vec}
 use Rattle.std.specs.Str.{bytes_eq}
 use Rattle.std.specs.HashMap.{UpdatesBy}
 use Rattle.script_commands.specs.Commands as ask
-use Rattle.replica_merge.specs.Replicas.{Held}
-use Rattle.script_machine.specs.Views.{Store, Steps}
+use Rattle.script_machine.proofs.Words.{Held, Store, Steps}
 use Rattle.replies.specs.declared.refusal.Refusal.TheVariants as why
 use Rattle.replies.specs.declared.reply.Reply.TheVariants as says
 use Rattle.script_machine.proofs.StoreLaws.{replica_too_early, name_taken, replica_made, no_memory_same, out_of_memory, same_entries, store_updated, updated}

@@ -3,15 +3,11 @@ use Rattle.std.proofs.Common.{◌∙◌, ap, sym, subst}
 use Rattle.std.proofs.lemmas.Result.{err_from_is_err_and}
 use Rattle.csv.specs.Records.{fields_of}
 use Rattle.script_commands.specs.Commands as ask
-use Rattle.script_commands.specs.Commands.{owned_by, request_of}
+use Rattle.script_machine.proofs.Words.{owned_by, request_of, Leaves, WorksAtLimit, is_tape_fault, faults_in, Steps}
 use Rattle.script_commands.specs.Views.{request_view}
 use Rattle.script_commands.specs.declared.request.Request.{Request}
 use Rattle.script_commands.specs.Lemmas.CommandLaws.{owned_told}
-use Rattle.tape_disks.specs.Disk.{Leaves}
 use Rattle.tape_disks.specs.DiskLaws.{leaves_none}
-use Rattle.script_machine.specs.Limits.{WorksAtLimit}
-use Rattle.replies.specs.Text.{is_tape_fault, faults_in}
-use Rattle.script_machine.specs.Views.{Steps}
 use Rattle.replies.specs.declared.reply.Reply.{Reply}
 use Rattle.replies.specs.declared.refusal.Refusal.TheVariants as why
 use Rattle.replies.specs.declared.reply.Reply.TheVariants as says

@@ -2,8 +2,7 @@ use Rattle.std.specs.Prelude.{Some, take}
 use Rattle.std.proofs.Common.{◌∙◌, ap, sym, subst, inl, inr}
 use Rattle.std.specs.Option.{is_some}
 use Rattle.script_commands.specs.Commands as ask
-use Rattle.script_machine.specs.Limits.{WorksAtLimit}
-use Rattle.script_machine.specs.Views.{Store, Steps, Updates}
+use Rattle.script_machine.proofs.Words.{WorksAtLimit, Store, Steps, Updates}
 use Rattle.replies.specs.declared.refusal.Refusal.TheVariants as why
 use Rattle.replies.specs.declared.reply.Reply.TheVariants as says
 use Rattle.script_machine.proofs.StoreLaws.{disagrees_or, feed_disagrees, feed_nowhere, feed_refused, feed_took, held_asks, same_updated, store_updated, updated}

@@ -1,12 +1,10 @@
 use Rattle.std.proofs.Common.{◌∙◌, ap, sym, subst}
 use Rattle.std.proofs.lemmas.Result.{on_ok_weaker}
 use Rattle.std.specs.Option.{option_copied}
-use Rattle.having_filter.specs.Meaning.{meaning}
+use Rattle.script_machine.proofs.Words.{meaning, WorksAtLimit, setting_at, Store, JoinsNames}
 use Rattle.replica_merge.specs.Counting.{MergeIsCounted}
 use Rattle.script_commands.specs.Commands as ask
 use Rattle.replies.specs.declared.reply.Reply.TheVariants as says
-use Rattle.script_machine.specs.Limits.{WorksAtLimit, setting_at}
-use Rattle.script_machine.specs.Views.{Store, JoinsNames}
 use Rattle.script_machine.proofs.StoreLaws.{joins_names}
 use Rattle.script_machine.proofs.session.Session.join.Goals as goal
 

@@ -1,11 +1,9 @@
 use Rattle.std.specs.Prelude.{◌≡◌, Some}
 use Rattle.std.proofs.Common.{◌∙◌, ap, sym, subst}
 use Rattle.std.specs.Option.{is_some}
-use Rattle.query_checks.specs.Checks.{Checked}
-use Rattle.replica_merge.specs.Replicas.{Held, Fits}
+use Rattle.script_machine.proofs.Words.{Checked, Held, Fits, Store, Steps, Updates, replica_at}
 use Rattle.script_commands.specs.Commands as ask
 use Rattle.replies.specs.Joining.{JoinsHeld}
-use Rattle.script_machine.specs.Views.{Store, Steps, Updates, replica_at}
 use Rattle.replies.specs.declared.reply.Reply.TheVariants as says
 use Rattle.script_machine.proofs.StoreLaws.{held_asks, merge_refused, merged, one_query, one_there, store_updated, updated}
 use Rattle.script_machine.proofs.session.Session.merge.Goals as goal

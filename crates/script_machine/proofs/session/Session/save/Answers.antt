@@ -5,9 +5,8 @@ use Rattle.std.specs.declared.vec.Vec.{Vec}
 use Rattle.std.specs.Str.{bytes_eq}
 use Rattle.std.specs.HashMap.{UpdatesBy}
 use Rattle.summary_codec.specs.Reading.{IsSaved}
-use Rattle.replica_merge.specs.Replicas.{Held}
+use Rattle.script_machine.proofs.Words.{Held, Store, Steps}
 use Rattle.script_commands.specs.Commands as ask
-use Rattle.script_machine.specs.Views.{Store, Steps}
 use Rattle.replies.specs.declared.refusal.Refusal.TheVariants as why
 use Rattle.replies.specs.declared.reply.Reply.TheVariants as says
 use Rattle.script_machine.proofs.StoreLaws.{save_nowhere, saved_as, filed, store_filed, same_files, held_asks, no_memory_same, out_of_memory}

@@ -2,8 +2,7 @@ use Rattle.std.specs.Prelude.{◌≡◌, Some, false}
 use Rattle.std.proofs.Common.{◌∙◌, ap, sym, subst}
 use Rattle.std.specs.Option.{is_some}
 use Rattle.script_commands.specs.Commands as ask
-use Rattle.replies.specs.Text.{is_tape_fault}
-use Rattle.script_machine.specs.Views.{Store, Steps}
+use Rattle.script_machine.proofs.Words.{is_tape_fault, Store, Steps}
 use Rattle.replies.specs.declared.reply.Reply.TheVariants as says
 use Rattle.replies.specs.RefusalLaws.{row_tells}
 use Rattle.script_machine.proofs.StoreLaws.{columns_there, no_schema, columns_told}

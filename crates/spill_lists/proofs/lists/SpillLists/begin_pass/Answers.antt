@@ -1,6 +1,5 @@
 use Rattle.std.proofs.Common.{[], refl, arith, ap, sym, subst, ◌∙◌}
-use Rattle.spill_lists.specs.Fields.{one_or_none}
-use Rattle.spill_lists.specs.Standing.{ListsState, HasLists, HaveRecords}
+use Rattle.spill_lists.proofs.Words.{one_or_none, ListsState, HasLists, HaveRecords}
 use Rattle.spill_lists.proofs.StandingLaws.{lists_begun, has_begun}
 use Rattle.spill_lists.proofs.EndLaws.{filled_front}
 use Rattle.spill_lists.proofs.lists.SpillLists.begin_pass.Goals as goal

@@ -1,8 +1,5 @@
 use Rattle.std.proofs.Common.{◌≡◌, ◌+◌, ◌<◌, ◌∷◌, ◌++◌, [], ℕ, List, false, length, get_or, drop, ap, sym, subst, ◌∙◌, add-one}
-use Rattle.spill_lists.specs.declared.lists.OnTape.{OnTape}
-use Rattle.spill_lists.specs.Fields.{one_or_none}
-use Rattle.spill_lists.specs.Lists.{lists}
-use Rattle.spill_lists.specs.Standing.{ListsState, AreSpilled, pages_of, written_pages}
+use Rattle.spill_lists.proofs.Words.{OnTape, one_or_none, lists, ListsState, AreSpilled, pages_of, written_pages}
 use Rattle.spill_lists.proofs.PageLaws.{IsPaged, paged_start, paged_step, paged_end, rest_apart}
 use Rattle.std.proofs.Math.Seq.{drop-cons}
 use Rattle.std.proofs.lemmas.List.{drop_all}

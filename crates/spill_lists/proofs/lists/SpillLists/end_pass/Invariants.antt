@@ -1,9 +1,7 @@
 use Rattle.std.specs.Prelude.{List}
 use Rattle.std.proofs.Common.{drop}
 use Rattle.tape_disks.specs.Disk.{Leaves}
-use Rattle.spill_tapes.specs.Records.{Record}
-use Rattle.spill_lists.specs.Lists.{LeftList, lists}
-use Rattle.spill_lists.specs.Standing.{HasLists, pages_of, written_pages}
+use Rattle.spill_lists.proofs.Words.{Record, LeftList, lists, HasLists, pages_of, written_pages}
 use Rattle.spill_lists.proofs.PageLaws.{IsPaged}
 use Rattle.spill_lists.proofs.PassLaws.{IsEnding}
 use Rattle.spill_lists.proofs.lists.SpillLists.end_pass.Given as goal

@@ -1,8 +1,5 @@
 use Rattle.std.proofs.Common.{List, ◌≡◌, ◌++◌, [], false, arith, ap, sym, subst, ◌∙◌}
-use Rattle.spill_lists.specs.Fields.{lists_of, one_or_none}
-use Rattle.spill_lists.specs.Standing.{ListsState, AreLists, times}
-use Rattle.spill_tapes.specs.declared.tape_id.TapeId.{TapeId}
-use Rattle.spill_lists.specs.declared.lists.OnTape.{OnTape}
+use Rattle.spill_lists.proofs.Words.{lists_of, one_or_none, ListsState, AreLists, times, TapeId, OnTape}
 use Rattle.spill_lists.specs.declared.lists.SpillLists.TheInside.{Inside}
 use Rattle.spill_lists.proofs.StandingLaws.{state, lists_beside, lists_pushed}
 use Rattle.spill_lists.proofs.lists.SpillLists.leave.Goals as goal

@@ -1,7 +1,5 @@
 use Rattle.std.proofs.Common.{◌≡◌, false, refl, arith, ap, sym, subst, ◌∙◌}
-use Rattle.spill_lists.specs.declared.lists.OnTape.{OnTape}
-use Rattle.spill_lists.specs.Fields.{lists_of, one_or_none}
-use Rattle.spill_lists.specs.Standing.{ListsState, HasLists, written_pages}
+use Rattle.spill_lists.proofs.Words.{OnTape, lists_of, one_or_none, ListsState, HasLists, written_pages}
 use Rattle.spill_lists.proofs.StandingLaws.{lists_ended, has_ended, lists_read, has_read, lists_same, tape_ahead}
 use Rattle.spill_lists.proofs.PageLaws.{paged_beside}
 use Rattle.spill_lists.proofs.lists.SpillLists.next.Goals as goal

@@ -1,7 +1,5 @@
 use Rattle.std.proofs.Common.{◌≡◌, false, ap, sym, subst, ◌∙◌}
-use Rattle.spill_tapes.specs.Tapes.{TapesState}
-use Rattle.spill_lists.specs.Fields.{one_or_none}
-use Rattle.spill_lists.specs.Standing.{ListsState, AreLists}
+use Rattle.spill_lists.proofs.Words.{TapesState, one_or_none, ListsState, AreLists}
 use Rattle.spill_lists.proofs.StandingLaws.{state, lists_beside, fresh_beside}
 use Rattle.spill_lists.proofs.lists.SpillLists.open_list.Goals.{in-Ok, in-Err}
 use Rattle.spill_lists.proofs.lists.SpillLists.open_list.Goals as goal

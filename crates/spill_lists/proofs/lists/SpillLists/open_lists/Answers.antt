@@ -1,7 +1,5 @@
 use Rattle.std.proofs.Common.{◌≡◌, ◌++◌, [], arith, ap, sym, subst, ◌∙◌}
-use Rattle.spill_lists.specs.Lists.{deeper}
-use Rattle.spill_lists.specs.Fields.{lists_of, one_or_none}
-use Rattle.spill_lists.specs.Standing.{ListsState, HasLists, AreLists, AreApart, AreWritten, full_pages}
+use Rattle.spill_lists.proofs.Words.{deeper, lists_of, one_or_none, ListsState, HasLists, AreLists, AreApart, AreWritten, full_pages}
 use Rattle.spill_lists.proofs.OpenLaws.{none_open, none_spilled, none_written, opening_start, opening_step, opening_has}
 use Rattle.spill_lists.proofs.StandingLaws.{lists_opened}
 use Rattle.spill_lists.proofs.ListLaws.{AreNew, new_written, new_count}

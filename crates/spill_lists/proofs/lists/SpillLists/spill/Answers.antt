@@ -1,8 +1,5 @@
 use Rattle.std.proofs.Common.{◌≡◌, ◌+◌, ◌<◌, false, length, refl, arith, ap, sym, subst, ◌∙◌}
-use Rattle.spill_tapes.specs.Records.{Record}
-use Rattle.spill_lists.specs.declared.lists.OnTape.{OnTape}
-use Rattle.spill_lists.specs.Fields.{lists_of, one_or_none}
-use Rattle.spill_lists.specs.Standing.{ListsState, HasLists, spilled_number, written_pages}
+use Rattle.spill_lists.proofs.Words.{Record, OnTape, lists_of, one_or_none, ListsState, HasLists, spilled_number, written_pages}
 use Rattle.spill_lists.proofs.ApartLaws.{written_here}
 use Rattle.spill_lists.proofs.CountLaws.{count_put}
 use Rattle.spill_lists.proofs.StandingLaws.{lists_put, has_put}
