@@ -1,22 +1,8 @@
 -- A chunk is made where no other is, and blocks come and go.
-use Rattle.std.proofs.Common.{◌≡◌, ◌≢◌, ℕ, ◌+◌, ◌-◌, ◌≤◌, ◌⊎◌, inl, inr, Bool, true, not, List, [], ◌∷◌, Option, None, map, length, get_or, set, refl, sym, ap, ◌∙◌, subst, arith}
-use Rattle.std.specs.Prelude.{IsTrue, is_some, ◌==◌}
-use Rattle.std.specs.List.{filter}
-use Rattle.std.proofs.lemmas.Bool.{eq-eqb, ne_eqb, eqb-false, not-true, cond-true, cond-false, false≢true}
-use Rattle.std.proofs.lemmas.List.{get_or-set_other}
-use Rattle.block_memory.specs.Cells.{Cells, Holds}
-use Rattle.block_memory.specs.Words.{word_bytes}
-use Rattle.block_memory.specs.Lemmas.CellLemmas.{holds_by_set_word, length-word_bytes}
-use Rattle.chunk_layout.specs.Every.{Every}
-use Rattle.chunk_layout.specs.Pieces.{Piece, IsClear, without, outside}
-use Rattle.chunk_layout.specs.Spots.{Blocks, cells_of, block_at, poke, headed, read, piece_of, spot_is_at, without_spot, Stands, Apart, IsLayout}
-use Rattle.chunk_layout.specs.declared.place.Place.{Place}
-use Rattle.chunk_layout.specs.declared.place.Spot.{Spot}
-use Rattle.chunk_layout.specs.ListLaws.{every_both, every_weaker, every_filter, every_passes, every_unmap, pairwise_filter, map_same, filter_map_same}
+use Rattle.std.proofs.Common.{◌≡◌, ◌≢◌, ℕ, ◌+◌, ◌-◌, ◌≤◌, ◌⊎◌, inl, inr, Bool, true, not, List, [], ◌∷◌, Option, None, map, length, get_or, set, sym, ap, ◌∙◌, subst, arith}
+use Rattle.chunk_layout.proofs.Words.{IsTrue, is_some, ◌==◌, filter, Cells, word_bytes, Every, Piece, IsClear, without, outside, Blocks, cells_of, block_at, poke, headed, read, piece_of, spot_is_at, without_spot, Stands, Apart, IsLayout, Place, Spot}
+use Rattle.chunk_layout.proofs.Laws.{eq-eqb, ne_eqb, eqb-false, not-true, cond-true, cond-false, false≢true, get_or-set_other, holds_by_set_word, length-word_bytes, every_both, every_weaker, every_filter, every_passes, every_unmap, pairwise_filter, map_same, filter_map_same, without-spot, nat_tests, common_steps}
 use Rattle.chunk_layout.proofs.Pokes.{poke-here, piece-poke, stands-poke}
-use Rattle.chunk_layout.specs.FindingLaws.{without-spot}
-use Rattle.std.proofs.lemmas.Bool.Decides.{nat_tests}
-use Rattle.std.proofs.lemmas.Grind.{common_steps}
 
 -- a chunk whose block is the same stands there as before
 module _ (bs after : Blocks) (head : ℕ) where
@@ -29,11 +15,7 @@ module _ (bs after : Blocks) (head : ℕ) where
   -- where the blocks of all chunks are the same
   module _ (ss : List Spot) (same : Every (λ (s : Spot). get_or after s.place.block None ≡ get_or bs s.place.block None) ss) where
     pub laid-same : IsLayout head bs ss → IsLayout head after ss
-    laid-same laid = record {
-      header = laid.header;
-      stand = every_both _ (Stands head bs) (Stands head after) stands-same ss same laid.stand;
-      apart = laid.apart;
-    }
+    laid-same laid = grind (arith, nat_tests, every_both, stands-same)
 
     pub pieces-same : map (piece_of after) ss ≡ map (piece_of bs) ss
     pieces-same = map_same (piece_of after) (piece_of bs) ss (every_weaker _ (λ (s : Spot). piece_of after s ≡ piece_of bs s) piece-same ss same)
@@ -41,16 +23,11 @@ module _ (bs after : Blocks) (head : ℕ) where
 -- a block is added at a free number
 pub same-added : (bs after : Blocks) (head b : ℕ) (ss : List Spot) → get_or bs b None ≡ None → ((c : ℕ) → c ≢ b → get_or after c None ≡ get_or bs c None)
     → Every (Stands head bs) ss → Every (λ (s : Spot). get_or after s.place.block None ≡ get_or bs s.place.block None) ss
-same-added bs after head b ss none other stand =
-    every_weaker (Stands head bs) _ (λ s h. other s.place.block (λ e. false≢true (sym (ap is_some (ap (λ (k : ℕ). get_or bs k None) e ∙ none)) ∙ h.there))) ss stand
+same-added bs after head b ss none other stand = grind (arith, nat_tests, every_weaker, false≢true)
 
 -- fewer chunks
 pub laid-fewer : (bs : Blocks) (head : ℕ) (test : Spot → Bool) (ss : List Spot) → IsLayout head bs ss → IsLayout head bs (filter test ss)
-laid-fewer bs head test ss laid = record {
-  header = laid.header;
-  stand = every_filter (Stands head bs) test ss laid.stand;
-  apart = pairwise_filter (Apart head) test ss laid.apart;
-}
+laid-fewer bs head test ss laid = grind (arith, nat_tests, every_filter, pairwise_filter)
 
 -- a block is given back with its chunks
 module _ (bs : Blocks) (head b : ℕ) (ss : List Spot) where
@@ -58,9 +35,7 @@ module _ (bs : Blocks) (head b : ℕ) (ss : List Spot) where
   rest = filter (λ s. not (s.place.block == b)) ss
 
   same-rest : Every (λ (s : Spot). get_or (set bs b None) s.place.block None ≡ get_or bs s.place.block None) rest
-  same-rest = every_weaker (λ (s : Spot). not (s.place.block == b) ≡ true) _
-      (λ s t. get_or-set_other bs b s.place.block None None (eqb-false s.place.block b (not-true (s.place.block == b) t))) rest
-      (every_passes (λ (s : Spot). not (s.place.block == b)) ss)
+  same-rest = grind (arith, nat_tests, every_weaker, not, get_or-set_other, eqb-false, not-true, every_passes)
 
   pub laid-dropped : IsLayout head bs ss → IsLayout head (set bs b None) rest
   laid-dropped laid = laid-same bs (set bs b None) head rest same-rest (laid-fewer bs head (λ s. not (s.place.block == b)) ss laid)
@@ -94,9 +69,7 @@ module _ (head : ℕ) (bs : Blocks) (ss : List Spot) (laid : IsLayout head bs ss
   fits eight = omega (arith, length-word_bytes room, after, inside, eight)
 
   untouched : head ≡ 8 → (s : Spot) → IsClear head place room (piece_of bs s) → (s.place.block ≢ place.block) ⊎ ((s.place.offset + s.room ≤ place.offset - 8) ⊎ (place.offset - 8 + length (word_bytes room) + head ≤ s.place.offset))
-  untouched eight s (inl ne) = inl ne
-  untouched eight s (inr (inl before)) = inr (inl (omega (arith, before, eight)))
-  untouched eight s (inr (inr behind)) = inr (inr (omega (arith, behind, eight, after, length-word_bytes room)))
+  untouched eight s v2 = grind (arith, nat_tests, length-word_bytes)
 
   stands-carved : (s : Spot) → Stands head bs s → IsClear head place room (piece_of bs s) → Stands head bs' s
   stands-carved s h away = elim laid.header [
@@ -117,21 +90,10 @@ module _ (head : ℕ) (bs : Blocks) (ss : List Spot) (laid : IsLayout head bs ss
   still-some = grind (arith, nat_tests, common_steps)
 
   stands-new : Stands head bs' x
-  stands-new = record {
-    there = still-some;
-    after = after;
-    inside = omega (arith, inside, same-length);
-    fits = omega arith;
-    written = (omega (arith, inside, same-length), refl);
-    header = λ eight. subst (λ (z : Blocks). Holds (block_at z place.block) (place.offset - 8) (word_bytes room)) (sym (with-header eight))
-        (subst (λ (cs : Cells). Holds cs (place.offset - 8) (word_bytes room)) (sym (poke-here bs place.block (place.offset - 8) (word_bytes room) some))
-        (holds_by_set_word (block_at bs place.block) (place.offset - 8) room (omega (arith, after, inside, eight))));
-  }
+  stands-new = grind (arith, nat_tests, still-some, same-length, fits, with-header, poke-here, holds_by_set_word)
 
   clear-apart : (s : Spot) → IsClear head place room (piece_of bs s) → Apart head x s
-  clear-apart s (inl ne) = inl (λ e. ne (sym e))
-  clear-apart s (inr (inl before)) = inr (inr before)
-  clear-apart s (inr (inr behind)) = inr (inl behind)
+  clear-apart s v1 = grind (arith, nat_tests)
 
   abbrev keeps : Spot → Bool
   keeps s = not (spot_is_at place s)
@@ -140,13 +102,8 @@ module _ (head : ℕ) (bs : Blocks) (ss : List Spot) (laid : IsLayout head bs ss
   laid-carved = record {
     header = laid.header;
     stand = (stands-new, every_filter (Stands head bs') keeps ss (every_both (Stands head bs) (λ (s : Spot). IsClear head place room (piece_of bs s)) (Stands head bs') stands-carved ss laid.stand clear'));
-    apart = (every_filter (Apart head x) keeps ss (every_weaker (λ (s : Spot). IsClear head place room (piece_of bs s)) (Apart head x) clear-apart ss clear'), pairwise_filter (Apart head) keeps ss laid.apart);
+    apart = grind (arith, nat_tests, every_filter, every_weaker, clear-apart, clear', pairwise_filter);
   }
 
   pub pieces-carved : map (piece_of bs') (x ∷ without_spot ss place) ≡ (record { place = place; room = room; is_live = true; bytes = [] }) ∷ without (map (piece_of bs) ss) place
-  pieces-carved =
-      let rest : map (piece_of bs') (without_spot ss place) ≡ without (map (piece_of bs) ss) place =
-      map_same (piece_of bs') (piece_of bs) (without_spot ss place)
-      (every_filter (λ (s : Spot). piece_of bs' s ≡ piece_of bs s) keeps ss (every_both (Stands head bs) (λ (s : Spot). IsClear head place room (piece_of bs s)) (λ (s : Spot). piece_of bs' s ≡ piece_of bs s) piece-carved ss laid.stand clear'))
-      ∙ without-spot bs ss place in
-      ap (λ (t : List Piece). record { place = place; room = room; is_live = true; bytes = [] } ∷ t) rest
+  pieces-carved = grind (arith, nat_tests, map_same (piece_of bs') (piece_of bs) (without_spot ss place), every_filter (λ (s : Spot). piece_of bs' s ≡ piece_of bs s) keeps ss, every_both (Stands head bs) (λ (s : Spot). IsClear head place room (piece_of bs s)) (λ (s : Spot). piece_of bs' s ≡ piece_of bs s), piece-carved, clear', without-spot bs ss place)

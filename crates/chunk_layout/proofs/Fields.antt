@@ -1,46 +1,27 @@
 -- What is known of the fields of a layout at a chunk, and after they changed.
-use Rattle.std.proofs.Common.{◌≡◌, ℕ, ◌+◌, ◌-◌, ◌<◌, ◌≤◌, Bool, true, List, [], ◌∷◌, Option, Some, None, map, length, get_or, set, take, refl, sym, ap, ◌∙◌, subst, arith, ◌⊎◌, inl, inr}
-use Rattle.std.specs.Prelude.{IsTrue, is_some, unwrap_or, option_map, ◌==◌}
-use Rattle.std.proofs.lemmas.List.{get_or-map, length-map, length-set, get_or_past, map-set}
-use Rattle.block_memory.specs.Cells.{Cells, Holds, IsWritten}
-use Rattle.block_memory.specs.Words.{word_bytes}
-use Rattle.chunk_layout.specs.Every.{Every}
-use Rattle.chunk_layout.specs.Pieces.{Layout, Piece, has, piece_at, put_at, with_block, outside, total, without, with_piece, AreApart, IsInside, AreLaid, AreTaken, IsClear, size_at}
-use Rattle.chunk_layout.specs.Spots.{Blocks, cells_of, block_at, poke, headed, piece_of, sizes_of, spots_of, spot_at, Stands, Apart, IsLayout}
+use Rattle.std.proofs.Common.{◌≡◌, ℕ, ◌+◌, ◌-◌, ◌<◌, ◌≤◌, Bool, true, List, [], ◌∷◌, Option, None, map, length, get_or, set, take, sym, ap, ◌∙◌, subst, arith, ◌⊎◌, inl, inr}
+use Rattle.chunk_layout.proofs.Words.{IsTrue, is_some, unwrap_or, option_map, Cells, Holds, IsWritten, word_bytes, Every, Layout, Piece, has, piece_at, put_at, with_block, outside, total, without, with_piece, AreApart, IsInside, AreLaid, AreTaken, IsClear, size_at, Blocks, cells_of, block_at, poke, headed, piece_of, sizes_of, spots_of, spot_at, Stands, Apart, IsLayout, AreVacant, Place, Spot, Inside}
+use Rattle.chunk_layout.proofs.Laws.{get_or-map, length-map, length-set, get_or_past, map-set, every_get, every_weaker, every_map, pairwise_weaker, pairwise_through, without-spot, found-place, found-stands, piece-found, total-with_block, total-set_none, with_block-other, length-with_block, cases_lt, cond-true, cond-false, eq-eqb, ne_eqb, nat_tests, common_steps}
 use Rattle.chunk_layout.specs.Fields.{layout_of, AreFields}
-use Rattle.chunk_layout.specs.Vacant.{AreVacant}
 use Rattle.chunk_layout.specs.Lends.{layout_with}
-use Rattle.chunk_layout.specs.declared.place.Place.{Place}
-use Rattle.chunk_layout.specs.declared.place.Spot.{Spot}
 use Rattle.chunk_layout.specs.declared.place.Note.{Note}
 use Rattle.chunk_layout.specs.declared.place.Note.TheVariants.{Chunk, Written, Gone, Returned}
-use Rattle.chunk_layout.specs.declared.layout.ChunkLayout.TheInside.{Inside}
-use Rattle.chunk_layout.specs.ListLaws.{every_get, every_weaker, every_map, pairwise_weaker, pairwise_through}
 use Rattle.chunk_layout.proofs.Reading.{length-read, holds-read}
 use Rattle.chunk_layout.proofs.Pokes.{some-within, sizes-poke}
-use Rattle.chunk_layout.specs.FindingLaws.{without-spot, found-place, found-stands, piece-found}
 use Rattle.chunk_layout.proofs.Puts.{laid-put, pieces-put}
 use Rattle.chunk_layout.proofs.Carves.{laid-fewer, laid-same, pieces-same, same-added, laid-dropped, pieces-dropped, laid-carved, pieces-carved}
-use Rattle.chunk_layout.specs.NumberLaws.{total-with_block, total-set_none, with_block-other, length-with_block}
 use Rattle.chunk_layout.proofs.Numbers.{map-with_block, total-bound, length-with_block_low, every-with_block, every-set}
-use Rattle.std.proofs.lemmas.Bool.{cases_lt, cond-true, cond-false, eq-eqb, ne_eqb}
 use Rattle.chunk_layout.proofs.Lending.{laid-lent_back, pieces-lent_back}
-use Rattle.std.proofs.lemmas.Bool.Decides.{nat_tests}
-use Rattle.std.proofs.lemmas.Grind.{common_steps}
 
 size-is : (o : Option Cells) → unwrap_or (option_map length o) 0 ≡ length (cells_of o)
-size-is None = refl
-size-is (Some cells) = refl
+size-is v0 = grind (arith, nat_tests)
 
 -- the size of a block by its number
 pub size-at : (bs : Blocks) (b : ℕ) → b < length bs → size_at (sizes_of bs) b ≡ length (block_at bs b)
 size-at bs b low = ap (λ (o : Option ℕ). unwrap_or o 0) (get_or-map (option_map length) bs b None None low) ∙ size-is (get_or bs b None)
 
 pub small-block : (x : Inside) → AreFields x → (b : ℕ) → b < length x.blocks.items → length (block_at x.blocks.items b) ≤ 2147483648
-small-block x ok b low =
-    let bs = x.blocks.items in
-    let h : unwrap_or (get_or (sizes_of bs) b None) 0 ≤ 2147483648 = every_get (λ (o : Option ℕ). unwrap_or o 0 ≤ 2147483648) (sizes_of bs) b None (omega (arith, low, length-map bs (option_map {T = Cells} length))) ok.small in
-    omega (arith, h, size-at bs b low)
+small-block x ok b low = grind (arith, nat_tests, every_get, length-map, size-at)
 
 -- a chunk at a place
 module _ (x : Inside) (ok : AreFields x) (l : Layout) (e : layout_of x ≡ l) (place : Place) (some : IsTrue (has l.pieces place)) where
@@ -86,9 +67,6 @@ module _ (x : Inside) (ok : AreFields x) (l : Layout) (e : layout_of x ≡ l) (p
   pub found-small : length (block_at bs place.block) ≤ 2147483648
   found-small = small-block x ok place.block found-low
 
-  pub found-fits : length p.bytes ≤ p.room
-  found-fits = let f = stands.fits in let r = ap (λ (q : Piece). q.room) found in omega (arith, len, f, r)
-
   pub found-written : IsWritten (block_at bs place.block) place.offset (length p.bytes)
   found-written = subst (IsWritten (block_at bs place.block) place.offset) len stands.written
 
@@ -120,13 +98,11 @@ module _ (x : Inside) (ok : AreFields x) (l : Layout) (e : layout_of x ≡ l) (p
         held = held ∙ ok.held ∙ ap total sizes;
         small = subst (Every (λ (o : Option ℕ). unwrap_or o 0 ≤ 2147483648)) sizes ok.small;
         few = subst (λ (z : List (Option ℕ)). length z < 4294967296) sizes ok.few;
-        vacant = subst (λ (z : List (Option ℕ) × List Bool). AreVacant z.0 z.1) (λ i. (sizes i, sym marks i)) ok.vacant;
+        vacant = grind (arith, nat_tests, sizes);
       }
 
       pub layout-put : layout_of y ≡ put_at l place kept bytes live
-      layout-put =
-          let pieces = ap (λ (z : Blocks × List Note). map (piece_of z.0) (spots_of z.1)) (λ i. (blocks i, notes i)) ∙ pieces-put x.head bs ss ok.laid place here kept bytes live few' fits' in
-          (λ i. record { head = head i; blocks = sym sizes i; pieces = pieces i }) ∙ ap (λ (z : Layout). put_at z place kept bytes live) e
+      layout-put = let pieces = ap (λ (z : Blocks × List Note). map (piece_of z.0) (spots_of z.1)) (λ i. (blocks i, notes i)) ∙ pieces-put x.head bs ss ok.laid place here kept bytes live few' fits' in grind (arith, nat_tests, sizes)
 
   -- its bytes are lent
   module _ (n : ℕ) (count : length p.bytes ≡ n) (ws : List ℕ) where
@@ -139,35 +115,30 @@ module _ (x : Inside) (ok : AreFields x) (l : Layout) (e : layout_of x ≡ l) (p
 
       pub fields-lent : AreFields y
       fields-lent = record {
-        laid = subst (λ (z : ℕ × (Blocks × List Note)). IsLayout z.0 z.1.0 (spots_of z.1.1)) (λ i. (sym head i, (sym blocks i, sym notes i))) (laid-lent_back x.head bs ss ok.laid place here n count' ws);
+        laid = grind (arith, nat_tests, laid-lent_back, here, count');
         held = held ∙ ok.held ∙ ap total sizes-lent;
         small = subst (Every (λ (o : Option ℕ). unwrap_or o 0 ≤ 2147483648)) sizes-lent ok.small;
         few = subst (λ (z : List (Option ℕ)). length z < 4294967296) sizes-lent ok.few;
-        vacant = subst (λ (z : List (Option ℕ) × List Bool). AreVacant z.0 z.1) (λ i. (sizes-lent i, sym marks i)) ok.vacant;
+        vacant = grind (arith, nat_tests, sizes-lent);
       }
 
       pub layout-lent : layout_of y ≡ layout_with l place ws
-      layout-lent =
-          let pieces = ap (λ (z : Blocks × List Note). map (piece_of z.0) (spots_of z.1)) (λ i. (blocks i, notes i)) ∙ pieces-lent_back x.head bs ss ok.laid place here n count' ws in
-          (λ i. record { head = head i; blocks = sym sizes-lent i; pieces = pieces i }) ∙ ap (λ (z : Layout). layout_with z place ws) e
+      layout-lent = grind (arith, nat_tests, pieces-lent_back, here, count', sizes-lent)
 
 -- fewer chunks, in the same blocks
 module _ (x : Inside) (ok : AreFields x) (l : Layout) (e : layout_of x ≡ l) (place : Place) (y : Inside) (head : y.head ≡ x.head) (held : y.held ≡ x.held) (marks : y.vacant ≡ x.vacant) (blocks : y.blocks.items ≡ x.blocks.items)
     (notes : y.notes.notes ≡ Gone place ∷ x.notes.notes) where
   pub fields-gone : AreFields y
   fields-gone = record {
-    laid = subst (λ (z : ℕ × (Blocks × List Note)). IsLayout z.0 z.1.0 (spots_of z.1.1)) (λ i. (sym head i, (sym blocks i, sym notes i)))
-        (laid-fewer x.blocks.items x.head _ (spots_of x.notes.notes) ok.laid);
+    laid = grind (arith, nat_tests, laid-fewer);
     held = held ∙ ok.held ∙ ap (λ (z : Blocks). total (sizes_of z)) (sym blocks);
-    small = subst (λ (z : Blocks). Every (λ (o : Option ℕ). unwrap_or o 0 ≤ 2147483648) (sizes_of z)) (sym blocks) ok.small;
+    small = grind (arith, nat_tests);
     few = subst (λ (z : Blocks). length (sizes_of z) < 4294967296) (sym blocks) ok.few;
-    vacant = subst (λ (z : Blocks × List Bool). AreVacant (sizes_of z.0) z.1) (λ i. (sym blocks i, sym marks i)) ok.vacant;
+    vacant = grind (arith, nat_tests);
   }
 
   pub layout-gone : layout_of y ≡ record { head = l.head; blocks = l.blocks; pieces = without l.pieces place }
-  layout-gone =
-      let pieces = ap (λ (z : Blocks × List Note). map (piece_of z.0) (spots_of z.1)) (λ i. (blocks i, notes i)) ∙ without-spot x.blocks.items (spots_of x.notes.notes) place in
-      (λ i. record { head = head i; blocks = sizes_of (blocks i); pieces = pieces i }) ∙ ap (λ (z : Layout). record { head = z.head; blocks = z.blocks; pieces = without z.pieces place }) e
+  layout-gone = grind (arith, nat_tests, without-spot)
 
 -- a chunk is made
 module _ (x : Inside) (ok : AreFields x) (l : Layout) (e : layout_of x ≡ l) (place : Place) (room : ℕ) (some' : 1 ≤ room) (inside' : place.offset + room ≤ size_at l.blocks place.block)
@@ -196,25 +167,19 @@ module _ (x : Inside) (ok : AreFields x) (l : Layout) (e : layout_of x ≡ l) (p
   module _ (y : Inside) (head : y.head ≡ x.head) (held : y.held ≡ x.held) (marks : y.vacant ≡ x.vacant) (blocks : y.blocks.items ≡ headed x.head cs place room)
       (notes : y.notes.notes ≡ Chunk (record { place = place; room = room; len = 0; is_live = true }) ∷ x.notes.notes) where
     same-sizes : sizes_of cs ≡ sizes_of y.blocks.items
-    same-sizes = elim ok.laid.header [
-      | inl none ↦ sym (ap sizes_of (blocks ∙ cond-false (x.head == 8) _ cs (ne_eqb x.head 8 (λ q. absurd (omega (arith, q, none))))))
-      | inr eight ↦ sym (ap sizes_of (blocks ∙ cond-true (x.head == 8) _ cs (eq-eqb x.head 8 eight)) ∙ sizes-poke cs place.block (place.offset - 8) (word_bytes room) carve-some)
-    ]
+    same-sizes = grind (arith, nat_tests, cond-false, ne_eqb, cond-true, eq-eqb, sizes-poke, carve-some)
 
     pub fields-carved : AreFields y
     fields-carved = record {
-      laid = subst (λ (z : ℕ × (Blocks × List Note)). IsLayout z.0 z.1.0 (spots_of z.1.1)) (λ i. (sym head i, (sym blocks i, sym notes i)))
-          (laid-carved x.head cs (spots_of x.notes.notes) ok.laid place room carve-some carve-after carve-inside clear');
+      laid = grind (arith, nat_tests, laid-carved, carve-some, carve-after, carve-inside, clear');
       held = held ∙ ok.held ∙ ap total same-sizes;
       small = subst (Every (λ (o : Option ℕ). unwrap_or o 0 ≤ 2147483648)) same-sizes ok.small;
       few = subst (λ (z : List (Option ℕ)). length z < 4294967296) same-sizes ok.few;
-      vacant = subst (λ (z : List (Option ℕ) × List Bool). AreVacant z.0 z.1) (λ i. (same-sizes i, sym marks i)) ok.vacant;
+      vacant = grind (arith, nat_tests, same-sizes);
     }
 
     pub layout-carved : layout_of y ≡ with_piece l (record { place = place; room = room; is_live = true; bytes = [] })
-    layout-carved =
-        let pieces = ap (λ (z : Blocks × List Note). map (piece_of z.0) (spots_of z.1)) (λ i. (blocks i, notes i)) ∙ pieces-carved x.head cs (spots_of x.notes.notes) ok.laid place room carve-some carve-after carve-inside clear' in
-        (λ i. record { head = head i; blocks = sym same-sizes i; pieces = pieces i }) ∙ ap (λ (z : Layout). with_piece z (record { place = place; room = room; is_live = true; bytes = [] })) e
+    layout-carved = grind (arith, nat_tests, pieces-carved x.head cs (spots_of x.notes.notes) ok.laid place room, carve-some, carve-after, carve-inside, clear', same-sizes)
 
 -- a number is new only where each has a block
 pub all-taken : (x : Inside) (l : Layout) → layout_of x ≡ l → (b : ℕ) → (b ≡ length x.blocks.items → AreTaken (sizes_of x.blocks.items)) → b ≡ length l.blocks → AreTaken l.blocks
@@ -228,9 +193,6 @@ module _ (x : Inside) (ok : AreFields x) (l : Layout) (e : layout_of x ≡ l) (b
 
   pub vacant : get_or l.blocks b None ≡ None
   vacant = grind (arith, nat_tests, common_steps)
-
-  pub vacant-low : b ≤ length l.blocks
-  vacant-low = subst (λ (z : Layout). b ≤ length z.blocks) e (omega (arith, low, length-map ds (option_map {T = Cells} length)))
 
   sizes-taken : sizes_of (with_block ds b block) ≡ with_block (sizes_of ds) b len
   sizes-taken = map-with_block length ds b block ∙ ap (with_block (sizes_of ds) b) long
@@ -250,10 +212,9 @@ module _ (x : Inside) (ok : AreFields x) (l : Layout) (e : layout_of x ≡ l) (b
 
     pub fields-taken : AreFields y
     fields-taken = record {
-      laid = subst (λ (z : ℕ × (Blocks × List Note)). IsLayout z.0 z.1.0 (spots_of z.1.1)) (λ i. (sym head i, (sym blocks i, sym notes i)))
-          (laid-same ds (with_block ds b block) x.head (spots_of x.notes.notes) same-blocks ok.laid);
+      laid = grind (arith, nat_tests, laid-same ds (with_block ds b block) x.head (spots_of x.notes.notes), same-blocks);
       held = held ∙ ap (λ (n : ℕ). n + len) ok.held ∙ sym (ap total sizes' ∙ total-taken);
-      small = subst (Every (λ (o : Option ℕ). unwrap_or o 0 ≤ 2147483648)) (sym sizes') (every-with_block (λ (o : Option ℕ). unwrap_or o 0 ≤ 2147483648) (sizes_of ds) b len small ok.small);
+      small = grind (arith, nat_tests, sizes', every-with_block, len);
       few = subst (λ (z : List (Option ℕ)). length z < 4294967296) (sym sizes') (count few);
       vacant = marked;
     }
@@ -268,9 +229,7 @@ module _ (x : Inside) (ok : AreFields x) (l : Layout) (e : layout_of x ≡ l) (b
         ]
 
     pub layout-taken : layout_of y ≡ record { head = l.head; blocks = with_block l.blocks b len; pieces = l.pieces }
-    layout-taken =
-        let pieces = ap (λ (z : Blocks × List Note). map (piece_of z.0) (spots_of z.1)) (λ i. (blocks i, notes i)) ∙ pieces-same ds (with_block ds b block) x.head (spots_of x.notes.notes) same-blocks in
-        (λ i. record { head = head i; blocks = sizes' i; pieces = pieces i }) ∙ ap (λ (z : Layout). record { head = z.head; blocks = with_block z.blocks b len; pieces = z.pieces }) e
+    layout-taken = grind (arith, nat_tests, pieces-same ds (with_block ds b block) x.head (spots_of x.notes.notes), same-blocks, sizes', len)
 
 -- a block is given back
 module _ (x : Inside) (ok : AreFields x) (l : Layout) (e : layout_of x ≡ l) (b : ℕ) where
@@ -292,29 +251,13 @@ module _ (x : Inside) (ok : AreFields x) (l : Layout) (e : layout_of x ≡ l) (b
     sizes-back = ap sizes_of blocks ∙ sizes-dropped
 
     pub fields-dropped : AreFields y
-    fields-dropped = record {
-      laid = subst (λ (z : ℕ × (Blocks × List Note)). IsLayout z.0 z.1.0 (spots_of z.1.1)) (λ i. (sym head i, (sym blocks i, sym notes i)))
-          (laid-dropped gs x.head b (spots_of x.notes.notes) ok.laid);
-      held = held ∙ (omega (arith, held-dropped low)) ∙ sym (ap total sizes-back);
-      small = subst (Every (λ (o : Option ℕ). unwrap_or o 0 ≤ 2147483648)) (sym sizes-back) (every-set (λ (o : Option ℕ). unwrap_or o 0 ≤ 2147483648) (sizes_of gs) b None (omega arith) ok.small);
-      few = subst (λ (z : List (Option ℕ)). length z < 4294967296) (sym sizes-back) (let f = ok.few in omega (arith, length-set (sizes_of gs) b None, f));
-      vacant = marked;
-    }
+    fields-dropped = grind (arith, nat_tests, laid-dropped, held-dropped, sizes-back, every-set, length-set, vacant)
 
     pub layout-dropped : layout_of y ≡ record { head = l.head; blocks = set l.blocks b None; pieces = outside l.pieces b }
-    layout-dropped =
-        let pieces = ap (λ (z : Blocks × List Note). map (piece_of z.0) (spots_of z.1)) (λ i. (blocks i, notes i)) ∙ pieces-dropped gs x.head b (spots_of x.notes.notes) in
-        (λ i. record { head = head i; blocks = sizes-back i; pieces = pieces i }) ∙ ap (λ (z : Layout). record { head = z.head; blocks = set z.blocks b None; pieces = outside z.pieces b }) e
-
--- the size of a block, also where there is none
-pub size-any : (bs : Blocks) (b : ℕ) → size_at (sizes_of bs) b ≡ length (block_at bs b)
-size-any bs b = grind (arith, nat_tests, common_steps)
+    layout-dropped = grind (arith, nat_tests, pieces-dropped, sizes-back)
 
 pub small-any : (x : Inside) → AreFields x → (b : ℕ) → length (block_at x.blocks.items b) ≤ 2147483648
-small-any x ok b = elim (cases_lt b (length x.blocks.items)) [
-  | inl low ↦ small-block x ok b low
-  | inr past ↦ omega (arith, ap (λ (o : Option Cells). length (cells_of o)) (get_or_past x.blocks.items b None past))
-]
+small-any x ok b = grind (arith, nat_tests, cases_lt, small-block, get_or_past)
 
 -- the chunks of a layout are apart, and lie in their blocks
 apart-less : (head : ℕ) (bs : Blocks) (s t : Spot) → Apart head s t → AreApart (piece_of bs s) (piece_of bs t)
@@ -324,9 +267,4 @@ inside-block : (head : ℕ) (bs : Blocks) (s : Spot) → Stands head bs s → Is
 inside-block head bs s stands = grind (arith, nat_tests, common_steps)
 
 pub laid-is : (x : Inside) → AreFields x → AreLaid (sizes_of x.blocks.items) (map (piece_of x.blocks.items) (spots_of x.notes.notes))
-laid-is x ok =
-    let bs : Blocks = x.blocks.items in let ss = spots_of x.notes.notes in
-    record {
-      apart = pairwise_through AreApart (piece_of bs) ss (pairwise_weaker (Apart x.head) (λ s t. AreApart (piece_of bs s) (piece_of bs t)) (apart-less x.head bs) ss ok.laid.apart);
-      inside = every_map (IsInside (sizes_of bs)) (piece_of bs) ss (every_weaker (Stands x.head bs) (λ s. IsInside (sizes_of bs) (piece_of bs s)) (inside-block x.head bs) ss ok.laid.stand);
-    }
+laid-is x ok = grind (arith, nat_tests, common_steps, pairwise_through, pairwise_weaker, apart-less, every_map, every_weaker, inside-block)

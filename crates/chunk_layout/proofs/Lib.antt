@@ -1,3 +1,5 @@
+pub mod Words
+pub mod Laws
 pub mod Reading
 pub mod Pokes
 pub mod Puts

@@ -1,9 +1,7 @@
 -- Laws of blocks by their numbers.
 use Rattle.std.proofs.Common.{◌≡◌, ℕ, zero, suc, ◌*◌, ◌<◌, ◌≤◌, List, [], ◌∷◌, ◌++◌, Option, Some, map, length, set, refl, ap, arith}
-use Rattle.std.specs.Prelude.{unwrap_or, option_map}
+use Rattle.chunk_layout.proofs.Words.{unwrap_or, option_map, Every, with_block, total}
 use Rattle.std.proofs.Math.Nat.{not-suc-le-zero, le_of_suc-le-suc}
-use Rattle.chunk_layout.specs.Every.{Every}
-use Rattle.chunk_layout.specs.Pieces.{with_block, total}
 
 pub with_block-end : {X : Type 0} (xs : List (Option X)) (x : X) → with_block xs (length xs) x ≡ xs ++ Some x ∷ []
 with_block-end [] x = refl

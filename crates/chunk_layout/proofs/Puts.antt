@@ -1,33 +1,13 @@
 -- Bytes are written to a chunk, behind some that it keeps.
-use Rattle.std.proofs.Common.{◌≡◌, ◌≢◌, ℕ, ◌+◌, ◌-◌, ◌≤◌, ◌⊎◌, inl, inr, Bool, true, List, ◌∷◌, ◌++◌, Some, None, map, length, get_or, take, refl, sym, ap, ◌∙◌, subst, arith}
-use Rattle.std.proofs.lemmas.Bool.{cases_lt}
-use Rattle.std.proofs.lemmas.List.{length-take-le, length-append, get_or_append_left, get_or-append_right}
-use Rattle.block_memory.specs.Cells.{Cells, Holds, with_bytes}
-use Rattle.block_memory.specs.Words.{word_bytes}
-use Rattle.block_memory.specs.Lemmas.CellLemmas.{holds_at, holds_each, holds_kept, holds_by_write, holds_part, written_of_holds, length-word_bytes}
-use Rattle.chunk_layout.specs.Every.{Every}
-use Rattle.chunk_layout.specs.Pieces.{Piece, piece_at, has, without}
-use Rattle.chunk_layout.specs.Spots.{Blocks, block_at, poke, read, piece_of, spot_at, spot_with, without_spot, Stands, Apart, IsLayout}
-use Rattle.chunk_layout.specs.declared.place.Place.{Place}
-use Rattle.chunk_layout.specs.declared.place.Spot.{Spot}
-use Rattle.chunk_layout.specs.ListLaws.{every_both, every_weaker, every_filter, pairwise_filter, map_same}
+use Rattle.chunk_layout.proofs.Laws.{nat_tests, cases_lt, length-take-le, length-append, get_or_append_left, get_or-append_right, holds_at, holds_each, holds_kept, holds_by_write, holds_part, written_of_holds, length-word_bytes, every_both, every_weaker, every_filter, pairwise_filter, map_same, found-place, piece-found, found-stands, some-spot, apart-found, without-spot}
+use Rattle.std.proofs.Common.{◌≡◌, ◌≢◌, ℕ, ◌+◌, ◌-◌, ◌≤◌, ◌⊎◌, inl, Bool, true, List, ◌∷◌, ◌++◌, map, length, take, sym, ap, ◌∙◌, subst, arith}
+use Rattle.chunk_layout.proofs.Words.{Cells, Holds, with_bytes, word_bytes, Every, Piece, piece_at, has, without, Blocks, block_at, poke, read, piece_of, spot_at, spot_with, without_spot, Stands, Apart, IsLayout, Place, Spot}
 use Rattle.chunk_layout.proofs.Reading.{read-holds, holds-read, length-read}
 use Rattle.chunk_layout.proofs.Pokes.{poke-here, length-poke, some-poke, piece-poke, stands-poke}
-use Rattle.chunk_layout.specs.FindingLaws.{found-place, piece-found, found-stands, some-spot, apart-found, without-spot}
 
 -- bytes that stand one after the other
 pub holds_append : (cells : Cells) (at : ℕ) (xs ys : List ℕ) → Holds cells at xs → Holds cells (at + length xs) ys → Holds cells at (xs ++ ys)
-holds_append cells at xs ys h k =
-    let long = length-append xs ys in let far = k.within in
-    holds_each cells at (xs ++ ys) (omega (arith, long)) (λ i inside.
-    elim (cases_lt i (length xs)) [
-      | inl low ↦ holds_at cells at xs h i low ∙ ap Some (sym (get_or_append_left xs ys 0 i low))
-      | inr high ↦
-          let j : ℕ = i - length xs in
-          let place : at + i ≡ at + length xs + j = omega arith in
-          ap (λ (m : ℕ). get_or cells m None) place ∙ holds_at cells (at + length xs) ys k j (omega (arith, long))
-          ∙ ap Some (sym (get_or-append_right xs ys (length xs) i 0 refl high))
-    ])
+holds_append cells at xs ys h k = grind (arith, nat_tests, length-append xs ys, holds_each cells at (xs ++ ys), cases_lt, holds_at cells at xs h, get_or_append_left xs ys 0, holds_at cells (at + length xs) ys k, get_or-append_right xs ys (length xs))
 
 module _ (head : ℕ) (bs : Blocks) (ss : List Spot) (laid : IsLayout head bs ss) (place : Place) (some : has (map (piece_of bs) ss) place ≡ true) (kept : ℕ) (bytes : List ℕ) (live : Bool)
     (few : kept ≤ length (piece_at (map (piece_of bs) ss) place).bytes) (fits : kept + length bytes ≤ (piece_at (map (piece_of bs) ss) place).room) where
@@ -75,13 +55,7 @@ module _ (head : ℕ) (bs : Blocks) (ss : List Spot) (laid : IsLayout head bs ss
   new = old ++ bytes
 
   holds : Holds (block_at after place.block) place.offset new
-  holds = subst (λ (cs : Cells). Holds cs place.offset new) (sym (poke-here bs place.block (place.offset + kept) bytes stands.there))
-      (holds_append (with_bytes cells (place.offset + kept) bytes) place.offset old bytes
-      (holds_kept cells place.offset old (place.offset + kept) bytes room (inl (omega (arith, long))) (front))
-      (subst (λ (n : ℕ). Holds (with_bytes cells (place.offset + kept) bytes) (place.offset + n) bytes) (sym long) (holds_by_write cells (place.offset + kept) bytes room)))
-    where
-      front : Holds cells place.offset old
-      front = subst (λ (n : ℕ). Holds cells n old) (omega arith) (holds_part cells place.offset (read cells place.offset t.len) 0 kept (omega (arith, length-read cells place.offset t.len stands.written, count, few)) (holds-read cells place.offset t.len stands.written))
+  holds = grind (arith, nat_tests, poke-here bs place.block (place.offset + kept) bytes stands.there, holds_append (with_bytes cells (place.offset + kept) bytes) place.offset old bytes, holds_kept cells place.offset old (place.offset + kept) bytes, room, long, holds_by_write cells (place.offset + kept) bytes, holds_part cells place.offset (read cells place.offset t.len) 0 kept, length-read cells place.offset t.len stands.written, count, holds-read cells place.offset t.len stands.written)
 
   abbrev n : ℕ
   n = kept + length bytes
@@ -108,32 +82,10 @@ module _ (head : ℕ) (bs : Blocks) (ss : List Spot) (laid : IsLayout head bs ss
   others = subst (λ (x : Spot). Every (λ (s : Spot). Apart head s x) (without_spot ss place)) is-here (apart-found head ss place (some-spot bs ss place some) laid.apart)
 
   untouched : (s : Spot) → Apart head s here → (s.place.block ≢ place.block) ⊎ ((s.place.offset + s.room ≤ place.offset + kept) ⊎ (place.offset + kept + length bytes + head ≤ s.place.offset))
-  untouched s (inl ne) = inl ne
-  untouched s (inr (inl before)) = inr (inl (omega (arith, before)))
-  untouched s (inr (inr behind)) = inr (inr (omega (arith, behind, fits, big)))
+  untouched s v1 = grind (arith, nat_tests, big)
 
   pub laid-put : IsLayout head after (then' ∷ without_spot ss place)
-  laid-put = record {
-    header = laid.header;
-    stand = (
-      stands-put,
-      every_both (Stands head bs) (λ (s : Spot). Apart head s here) (Stands head after) (λ s st ap'. stands-poke bs place.block (place.offset + kept) bytes stands.there head room s st (untouched s ap'))
-          (without_spot ss place) (every_filter (Stands head bs) _ ss laid.stand) others,
-    );
-    apart = (every_weaker (λ (s : Spot). Apart head s here) (Apart head then') (λ s ap'. turned s ap') (without_spot ss place) others, pairwise_filter (Apart head) _ ss laid.apart);
-  }
-    where
-      turned : (s : Spot) → Apart head s here → Apart head then' s
-      turned s (inl ne) = inl (λ e. ne (sym e))
-      turned s (inr (inl before)) = inr (inr before)
-      turned s (inr (inr behind)) = inr (inl behind)
+  laid-put = grind (arith, nat_tests, stands-put, every_both (Stands head bs) (λ (s : Spot). Apart head s here) (Stands head after), stands-poke bs place.block (place.offset + kept) bytes stands.there head, room, untouched, every_filter (Stands head bs), others, every_weaker (λ (s : Spot). Apart head s here) (Apart head then'), pairwise_filter (Apart head))
 
   pub pieces-put : map (piece_of after) (then' ∷ without_spot ss place) ≡ (record { place = place; room = (piece_at pieces place).room; is_live = live; bytes = take kept (piece_at pieces place).bytes ++ bytes }) ∷ without pieces place
-  pieces-put =
-      let first : piece_of after then' ≡ record { place = place; room = (piece_at pieces place).room; is_live = live; bytes = take kept (piece_at pieces place).bytes ++ bytes } =
-      (λ i. let p : Piece = record { place = place; room = big i; is_live = live; bytes = (read-holds (block_at after place.block) place.offset n new new-long holds ∙ ap (λ (q : Piece). take kept q.bytes ++ bytes) (sym found)) i } in p) in
-      let rest : map (piece_of after) (without_spot ss place) ≡ without pieces place =
-      map_same (piece_of after) (piece_of bs) (without_spot ss place)
-      (every_both (Stands head bs) (λ (s : Spot). Apart head s here) (λ (s : Spot). piece_of after s ≡ piece_of bs s) (λ s st ap'. piece-poke bs place.block (place.offset + kept) bytes stands.there head room s st (untouched s ap'))
-      (without_spot ss place) (every_filter (Stands head bs) _ ss laid.stand) others) ∙ without-spot bs ss place in
-      λ i. first i ∷ rest i
+  pieces-put = grind (arith, nat_tests, room, big, read-holds (block_at after place.block) place.offset n new, new-long, holds, found, map_same (piece_of after) (piece_of bs) (without_spot ss place), every_both (Stands head bs) (λ (s : Spot). Apart head s here) (λ (s : Spot). piece_of after s ≡ piece_of bs s), piece-poke bs place.block (place.offset + kept) bytes stands.there head, untouched, every_filter (Stands head bs), others, without-spot bs ss place)

@@ -1,32 +1,19 @@
+use Rattle.chunk_layout.proofs.Laws.{nat_tests, get_or_default, holds_unique}
 use Rattle.std.proofs.Common.{◌≡◌, Some, None, take, refl, ap, sym, ◌∙◌, subst, arith}
-use Rattle.std.proofs.lemmas.List.{get_or_default}
-use Rattle.std.specs.Option.{option_copied_mut, is_some}
+use Rattle.std.specs.Option.{option_copied_mut}
 use Rattle.std.specs.Vec.{with_item}
-use Rattle.block_memory.specs.Cells.{Cells, Holds, IsWritten, with_bytes}
-use Rattle.block_memory.specs.Lemmas.CellLemmas.{holds_unique}
-use Rattle.chunk_layout.specs.Spots.{block_at, cells_of}
-use Rattle.chunk_layout.specs.declared.layout.ChunkLayout.TheInside.{Inside}
+use Rattle.chunk_layout.proofs.Words.{Cells, Holds, with_bytes, block_at, cells_of, Inside}
 use Rattle.chunk_layout.proofs.Fields.{found-low, found-some, found-written, found-bytes, fields-lent, layout-lent}
 use Rattle.chunk_layout.proofs.layout.ChunkLayout.get_mut.Goals as goal
 
 pub index_mut-requires : goal.index_mut-requires
-index_mut-requires c =
-    omega (arith, c.self.inside.blocks.ok.0, found-low c.self.inside c.self.invariant c.args.self.now c.self.view_is c.args.place c.requires.there)
+index_mut-requires c = grind (arith, nat_tests, found-low)
 
 pub unwrap-block-requires : goal.unwrap-block-requires
-unwrap-block-requires c =
-    let low = found-low c.self.inside c.self.invariant c.args.self.now c.self.view_is c.args.place c.requires.there in
-    c.as_mut.ensures.variant ∙ ap is_some (c.index_mut.ensures.value ∙ get_or_default c.self.inside.blocks.items c.args.place.block c.index_mut.result.now None low)
-    ∙ found-some c.self.inside c.self.invariant c.args.self.now c.self.view_is c.args.place c.requires.there
+unwrap-block-requires c = grind (arith, nat_tests, found-low, get_or_default, found-some)
 
 pub bytes_mut-requires : goal.bytes_mut-requires
-bytes_mut-requires c =
-    let x = c.self.inside in let b = c.args.place.block in
-    let low = found-low x c.self.invariant c.args.self.now c.self.view_is c.args.place c.requires.there in
-    let there : c.unwrap-block.result.now ≡ block_at x.blocks.items b =
-    ap cells_of (ap option_copied_mut (sym c.unwrap-block.ensures) ∙ c.as_mut.ensures.value ∙ c.index_mut.ensures.value ∙ get_or_default x.blocks.items b c.index_mut.result.now None low) in
-    subst (λ (cells : Cells). IsWritten cells c.args.place.offset c.args.len) (sym there)
-    (subst (IsWritten (block_at x.blocks.items b) c.args.place.offset) c.requires.len (found-written x c.self.invariant c.args.self.now c.self.view_is c.args.place c.requires.there))
+bytes_mut-requires c = grind (arith, nat_tests, found-low c.self.inside c.self.invariant c.args.self.now c.self.view_is c.args.place c.requires.there, get_or_default c.self.inside.blocks.items c.args.place.block c.index_mut.result.now None, found-written c.self.inside c.self.invariant c.args.self.now c.self.view_is c.args.place c.requires.there)
 
 pub invariant_of-self-lent : goal.invariant_of-self-lent
 invariant_of-self-lent c =
