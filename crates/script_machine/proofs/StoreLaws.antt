@@ -219,6 +219,16 @@ held_asks store name held is there =
     let asks : store.query ≡ Some held.query = subst (λ o. IfSome o (λ (h : Held). store.query ≡ Some h.query)) there (is.asked name) in
     (asks, subst (λ q. IfSome q (λ (query : Checked). store.columns ≡ Some query.columns)) asks is.over)
 
+-- another replica of the same query in the place of one leaves a store of one query
+pub store_replaced : {S : Type 0} (limit : ℕ) (columns : Option (List Column)) (query : Option Checked) (saved : List (Vec ℕ Global × List ℕ)) (name : List ℕ) (held later : Held) (old new : HashMap (Vec ℕ Global) Held S)
+    → IsStore (record { columns = columns; query = query; replicas = old.entries; saved = saved; limit = limit })
+    → replica_at (record { columns = columns; query = query; replicas = old.entries; saved = saved; limit = limit }) name ≡ Some held → later.query ≡ held.query
+    → UpdatesBy (λ (x y : Vec ℕ Global). bytes_eq x.items y.items) (λ (key : Vec ℕ Global). bytes_eq name key.items) old new (Some later)
+    → IsStore (record { columns = columns; query = query; replicas = new.entries; saved = saved; limit = limit })
+store_replaced limit columns query saved name held later old new is there same u =
+    let before : Store = record { columns = columns; query = query; replicas = old.entries; saved = saved; limit = limit } in
+    store_updated before _ name later (updated limit columns query saved name later old new u) ((held_asks before name held is there).0 ∙ ap Some (sym same)) is
+
 known_there : (state : State) (store : Store) (name : List ℕ) (held : Held) → Represents state store → replica_at store name ≡ Some held
     → state.replicas name ≡ Some (knowledge_of held)
 known_there state store name held r there = r.replicas name ∙ ap (option_map knowledge_of) there

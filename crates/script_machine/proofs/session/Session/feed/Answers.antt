@@ -5,7 +5,7 @@ use Rattle.script_commands.specs.Commands as ask
 use Rattle.script_machine.proofs.Words.{WorksAtLimit, Store, Steps, Updates}
 use Rattle.replies.specs.declared.refusal.Refusal.TheVariants as why
 use Rattle.replies.specs.declared.reply.Reply.TheVariants as says
-use Rattle.script_machine.proofs.StoreLaws.{disagrees_or, feed_disagrees, feed_nowhere, feed_refused, feed_took, held_asks, same_updated, store_updated, updated}
+use Rattle.script_machine.proofs.StoreLaws.{disagrees_or, feed_disagrees, feed_nowhere, feed_refused, feed_took, same_updated, store_replaced, updated}
 use Rattle.script_machine.proofs.session.Session.feed.Goals as goal
 use Rattle.script_machine.proofs.session.Session.feed.Goals.{in-Ok, in-Err}
 
@@ -22,22 +22,14 @@ returns-in_default-clause-answers g c =
 pub invariant_of-self-in_err-delivered : goal.invariant_of-self-in_err-delivered
 invariant_of-self-in_err-delivered g c =
     let there = sym c.in-Some.ensures.value in
-    let old : Store = record { columns = c.self.inside.columns; query = c.self.inside.query; replicas = c.self.inside.replicas.entries; saved = c.self.inside.saved.entries; limit = c.self.inside.means.limit } in
-    let asks = held_asks old c.args.name.now c.in-Some.replica.now c.self.invariant there in
-    store_updated old _ c.args.name.now c.deliver.new.replica
-    (updated c.self.inside.means.limit c.self.inside.columns c.self.inside.query c.self.inside.saved.entries c.args.name.now c.deliver.new.replica c.self.inside.replicas (c.get_mut.follows.lender c.deliver.new.replica)
-    ((c.get_mut.follows.holds c.deliver.new.replica).3 (ap is_some there)))
-    (asks.0 ∙ ap Some (sym c.deliver.ensures.query)) c.self.invariant
+    store_replaced c.self.inside.means.limit c.self.inside.columns c.self.inside.query c.self.inside.saved.entries c.args.name.now c.in-Some.replica.now c.deliver.new.replica c.self.inside.replicas (c.get_mut.follows.lender c.deliver.new.replica)
+    c.self.invariant there c.deliver.ensures.query ((c.get_mut.follows.holds c.deliver.new.replica).3 (ap is_some there))
 
 pub invariant_of-self-2 : goal.invariant_of-self-2
 invariant_of-self-2 g c =
     let there = sym c.in-Some.ensures.value in
-    let old : Store = record { columns = c.self.inside.columns; query = c.self.inside.query; replicas = c.self.inside.replicas.entries; saved = c.self.inside.saved.entries; limit = c.self.inside.means.limit } in
-    let asks = held_asks old c.args.name.now c.in-Some.replica.now c.self.invariant there in
-    store_updated old _ c.args.name.now c.deliver.new.replica
-    (updated c.self.inside.means.limit c.self.inside.columns c.self.inside.query c.self.inside.saved.entries c.args.name.now c.deliver.new.replica c.self.inside.replicas (c.get_mut.follows.lender c.deliver.new.replica)
-    ((c.get_mut.follows.holds c.deliver.new.replica).3 (ap is_some there)))
-    (asks.0 ∙ ap Some (sym c.deliver.ensures.query)) c.self.invariant
+    store_replaced c.self.inside.means.limit c.self.inside.columns c.self.inside.query c.self.inside.saved.entries c.args.name.now c.in-Some.replica.now c.deliver.new.replica c.self.inside.replicas (c.get_mut.follows.lender c.deliver.new.replica)
+    c.self.invariant there c.deliver.ensures.query ((c.get_mut.follows.holds c.deliver.new.replica).3 (ap is_some there))
 
 pub returns-clause-answers : goal.returns-clause-answers
 returns-clause-answers g c =
@@ -47,8 +39,7 @@ returns-clause-answers g c =
     let old : Store = record { columns = c.self.inside.columns; query = c.self.inside.query; replicas = c.self.inside.replicas.entries; saved = c.self.inside.saved.entries; limit = c.self.inside.means.limit } in
     let new : Store = record { columns = c.self.inside.columns; query = c.self.inside.query; replicas = (c.get_mut.follows.lender c.deliver.new.replica).entries; saved = c.self.inside.saved.entries; limit = c.self.inside.means.limit } in
     let u : Updates old new c.args.name.now c.deliver.new.replica =
-    updated c.self.inside.means.limit c.self.inside.columns c.self.inside.query c.self.inside.saved.entries c.args.name.now c.deliver.new.replica c.self.inside.replicas (c.get_mut.follows.lender c.deliver.new.replica)
-    ((c.get_mut.follows.holds c.deliver.new.replica).3 (ap is_some there)) in
+    updated c.self.inside.means.limit c.self.inside.columns c.self.inside.query c.self.inside.saved.entries c.args.name.now c.deliver.new.replica c.self.inside.replicas (c.get_mut.follows.lender c.deliver.new.replica) ((c.get_mut.follows.holds c.deliver.new.replica).3 (ap is_some there)) in
     elim c.match-branch-3.branch [
       | in-Ok w ↦
           let took = rw w.in-Ok.is at c.in_ok-delivered.ensures.took in

@@ -5,7 +5,7 @@ use Rattle.script_machine.proofs.Words.{Checked, Held, Fits, Store, Steps, Updat
 use Rattle.script_commands.specs.Commands as ask
 use Rattle.replies.specs.Joining.{JoinsHeld}
 use Rattle.replies.specs.declared.reply.Reply.TheVariants as says
-use Rattle.script_machine.proofs.StoreLaws.{held_asks, merge_refused, merged, one_query, one_there, store_updated, updated}
+use Rattle.script_machine.proofs.StoreLaws.{merge_refused, merged, one_query, one_there, store_replaced, updated}
 use Rattle.script_machine.proofs.session.Session.merge.Goals as goal
 
 pub returns-in-Err-clause-answers : goal.returns-in-Err-clause-answers
@@ -15,12 +15,8 @@ returns-in-Err-clause-answers g c = λ owned.
 pub invariant_of-self : goal.invariant_of-self
 invariant_of-self g c =
     let there = sym c.in-Some.ensures.value in
-    let old : Store = record { columns = c.self.inside.columns; query = c.self.inside.query; replicas = c.self.inside.replicas.entries; saved = c.self.inside.saved.entries; limit = c.self.inside.means.limit } in
-    let asks = held_asks old c.args.into.now c.in-Some.replica.now c.self.invariant there in
-    store_updated old _ c.args.into.now c.commit.new.self
-    (updated c.self.inside.means.limit c.self.inside.columns c.self.inside.query c.self.inside.saved.entries c.args.into.now c.commit.new.self c.self.inside.replicas (c.get_mut.follows.lender c.commit.new.self)
-    ((c.get_mut.follows.holds c.commit.new.self).3 (ap is_some there)))
-    (asks.0 ∙ ap Some (sym c.commit.ensures.query)) c.self.invariant
+    store_replaced c.self.inside.means.limit c.self.inside.columns c.self.inside.query c.self.inside.saved.entries c.args.into.now c.in-Some.replica.now c.commit.new.self c.self.inside.replicas (c.get_mut.follows.lender c.commit.new.self)
+    c.self.invariant there c.commit.ensures.query ((c.get_mut.follows.holds c.commit.new.self).3 (ap is_some there))
 
 pub returns-clause-answers : goal.returns-clause-answers
 returns-clause-answers g c = λ owned.
@@ -29,8 +25,7 @@ returns-clause-answers g c = λ owned.
     let old : Store = record { columns = c.self.inside.columns; query = c.self.inside.query; replicas = c.self.inside.replicas.entries; saved = c.self.inside.saved.entries; limit = c.self.inside.means.limit } in
     let new : Store = record { columns = c.self.inside.columns; query = c.self.inside.query; replicas = (c.get_mut.follows.lender c.commit.new.self).entries; saved = c.self.inside.saved.entries; limit = c.self.inside.means.limit } in
     let u : Updates old new c.args.into.now c.commit.new.self =
-    updated c.self.inside.means.limit c.self.inside.columns c.self.inside.query c.self.inside.saved.entries c.args.into.now c.commit.new.self c.self.inside.replicas (c.get_mut.follows.lender c.commit.new.self)
-    ((c.get_mut.follows.holds c.commit.new.self).3 (ap is_some there)) in
+    updated c.self.inside.means.limit c.self.inside.columns c.self.inside.query c.self.inside.saved.entries c.args.into.now c.commit.new.self c.self.inside.replicas (c.get_mut.follows.lender c.commit.new.self) ((c.get_mut.follows.holds c.commit.new.self).3 (ap is_some there)) in
     let found = subst (λ (s : Store). (own theirs : Held) × (replica_at s c.args.into.now ≡ Some own) × (replica_at s c.args.from.now ≡ Some theirs) × JoinsHeld (g.D.TapeDisk.honest c.args.disk.now) own theirs c.in-Ok.joined) (sym c.self.view_is) c.in-Ok.ensures.joins in
     let own : Held = c.in-Some.replica.now in
     let theirs : Held = found.1 in
