@@ -1,29 +1,18 @@
 -- A chunk is made where no other is, and blocks come and go.
-use Rattle.std.proofs.Common.{◌≡◌, ◌≢◌, ℕ, ◌+◌, ◌-◌, ◌≤◌, ◌⊎◌, inl, inr, Bool, true, not, List, [], ◌∷◌, Option, None, map, length, get_or, set, sym, ap, ◌∙◌, subst, arith}
-use Rattle.chunk_layout.proofs.Words.{IsTrue, is_some, ◌==◌, filter, Cells, word_bytes, Every, Piece, IsClear, without, outside, Blocks, cells_of, block_at, poke, headed, read, piece_of, spot_is_at, without_spot, Stands, Apart, IsLayout, Place, Spot}
-use Rattle.chunk_layout.proofs.Laws.{eq-eqb, ne_eqb, eqb-false, not-true, cond-true, cond-false, false≢true, get_or-set_other, holds_by_set_word, length-word_bytes, every_both, every_weaker, every_filter, every_passes, every_unmap, pairwise_filter, map_same, filter_map_same, without-spot, nat_tests, common_steps}
+use Rattle.std.proofs.Common.{◌≡◌, ◌≢◌, ℕ, ◌+◌, ◌-◌, ◌≤◌, ◌⊎◌, inl, inr, Bool, true, not, List, [], ◌∷◌, None, map, length, get_or, set, sym, ap, ◌∙◌, subst, arith}
+use Rattle.chunk_layout.proofs.Words.{IsTrue, is_some, ◌==◌, filter, word_bytes, Every, Piece, IsClear, without, outside, Blocks, cells_of, block_at, poke, headed, read, piece_of, spot_is_at, without_spot, Stands, Apart, IsLayout, Place, Spot}
+use Rattle.chunk_layout.proofs.Laws.{eq-eqb, ne_eqb, eqb-false, not-true, cond-true, cond-false, get_or-set_other, holds_by_set_word, length-word_bytes, every_both, every_weaker, every_filter, every_passes, every_unmap, pairwise_filter, map_same, filter_map_same, without-spot, nat_tests, common_steps}
 use Rattle.chunk_layout.proofs.Pokes.{poke-here, piece-poke, stands-poke}
 
 -- a chunk whose block is the same stands there as before
 module _ (bs after : Blocks) (head : ℕ) where
-  pub stands-same : (s : Spot) → get_or after s.place.block None ≡ get_or bs s.place.block None → Stands head bs s → Stands head after s
-  stands-same s same h = grind (arith, nat_tests, common_steps)
-
-  pub piece-same : (s : Spot) → get_or after s.place.block None ≡ get_or bs s.place.block None → piece_of after s ≡ piece_of bs s
-  piece-same s same = ap (λ (o : Option Cells). let p : Piece = record { place = s.place; room = s.room; is_live = s.is_live; bytes = read (cells_of o) s.place.offset s.len } in p) same
-
   -- where the blocks of all chunks are the same
   module _ (ss : List Spot) (same : Every (λ (s : Spot). get_or after s.place.block None ≡ get_or bs s.place.block None) ss) where
     pub laid-same : IsLayout head bs ss → IsLayout head after ss
-    laid-same laid = grind (arith, nat_tests, every_both, stands-same)
+    laid-same laid = grind (arith, nat_tests, every_both)
 
     pub pieces-same : map (piece_of after) ss ≡ map (piece_of bs) ss
-    pieces-same = map_same (piece_of after) (piece_of bs) ss (every_weaker _ (λ (s : Spot). piece_of after s ≡ piece_of bs s) piece-same ss same)
-
--- a block is added at a free number
-pub same-added : (bs after : Blocks) (head b : ℕ) (ss : List Spot) → get_or bs b None ≡ None → ((c : ℕ) → c ≢ b → get_or after c None ≡ get_or bs c None)
-    → Every (Stands head bs) ss → Every (λ (s : Spot). get_or after s.place.block None ≡ get_or bs s.place.block None) ss
-same-added bs after head b ss none other stand = grind (arith, nat_tests, every_weaker, false≢true)
+    pieces-same = grind (arith, nat_tests, map_same, piece_of, every_weaker, read, cells_of)
 
 -- fewer chunks
 pub laid-fewer : (bs : Blocks) (head : ℕ) (test : Spot → Bool) (ss : List Spot) → IsLayout head bs ss → IsLayout head bs (filter test ss)
@@ -83,14 +72,11 @@ module _ (head : ℕ) (bs : Blocks) (ss : List Spot) (laid : IsLayout head bs ss
     | inr eight ↦ ap (λ (z : Blocks). piece_of z s) (with-header eight) ∙ piece-poke bs place.block (place.offset - 8) (word_bytes room) some head (fits eight) s h (untouched eight s away)
   ]
 
-  same-length : length (block_at bs' place.block) ≡ length (block_at bs place.block)
-  same-length = grind (arith, nat_tests, common_steps)
-
   still-some : IsTrue (is_some (get_or bs' place.block None))
   still-some = grind (arith, nat_tests, common_steps)
 
   stands-new : Stands head bs' x
-  stands-new = grind (arith, nat_tests, still-some, same-length, fits, with-header, poke-here, holds_by_set_word)
+  stands-new = grind (arith, nat_tests, common_steps, still-some, fits, with-header, poke-here, holds_by_set_word)
 
   clear-apart : (s : Spot) → IsClear head place room (piece_of bs s) → Apart head x s
   clear-apart s v1 = grind (arith, nat_tests)

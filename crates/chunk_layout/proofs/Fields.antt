@@ -1,27 +1,22 @@
 -- What is known of the fields of a layout at a chunk, and after they changed.
+use Rattle.chunk_layout.proofs.Laws.{false≢true}
 use Rattle.std.proofs.Common.{◌≡◌, ℕ, ◌+◌, ◌-◌, ◌<◌, ◌≤◌, Bool, true, List, [], ◌∷◌, Option, None, map, length, get_or, set, take, sym, ap, ◌∙◌, subst, arith, ◌⊎◌, inl, inr}
-use Rattle.chunk_layout.proofs.Words.{IsTrue, is_some, unwrap_or, option_map, Cells, Holds, IsWritten, word_bytes, Every, Layout, Piece, has, piece_at, put_at, with_block, outside, total, without, with_piece, AreApart, IsInside, AreLaid, AreTaken, IsClear, size_at, Blocks, cells_of, block_at, poke, headed, piece_of, sizes_of, spots_of, spot_at, Stands, Apart, IsLayout, AreVacant, Place, Spot, Inside}
-use Rattle.chunk_layout.proofs.Laws.{get_or-map, length-map, length-set, get_or_past, map-set, every_get, every_weaker, every_map, pairwise_weaker, pairwise_through, without-spot, found-place, found-stands, piece-found, total-with_block, total-set_none, with_block-other, length-with_block, cases_lt, cond-true, cond-false, eq-eqb, ne_eqb, nat_tests, common_steps}
+use Rattle.chunk_layout.proofs.Words.{IsTrue, is_some, unwrap_or, option_map, Cells, Holds, IsWritten, word_bytes, Every, Layout, Piece, has, piece_at, put_at, with_block, outside, total, with_piece, IsInside, AreLaid, AreTaken, IsClear, size_at, Blocks, block_at, poke, headed, piece_of, sizes_of, spots_of, spot_at, Stands, IsLayout, AreVacant, Place, Spot, Inside}
+use Rattle.chunk_layout.proofs.Laws.{get_or-map, length-map, length-set, get_or_past, map-set, every_get, every_weaker, every_map, pairwise_weaker, pairwise_through, found-place, found-stands, piece-found, total-with_block, total-set_none, with_block-other, length-with_block, cases_lt, cond-true, cond-false, eq-eqb, ne_eqb, nat_tests, common_steps}
 use Rattle.chunk_layout.specs.Fields.{layout_of, AreFields}
 use Rattle.chunk_layout.specs.Lends.{layout_with}
 use Rattle.chunk_layout.specs.declared.place.Note.{Note}
-use Rattle.chunk_layout.specs.declared.place.Note.TheVariants.{Chunk, Written, Gone, Returned}
+use Rattle.chunk_layout.specs.declared.place.Note.TheVariants.{Chunk, Written, Returned}
 use Rattle.chunk_layout.proofs.Reading.{length-read, holds-read}
 use Rattle.chunk_layout.proofs.Pokes.{some-within, sizes-poke}
 use Rattle.chunk_layout.proofs.Puts.{laid-put, pieces-put}
-use Rattle.chunk_layout.proofs.Carves.{laid-fewer, laid-same, pieces-same, same-added, laid-dropped, pieces-dropped, laid-carved, pieces-carved}
-use Rattle.chunk_layout.proofs.Numbers.{map-with_block, total-bound, length-with_block_low, every-with_block, every-set}
+use Rattle.chunk_layout.proofs.Carves.{laid-same, pieces-same, laid-dropped, pieces-dropped, laid-carved, pieces-carved}
+use Rattle.chunk_layout.proofs.Numbers.{map-with_block, length-with_block_low, every-with_block, every-set}
 use Rattle.chunk_layout.proofs.Lending.{laid-lent_back, pieces-lent_back}
-
-size-is : (o : Option Cells) → unwrap_or (option_map length o) 0 ≡ length (cells_of o)
-size-is v0 = grind (arith, nat_tests)
 
 -- the size of a block by its number
 pub size-at : (bs : Blocks) (b : ℕ) → b < length bs → size_at (sizes_of bs) b ≡ length (block_at bs b)
-size-at bs b low = ap (λ (o : Option ℕ). unwrap_or o 0) (get_or-map (option_map length) bs b None None low) ∙ size-is (get_or bs b None)
-
-pub small-block : (x : Inside) → AreFields x → (b : ℕ) → b < length x.blocks.items → length (block_at x.blocks.items b) ≤ 2147483648
-small-block x ok b low = grind (arith, nat_tests, every_get, length-map, size-at)
+size-at bs b low = grind (arith, nat_tests, unwrap_or, get_or-map, option_map)
 
 -- a chunk at a place
 module _ (x : Inside) (ok : AreFields x) (l : Layout) (e : layout_of x ≡ l) (place : Place) (some : IsTrue (has l.pieces place)) where
@@ -65,7 +60,7 @@ module _ (x : Inside) (ok : AreFields x) (l : Layout) (e : layout_of x ≡ l) (p
   found-inside = subst (λ (q : Piece). place.offset + q.room ≤ length (block_at bs place.block)) found stands.inside
 
   pub found-small : length (block_at bs place.block) ≤ 2147483648
-  found-small = small-block x ok place.block found-low
+  found-small = grind (arith, nat_tests, found-low, every_get, length-map, size-at)
 
   pub found-written : IsWritten (block_at bs place.block) place.offset (length p.bytes)
   found-written = subst (IsWritten (block_at bs place.block) place.offset) len stands.written
@@ -76,16 +71,13 @@ module _ (x : Inside) (ok : AreFields x) (l : Layout) (e : layout_of x ≡ l) (p
   pub found-header : x.head ≡ 8 → (8 ≤ place.offset) × Holds (block_at bs place.block) (place.offset - 8) (word_bytes p.room)
   found-header eight = (omega (arith, stands.after, eight), subst (λ (q : Piece). Holds (block_at bs place.block) (place.offset - 8) (word_bytes q.room)) found (stands.header eight))
 
-  old-is : piece_at (map (piece_of bs) ss) place ≡ p
-  old-is = ap (λ (z : Layout). piece_at z.pieces place) e
-
   -- bytes are written to it
   module _ (kept : ℕ) (bytes : List ℕ) (live : Bool) (few : kept ≤ length p.bytes) (fits : kept + length bytes ≤ p.room) where
     few' : kept ≤ length (piece_at (map (piece_of bs) ss) place).bytes
-    few' = subst (λ (q : Piece). kept ≤ length q.bytes) (sym old-is) few
+    few' = grind (arith, nat_tests)
 
     fits' : kept + length bytes ≤ (piece_at (map (piece_of bs) ss) place).room
-    fits' = subst (λ (q : Piece). kept + length bytes ≤ q.room) (sym old-is) fits
+    fits' = grind (arith, nat_tests)
 
     module _ (y : Inside) (head : y.head ≡ x.head) (held : y.held ≡ x.held) (marks : y.vacant ≡ x.vacant) (blocks : y.blocks.items ≡ poke bs place.block (place.offset + kept) bytes)
         (notes : y.notes.notes ≡ Written place (kept + length bytes) live ∷ x.notes.notes) where
@@ -107,7 +99,7 @@ module _ (x : Inside) (ok : AreFields x) (l : Layout) (e : layout_of x ≡ l) (p
   -- its bytes are lent
   module _ (n : ℕ) (count : length p.bytes ≡ n) (ws : List ℕ) where
     count' : length (piece_at (map (piece_of bs) ss) place).bytes ≡ n
-    count' = ap (λ (q : Piece). length q.bytes) old-is ∙ count
+    count' = grind (arith, nat_tests)
 
     module _ (y : Inside) (head : y.head ≡ x.head) (held : y.held ≡ x.held) (marks : y.vacant ≡ x.vacant) (blocks : y.blocks.items ≡ poke bs place.block place.offset (take n ws)) (notes : y.notes.notes ≡ x.notes.notes) where
       sizes-lent : sizes_of bs ≡ sizes_of y.blocks.items
@@ -125,35 +117,17 @@ module _ (x : Inside) (ok : AreFields x) (l : Layout) (e : layout_of x ≡ l) (p
       pub layout-lent : layout_of y ≡ layout_with l place ws
       layout-lent = grind (arith, nat_tests, pieces-lent_back, here, count', sizes-lent)
 
--- fewer chunks, in the same blocks
-module _ (x : Inside) (ok : AreFields x) (l : Layout) (e : layout_of x ≡ l) (place : Place) (y : Inside) (head : y.head ≡ x.head) (held : y.held ≡ x.held) (marks : y.vacant ≡ x.vacant) (blocks : y.blocks.items ≡ x.blocks.items)
-    (notes : y.notes.notes ≡ Gone place ∷ x.notes.notes) where
-  pub fields-gone : AreFields y
-  fields-gone = record {
-    laid = grind (arith, nat_tests, laid-fewer);
-    held = held ∙ ok.held ∙ ap (λ (z : Blocks). total (sizes_of z)) (sym blocks);
-    small = grind (arith, nat_tests);
-    few = subst (λ (z : Blocks). length (sizes_of z) < 4294967296) (sym blocks) ok.few;
-    vacant = grind (arith, nat_tests);
-  }
-
-  pub layout-gone : layout_of y ≡ record { head = l.head; blocks = l.blocks; pieces = without l.pieces place }
-  layout-gone = grind (arith, nat_tests, without-spot)
-
 -- a chunk is made
 module _ (x : Inside) (ok : AreFields x) (l : Layout) (e : layout_of x ≡ l) (place : Place) (room : ℕ) (some' : 1 ≤ room) (inside' : place.offset + room ≤ size_at l.blocks place.block)
     (after : l.head ≤ place.offset) (clear : Every (IsClear l.head place room) l.pieces) where
   abbrev cs : Blocks
   cs = x.blocks.items
 
-  size-here : place.offset + room ≤ size_at (sizes_of cs) place.block
-  size-here = subst (λ (z : Layout). place.offset + room ≤ size_at z.blocks place.block) (sym e) inside'
-
   pub carve-low : place.block < length cs
   carve-low = grind (arith, nat_tests, common_steps)
 
   pub carve-inside : place.offset + room ≤ length (block_at cs place.block)
-  carve-inside = omega (arith, size-here, size-at cs place.block carve-low)
+  carve-inside = grind (arith, nat_tests, size-at, carve-low, size_at)
 
   pub carve-some : IsTrue (is_some (get_or cs place.block None))
   carve-some = grind (arith, nat_tests, common_steps)
@@ -194,21 +168,15 @@ module _ (x : Inside) (ok : AreFields x) (l : Layout) (e : layout_of x ≡ l) (b
   pub vacant : get_or l.blocks b None ≡ None
   vacant = grind (arith, nat_tests, common_steps)
 
-  sizes-taken : sizes_of (with_block ds b block) ≡ with_block (sizes_of ds) b len
-  sizes-taken = map-with_block length ds b block ∙ ap (with_block (sizes_of ds) b) long
-
   total-taken : total (with_block (sizes_of ds) b len) ≡ total (sizes_of ds) + len
   total-taken = total-with_block (sizes_of ds) b len (ap (λ (z : Layout). get_or z.blocks b None) e ∙ vacant)
 
-  pub held-small : x.held + len < 18446744073709551616
-  held-small = let h = ok.held in let f = ok.few in omega (arith, total-bound (sizes_of ds) ok.small, h, f, small)
-
   module _ (y : Inside) (head : y.head ≡ x.head) (held : y.held ≡ x.held + len) (blocks : y.blocks.items ≡ with_block ds b block) (notes : y.notes.notes ≡ x.notes.notes) (marked : AreVacant (sizes_of y.blocks.items) y.vacant) where
     sizes' : sizes_of y.blocks.items ≡ with_block (sizes_of ds) b len
-    sizes' = ap sizes_of blocks ∙ sizes-taken
+    sizes' = grind (arith, nat_tests, sizes_of, map-with_block length ds b block, with_block, sizes_of ds)
 
     same-blocks : Every (λ (s : Spot). get_or (with_block ds b block) s.place.block None ≡ get_or ds s.place.block None) (spots_of x.notes.notes)
-    same-blocks = same-added ds (with_block ds b block) x.head b (spots_of x.notes.notes) none (λ c ne. with_block-other ds b c block low ne) ok.laid.stand
+    same-blocks = grind (arith, nat_tests, with_block, spots_of, with_block-other, every_weaker, false≢true)
 
     pub fields-taken : AreFields y
     fields-taken = record {
@@ -236,9 +204,6 @@ module _ (x : Inside) (ok : AreFields x) (l : Layout) (e : layout_of x ≡ l) (b
   abbrev gs : Blocks
   gs = x.blocks.items
 
-  sizes-dropped : sizes_of (set gs b None) ≡ set (sizes_of gs) b None
-  sizes-dropped = map-set (option_map length) gs b None
-
   held-dropped : b < length gs → total (set (sizes_of gs) b None) + length (block_at gs b) ≡ x.held
   held-dropped low = let t = total-set_none (sizes_of gs) b in let h = ok.held in let s = size-at gs b low in omega (arith, t, h, s)
 
@@ -248,7 +213,7 @@ module _ (x : Inside) (ok : AreFields x) (l : Layout) (e : layout_of x ≡ l) (b
   module _ (low : b < length gs) (y : Inside) (head : y.head ≡ x.head) (held : y.held ≡ x.held - length (block_at gs b)) (blocks : y.blocks.items ≡ set gs b None) (notes : y.notes.notes ≡ Returned b ∷ x.notes.notes)
       (marked : AreVacant (sizes_of y.blocks.items) y.vacant) where
     sizes-back : sizes_of y.blocks.items ≡ set (sizes_of gs) b None
-    sizes-back = ap sizes_of blocks ∙ sizes-dropped
+    sizes-back = grind (arith, nat_tests, sizes_of, map-set, option_map)
 
     pub fields-dropped : AreFields y
     fields-dropped = grind (arith, nat_tests, laid-dropped, held-dropped, sizes-back, every-set, length-set, vacant)
@@ -257,14 +222,10 @@ module _ (x : Inside) (ok : AreFields x) (l : Layout) (e : layout_of x ≡ l) (b
     layout-dropped = grind (arith, nat_tests, pieces-dropped, sizes-back)
 
 pub small-any : (x : Inside) → AreFields x → (b : ℕ) → length (block_at x.blocks.items b) ≤ 2147483648
-small-any x ok b = grind (arith, nat_tests, cases_lt, small-block, get_or_past)
-
--- the chunks of a layout are apart, and lie in their blocks
-apart-less : (head : ℕ) (bs : Blocks) (s t : Spot) → Apart head s t → AreApart (piece_of bs s) (piece_of bs t)
-apart-less head bs s t is = grind (arith, nat_tests, common_steps)
+small-any x ok b = grind (arith, nat_tests, cases_lt, get_or_past, every_get, length-map, size-at)
 
 inside-block : (head : ℕ) (bs : Blocks) (s : Spot) → Stands head bs s → IsInside (sizes_of bs) (piece_of bs s)
 inside-block head bs s stands = grind (arith, nat_tests, common_steps)
 
 pub laid-is : (x : Inside) → AreFields x → AreLaid (sizes_of x.blocks.items) (map (piece_of x.blocks.items) (spots_of x.notes.notes))
-laid-is x ok = grind (arith, nat_tests, common_steps, pairwise_through, pairwise_weaker, apart-less, every_map, every_weaker, inside-block)
+laid-is x ok = grind (arith, nat_tests, common_steps, pairwise_through, pairwise_weaker, every_map, every_weaker, inside-block)

@@ -1,6 +1,6 @@
 -- The bytes of a chunk are lent, and come back changed.
 use Rattle.chunk_layout.proofs.Laws.{nat_tests, length-take, holds_kept, length-word_bytes, written_kept, first_has, every_both, map_same, apart-sym, found-place, found-stands, some-spot, piece-found}
-use Rattle.std.proofs.Common.{◌≡◌, ◌≢◌, ℕ, ◌+◌, ◌≤◌, ◌⊎◌, Bool, true, false, List, [], ◌∷◌, map, length, take, cond, refl, sym, ap, ◌∙◌, subst, arith}
+use Rattle.std.proofs.Common.{◌≡◌, ℕ, ◌+◌, ◌≤◌, Bool, true, false, List, [], ◌∷◌, map, length, take, cond, refl, sym, ap, ◌∙◌, subst, arith}
 use Rattle.chunk_layout.proofs.Words.{◌||◌, Cells, Every, Pairwise, Piece, has, piece_at, rewritten, with_bytes_of, Blocks, block_at, poke, piece_of, spot_is_at, has_spot, spot_at, no_spot, Stands, Apart, IsLayout, Place, Spot}
 use Rattle.chunk_layout.proofs.Reading.{read-refilled, length-read}
 use Rattle.chunk_layout.proofs.Pokes.{poke-here, length-poke, some-poke, piece-poke, stands-poke}
@@ -22,14 +22,11 @@ module _ (head : ℕ) (bs : Blocks) (t : Spot) (stands : Stands head bs t) (ws :
   room : t.place.offset + length bytes ≤ length cells
   room = omega (arith, few, stands.fits, stands.inside)
 
-  untouched : (s : Spot) → Apart head s t → (s.place.block ≢ t.place.block) ⊎ ((s.place.offset + s.room ≤ t.place.offset) ⊎ (t.place.offset + length bytes + head ≤ s.place.offset))
-  untouched s v1 = grind (arith, nat_tests, few)
-
   stands-other : (s : Spot) → Stands head bs s → Apart head s t → Stands head after s
-  stands-other s h away = stands-poke bs t.place.block t.place.offset bytes stands.there head room s h (untouched s away)
+  stands-other s h away = grind (arith, nat_tests, stands-poke bs t.place.block t.place.offset bytes stands.there head, room, few)
 
   piece-other : (s : Spot) → Stands head bs s → Apart head s t → piece_of after s ≡ piece_of bs s
-  piece-other s h away = piece-poke bs t.place.block t.place.offset bytes stands.there head room s h (untouched s away)
+  piece-other s h away = grind (arith, nat_tests, piece-poke bs t.place.block t.place.offset bytes stands.there head, room, few)
 
   stands-lent : Stands head after t
   stands-lent = grind (arith, nat_tests, some-poke, length-poke, poke-here, written_kept, room, holds_kept, length-word_bytes)

@@ -1,5 +1,5 @@
 -- What a write to a block changes.
-use Rattle.std.proofs.Common.{◌≡◌, ◌≢◌, ℕ, ◌+◌, ◌<◌, ◌≤◌, ◌⊎◌, inl, inr, List, Option, Some, None, length, get_or, ap, arith}
+use Rattle.std.proofs.Common.{◌≡◌, ◌≢◌, ℕ, ◌+◌, ◌<◌, ◌≤◌, ◌⊎◌, List, Option, Some, None, length, get_or, arith}
 use Rattle.chunk_layout.proofs.Words.{IsTrue, is_some, option_map, Cells, with_bytes, Blocks, cells_of, block_at, poke, piece_of, sizes_of, Stands, Spot}
 use Rattle.chunk_layout.proofs.Laws.{false≢true, get_or-set_same, set-get_or, map-set, length-with_bytes, holds_kept, length-word_bytes, nat_tests, common_steps}
 use Rattle.chunk_layout.proofs.Reading.{read-kept, written-kept_apart}
@@ -12,11 +12,8 @@ module _ (bs : Blocks) (b at : ℕ) (bytes : List ℕ) (some : IsTrue (is_some (
   abbrev after : Blocks
   after = poke bs b at bytes
 
-  low : b < length bs
-  low = some-within bs b some
-
   pub poke-here : block_at after b ≡ with_bytes (block_at bs b) at bytes
-  poke-here = ap cells_of (get_or-set_same bs b (Some (with_bytes (block_at bs b) at bytes)) None low)
+  poke-here = grind (arith, nat_tests, cells_of, get_or-set_same, with_bytes, block_at, some-within)
 
   pub length-poke : (c : ℕ) → length (block_at after c) ≡ length (block_at bs c)
   length-poke c = grind (arith, nat_tests, common_steps)
@@ -36,14 +33,11 @@ module _ (bs : Blocks) (b at : ℕ) (bytes : List ℕ) (some : IsTrue (is_some (
     kept : (P : Cells → Type 0) → P (block_at bs s.place.block) → (s.place.block ≡ b → P (with_bytes (block_at bs b) at bytes)) → P (block_at after s.place.block)
     kept P here there = grind (arith, nat_tests, common_steps)
 
-    beside : s.place.block ≡ b → (s.place.offset + s.room ≤ at) ⊎ (at + length bytes + head ≤ s.place.offset)
-    beside same = elim apart [ inl ne ↦ absurd (ne same) | inr one ↦ one ]
-
     beside_bytes : s.place.block ≡ b → (s.place.offset + s.len ≤ at) ⊎ (at + length bytes ≤ s.place.offset)
-    beside_bytes same = let fits = stands.fits in elim (beside same) [ inl before ↦ inl (omega arith) | inr behind ↦ inr (omega arith) ]
+    beside_bytes same = grind (arith, nat_tests)
 
     pub piece-poke : piece_of after s ≡ piece_of bs s
     piece-poke = grind (arith, nat_tests, common_steps, kept, read-kept, beside_bytes)
 
     pub stands-poke : Stands head after s
-    stands-poke = grind (arith, nat_tests, common_steps, some-poke, length-poke, kept, written-kept_apart, beside_bytes, beside, length-word_bytes, holds_kept)
+    stands-poke = grind (arith, nat_tests, common_steps, some-poke, length-poke, kept, written-kept_apart, beside_bytes, length-word_bytes, holds_kept)

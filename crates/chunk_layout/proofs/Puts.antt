@@ -1,6 +1,6 @@
 -- Bytes are written to a chunk, behind some that it keeps.
 use Rattle.chunk_layout.proofs.Laws.{nat_tests, cases_lt, length-take-le, length-append, get_or_append_left, get_or-append_right, holds_at, holds_each, holds_kept, holds_by_write, holds_part, written_of_holds, length-word_bytes, every_both, every_weaker, every_filter, pairwise_filter, map_same, found-place, piece-found, found-stands, some-spot, apart-found, without-spot}
-use Rattle.std.proofs.Common.{◌≡◌, ◌≢◌, ℕ, ◌+◌, ◌-◌, ◌≤◌, ◌⊎◌, inl, Bool, true, List, ◌∷◌, ◌++◌, map, length, take, sym, ap, ◌∙◌, subst, arith}
+use Rattle.std.proofs.Common.{◌≡◌, ◌≢◌, ℕ, ◌+◌, ◌-◌, ◌≤◌, ◌⊎◌, inl, Bool, true, List, ◌∷◌, ◌++◌, map, length, take, sym, ap, subst, arith}
 use Rattle.chunk_layout.proofs.Words.{Cells, Holds, with_bytes, word_bytes, Every, Piece, piece_at, has, without, Blocks, block_at, poke, read, piece_of, spot_at, spot_with, without_spot, Stands, Apart, IsLayout, Place, Spot}
 use Rattle.chunk_layout.proofs.Reading.{read-holds, holds-read, length-read}
 use Rattle.chunk_layout.proofs.Pokes.{poke-here, length-poke, some-poke, piece-poke, stands-poke}
@@ -33,14 +33,11 @@ module _ (head : ℕ) (bs : Blocks) (ss : List Spot) (laid : IsLayout head bs ss
   stands : Stands head bs here
   stands = subst (Stands head bs) is-here (found-stands bs ss place some head laid.stand)
 
-  found : piece_at pieces place ≡ piece_of bs here
-  found = piece-found bs ss place some ∙ ap (piece_of bs) is-here
-
   count : t.len ≡ length (piece_at pieces place).bytes
-  count = sym (length-read cells place.offset t.len stands.written) ∙ ap (λ (p : Piece). length p.bytes) (sym found)
+  count = grind (arith, nat_tests, length-read cells place.offset t.len stands.written, piece-found, piece_of, is-here)
 
   big : t.room ≡ (piece_at pieces place).room
-  big = ap (λ (p : Piece). p.room) (sym found)
+  big = grind (arith, nat_tests, piece-found, piece_of, is-here)
 
   room : place.offset + kept + length bytes ≤ length cells
   room = omega (arith, fits, big, stands.inside)
@@ -88,4 +85,4 @@ module _ (head : ℕ) (bs : Blocks) (ss : List Spot) (laid : IsLayout head bs ss
   laid-put = grind (arith, nat_tests, stands-put, every_both (Stands head bs) (λ (s : Spot). Apart head s here) (Stands head after), stands-poke bs place.block (place.offset + kept) bytes stands.there head, room, untouched, every_filter (Stands head bs), others, every_weaker (λ (s : Spot). Apart head s here) (Apart head then'), pairwise_filter (Apart head))
 
   pub pieces-put : map (piece_of after) (then' ∷ without_spot ss place) ≡ (record { place = place; room = (piece_at pieces place).room; is_live = live; bytes = take kept (piece_at pieces place).bytes ++ bytes }) ∷ without pieces place
-  pieces-put = grind (arith, nat_tests, room, big, read-holds (block_at after place.block) place.offset n new, new-long, holds, found, map_same (piece_of after) (piece_of bs) (without_spot ss place), every_both (Stands head bs) (λ (s : Spot). Apart head s here) (λ (s : Spot). piece_of after s ≡ piece_of bs s), piece-poke bs place.block (place.offset + kept) bytes stands.there head, untouched, every_filter (Stands head bs), others, without-spot bs ss place)
+  pieces-put = grind (arith, nat_tests, room, big, read-holds, block_at after place.block, new-long, holds, map_same, piece_of after, piece_of bs, without_spot ss place, every_both (Stands head bs) (λ (s : Spot). Apart head s here), piece-poke bs place.block (place.offset + kept) bytes stands.there head, untouched, every_filter (Stands head bs), others, without-spot bs ss place, piece-found, piece_of, is-here)

@@ -1,5 +1,5 @@
 -- What is read of cells, after they were written.
-use Rattle.std.proofs.Common.{◌≡◌, ℕ, ◌+◌, ◌≤◌, ◌⊎◌, List, [], ◌∷◌, ◌++◌, Option, Some, map, length, take, drop, refl, ap, ◌∙◌, arith, add-zero, zero-add}
+use Rattle.std.proofs.Common.{◌≡◌, ℕ, ◌+◌, ◌≤◌, ◌⊎◌, List, [], ◌∷◌, Option, Some, map, length, take, refl, ap, ◌∙◌, arith, add-zero, zero-add}
 use Rattle.chunk_layout.proofs.Words.{unwrap_or, splice, refill, Cells, Holds, IsWritten, with_bytes, read}
 use Rattle.chunk_layout.proofs.Laws.{length-take, bytes_of_written, written_of_holds, holds_kept, holds_over, length_over, nat_tests, common_steps}
 
@@ -25,9 +25,5 @@ read-kept cells at n i new room apart w = grind (arith, nat_tests, length-read c
 pub written-kept_apart : (cells : Cells) (at n i : ℕ) (new : List ℕ) → i + length new ≤ length cells → (at + n ≤ i) ⊎ (i + length new ≤ at) → IsWritten cells at n → IsWritten (with_bytes cells i new) at n
 written-kept_apart cells at n i new room apart w = grind (arith, nat_tests, length-read cells at n w, written_of_holds (with_bytes cells i new) at n (read cells at n), holds_kept cells at (read cells at n) i new room, holds-read cells at n w)
 
--- at most n bytes over n that were written
-pub refill-is : (xs ws : List ℕ) (n : ℕ) → length xs ≡ n → refill n xs ws ≡ take n ws ++ drop (length (take n ws)) xs
-refill-is xs ws n long = grind (arith, nat_tests, common_steps)
-
 pub read-refilled : (cells : Cells) (at n : ℕ) (ws : List ℕ) → IsWritten cells at n → read (with_bytes cells at (take n ws)) at n ≡ refill n (read cells at n) ws
-read-refilled cells at n ws w = grind (arith, nat_tests, length-read cells at n w, length-take n ws, holds_over cells at (read cells at n) 0 (take n ws), holds-read cells at n w, length_over (read cells at n) 0 (take n ws), add-zero at, read-holds (with_bytes cells at (take n ws)) at n (splice (read cells at n) 0 (0 + length (take n ws)) (take n ws)), zero-add (length (take n ws)), refill-is (read cells at n) ws n)
+read-refilled cells at n ws w = grind (arith, nat_tests, common_steps, length-read cells at n w, length-take n ws, holds_over cells at, read cells at n, holds-read cells at n w, length_over, add-zero at, read-holds, with_bytes cells at (take n ws), splice, zero-add (length (take n ws)))

@@ -1,7 +1,7 @@
 -- Which numbers have no block, after one was taken or given back.
-use Rattle.std.proofs.Common.{◌≡◌, ℕ, zero, suc, ◌<◌, inl, inr, Bool, true, false, List, [], ◌∷◌, Option, Some, None, length, get_or, cond, set, refl, sym, ap, ◌∙◌, arith}
+use Rattle.std.proofs.Common.{◌≡◌, ℕ, zero, suc, ◌<◌, inl, inr, Bool, true, false, List, [], ◌∷◌, Some, None, length, get_or, cond, set, refl, sym, ap, ◌∙◌, arith}
 use Rattle.chunk_layout.proofs.Words.{◌==◌, not, is_some, option_map, Cells, with_block, Blocks, sizes_of, AreVacant}
-use Rattle.chunk_layout.proofs.Laws.{cases_eq, cond-true, cond-false, eq-eqb, ne_eqb, false≢true, get_or-set_same, get_or-set_other, length-set, length-map, with_block-here, with_block-other, nat_tests, common_steps}
+use Rattle.chunk_layout.proofs.Laws.{cases_eq, cond-true, cond-false, eq-eqb, ne_eqb, get_or-set_same, get_or-set_other, length-set, length-map, with_block-here, with_block-other, nat_tests, common_steps}
 use Rattle.chunk_layout.proofs.Numbers.{length-with_block_low}
 
 -- a number has a size just where it has a block
@@ -14,9 +14,6 @@ some-size (None ∷ bs) zero = refl
 some-size (Some cells ∷ bs) zero = refl
 some-size (b ∷ bs) (suc k) = some-size bs k
 
-none-of : (o : Option Cells) → not (is_some o) ≡ true → o ≡ None
-none-of v0 e = grind (arith, nat_tests, false≢true)
-
 module _ (bs : Blocks) (marks after : List Bool) (are : AreVacant (sizes_of bs) marks) where
   marked : (k : ℕ) → k < length bs → get_or marks k false ≡ not (is_some (get_or bs k None))
   marked k low = are.vacant k (omega (arith, low, length-sizes bs)) ∙ ap not (some-size bs k)
@@ -26,7 +23,7 @@ module _ (bs : Blocks) (marks after : List Bool) (are : AreVacant (sizes_of bs) 
   marked-low k low = omega (arith, low, are.long, length-sizes bs)
 
   pub marked-none : (k : ℕ) → k < length marks → get_or marks k false ≡ true → get_or bs k None ≡ None
-  marked-none k low is = none-of (get_or bs k None) (sym (marked k (marked-low k low)) ∙ is)
+  marked-none k low is = grind (arith, nat_tests, marked k, marked-low k low)
 
   -- a marked number gets a block
   pub vacant-used : (n : ℕ) (x : Cells) → n < length bs → length after ≡ length marks → ((k : ℕ) → get_or after k false ≡ cond (k == n) false (get_or marks k false)) → AreVacant (sizes_of (with_block bs n x)) after

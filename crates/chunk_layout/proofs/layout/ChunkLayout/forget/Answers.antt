@@ -1,10 +1,14 @@
+use Rattle.chunk_layout.proofs.Carves.{laid-fewer}
+use Rattle.chunk_layout.proofs.Words.{total}
+use Rattle.chunk_layout.proofs.Words.{sizes_of}
+use Rattle.chunk_layout.proofs.Fields.{vacant}
+use Rattle.chunk_layout.proofs.Laws.{without-spot}
 use Rattle.std.proofs.Common.{arith}
 use Rattle.std.proofs.lemmas.Bool.Decides.{nat_tests}
-use Rattle.chunk_layout.proofs.Fields.{fields-gone, layout-gone}
 use Rattle.chunk_layout.proofs.layout.ChunkLayout.forget.Goals as goal
 
 pub invariant_of-self : goal.invariant_of-self
-invariant_of-self c = grind (arith, nat_tests, fields-gone c.self.inside c.self.invariant c.args.self.now c.self.view_is c.args.place (record { head = c.self.inside.head; blocks = c.self.inside.blocks; vacant = c.self.inside.vacant; held = c.self.inside.held; notes = c.add.new.self; alloc = c.self.inside.alloc }))
+invariant_of-self c = grind (arith, nat_tests, laid-fewer, total, sizes_of, vacant)
 
 pub returns : goal.returns
-returns c = grind (arith, nat_tests, layout-gone c.self.inside c.self.invariant c.args.self.now c.self.view_is c.args.place (record { head = c.self.inside.head; blocks = c.self.inside.blocks; vacant = c.self.inside.vacant; held = c.self.inside.held; notes = c.add.new.self; alloc = c.self.inside.alloc }))
+returns c = grind (arith, nat_tests, without-spot)
