@@ -20,7 +20,13 @@ pub overflow_add-kept : goal.overflow_add-kept
 overflow_add-kept c = omega (arith, c.requires.room, found-inside c.self.inside c.self.invariant c.args.self.now c.self.view_is c.args.place c.requires.there, found-small c.self.inside c.self.invariant c.args.self.now c.self.view_is c.args.place c.requires.there)
 
 pub invariant_of-self : goal.invariant_of-self
-invariant_of-self c = let x = c.self.inside in let z : List ℕ = zeros c.args.n in let y : Inside = record { head = x.head; blocks = c.write_zeros.new.blocks; vacant = x.vacant; held = x.held; notes = c.add.new.self; alloc = x.alloc } in let fits : c.args.kept + length z ≤ (piece_at c.args.self.now.pieces c.args.place).room = omega (arith, c.requires.room, length-zeros c.args.n) in grind (arith, nat_tests, fields-put c.self.inside c.self.invariant c.args.self.now c.self.view_is c.args.place c.requires.there c.args.kept z true c.requires.kept fits y, length-zeros c.args.n)
+invariant_of-self c =
+    let x = c.self.inside in let z : List ℕ = zeros c.args.n in let y : Inside = record { head = x.head; blocks = c.write_zeros.new.blocks; vacant = x.vacant; held = x.held; notes = c.add.new.self; alloc = x.alloc } in
+    let fits : c.args.kept + length z ≤ (piece_at c.args.self.now.pieces c.args.place).room = omega (arith, c.requires.room, length-zeros c.args.n) in
+    grind (arith, nat_tests, fields-put c.self.inside c.self.invariant c.args.self.now c.self.view_is c.args.place c.requires.there c.args.kept z true c.requires.kept fits y, length-zeros c.args.n)
 
 pub returns : goal.returns
-returns c = let x = c.self.inside in let z : List ℕ = zeros c.args.n in let y : Inside = record { head = x.head; blocks = c.write_zeros.new.blocks; vacant = x.vacant; held = x.held; notes = c.add.new.self; alloc = x.alloc } in let fits : c.args.kept + length z ≤ (piece_at c.args.self.now.pieces c.args.place).room = omega (arith, c.requires.room, length-zeros c.args.n) in grind (arith, nat_tests, layout-put c.self.inside c.self.invariant c.args.self.now c.self.view_is c.args.place c.requires.there c.args.kept z true c.requires.kept fits y, length-zeros c.args.n)
+returns c =
+    let x = c.self.inside in let z : List ℕ = zeros c.args.n in let y : Inside = record { head = x.head; blocks = c.write_zeros.new.blocks; vacant = x.vacant; held = x.held; notes = c.add.new.self; alloc = x.alloc } in
+    let fits : c.args.kept + length z ≤ (piece_at c.args.self.now.pieces c.args.place).room = omega (arith, c.requires.room, length-zeros c.args.n) in
+    grind (arith, nat_tests, layout-put c.self.inside c.self.invariant c.args.self.now c.self.view_is c.args.place c.requires.there c.args.kept z true c.requires.kept fits y, length-zeros c.args.n)
