@@ -267,6 +267,14 @@ fn option<'a>(alloc: Global, name: &'a str, value: &'a str, help: &'a str) -> Ar
         .help(help)
 }
 
+/// An option without a value.
+fn flag<'a>(alloc: Global, name: &'a str, help: &'a str) -> Arg<'a> {
+    Arg::new(alloc, name)
+        .long(name)
+        .action(ArgAction::SetTrue)
+        .help(help)
+}
+
 /// A command of the program.
 fn task<'a>(alloc: Global, name: &'a str, about: &'a str, after: &'a str) -> Command<'a> {
     Command::new(alloc, name).about(about).after_help(after)
@@ -284,17 +292,6 @@ fn new_command<'a>(alloc: Global) -> Result<Command<'a>, AllocError> {
         .arg(no_clobber_option(alloc))
 }
 
-/// The option of a limit.
-fn limit_option<'a>(alloc: Global) -> Arg<'a> {
-    option(
-        alloc,
-        LIMIT,
-        "BYTES",
-        "Bytes a table of groups may take [default: 4194304]",
-    )
-    .allow_negative_numbers(true)
-}
-
 /// The option of a file for what is spilled.
 fn spill_option<'a>(alloc: Global) -> Arg<'a> {
     option(
@@ -305,65 +302,67 @@ fn spill_option<'a>(alloc: Global) -> Arg<'a> {
     )
 }
 
-/// The option that asks what the work took.
-fn explain_option<'a>(alloc: Global) -> Arg<'a> {
-    Arg::new(alloc, EXPLAIN)
-        .long(EXPLAIN)
-        .action(ArgAction::SetTrue)
-        .help("Also tells on standard error what the grouping took")
-}
-
 /// The option that keeps a file which OUT would replace.
 fn no_clobber_option<'a>(alloc: Global) -> Arg<'a> {
-    Arg::new(alloc, NO_CLOBBER)
-        .long(NO_CLOBBER)
-        .action(ArgAction::SetTrue)
-        .help("Keeps a file OUT that is none of the files read")
+    flag(
+        alloc,
+        NO_CLOBBER,
+        "Keeps a file OUT that is none of the files read",
+    )
 }
 
-/// The option that asks how far the work is.
-fn progress_option<'a>(alloc: Global) -> Arg<'a> {
-    Arg::new(alloc, PROGRESS)
-        .long(PROGRESS)
-        .action(ArgAction::SetTrue)
-        .help("Also tells on standard error of each file, as it is taken")
+/// A command that aggregates, with the options for that.
+fn aggregating<'a>(alloc: Global, command: Command<'a>) -> Result<Command<'a>, AllocError> {
+    let limit = option(
+        alloc,
+        LIMIT,
+        "BYTES",
+        "Bytes a table of groups may take [default: 4194304]",
+    );
+    command
+        .arg(limit.allow_negative_numbers(true))?
+        .arg(spill_option(alloc))?
+        .arg(flag(
+            alloc,
+            EXPLAIN,
+            "Also tells on standard error what the grouping took",
+        ))
 }
 
-/// The option that asks what a summary holds.
-fn holding_option<'a>(alloc: Global) -> Arg<'a> {
-    Arg::new(alloc, EXPLAIN)
-        .long(EXPLAIN)
-        .action(ArgAction::SetTrue)
-        .help("Also tells on standard error what the summary holds")
+/// A command that adds files to a summary, with the options for that.
+fn adding<'a>(alloc: Global, command: Command<'a>) -> Result<Command<'a>, AllocError> {
+    aggregating(alloc, command)?
+        .arg(no_clobber_option(alloc))?
+        .arg(flag(
+            alloc,
+            PROGRESS,
+            "Also tells on standard error of each file, as it is taken",
+        ))
 }
 
 fn feed_command<'a>(alloc: Global) -> Result<Command<'a>, AllocError> {
-    task(alloc, "feed", FEED_ABOUT, FEED_AFTER)
+    let feed = task(alloc, "feed", FEED_ABOUT, FEED_AFTER)
         .arg(positional(alloc, OUT, "The summary file to write"))?
         .arg(positional(alloc, IN, "The summary file to add to"))?
-        .arg(positional(alloc, BATCH, "The batch files to add").num_args(1..))?
-        .arg(limit_option(alloc))?
-        .arg(spill_option(alloc))?
-        .arg(explain_option(alloc))?
-        .arg(no_clobber_option(alloc))?
-        .arg(progress_option(alloc))
+        .arg(positional(alloc, BATCH, "The batch files to add").num_args(1..))?;
+    adding(alloc, feed)
 }
 
 fn merge_command<'a>(alloc: Global) -> Result<Command<'a>, AllocError> {
-    task(alloc, "merge", MERGE_ABOUT, MERGE_AFTER)
+    let merge = task(alloc, "merge", MERGE_ABOUT, MERGE_AFTER)
         .arg(positional(alloc, OUT, "The summary file to write"))?
-        .arg(positional(alloc, IN, "The summary files to merge").num_args(1..))?
-        .arg(limit_option(alloc))?
-        .arg(spill_option(alloc))?
-        .arg(explain_option(alloc))?
-        .arg(no_clobber_option(alloc))?
-        .arg(progress_option(alloc))
+        .arg(positional(alloc, IN, "The summary files to merge").num_args(1..))?;
+    adding(alloc, merge)
 }
 
 fn known_command<'a>(alloc: Global) -> Result<Command<'a>, AllocError> {
     task(alloc, "known", KNOWN_ABOUT, KNOWN_AFTER)
         .arg(positional(alloc, IN, "The summary file to read"))?
-        .arg(holding_option(alloc))
+        .arg(flag(
+            alloc,
+            EXPLAIN,
+            "Also tells on standard error what the summary holds",
+        ))
 }
 
 /// The option of a table's format.
@@ -374,12 +373,10 @@ fn format_option<'a>(alloc: Global) -> Arg<'a> {
 }
 
 fn answer_command<'a>(alloc: Global) -> Result<Command<'a>, AllocError> {
-    task(alloc, "answer", ANSWER_ABOUT, ANSWER_AFTER)
+    let answer = task(alloc, "answer", ANSWER_ABOUT, ANSWER_AFTER)
         .arg(positional(alloc, IN, "The summary file to read"))?
-        .arg(format_option(alloc))?
-        .arg(limit_option(alloc))?
-        .arg(spill_option(alloc))?
-        .arg(explain_option(alloc))
+        .arg(format_option(alloc))?;
+    aggregating(alloc, answer)
 }
 
 /// The program without its commands.
