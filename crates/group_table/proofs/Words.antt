@@ -1,21 +1,25 @@
 -- The words that the proofs cite, of this crate and of those below, in one place to import them from.
 pub use Rattle.aggregation_cost.specs.Space.{Blocks, Key, array_block, bucket_blocks, buckets, fits, grown, held_after, key_blocks, key_room, need, quotient_up, state_blocks}
 pub use Rattle.chunk_contexts.specs.Chunks.{Keeps, bytes_of, is_live}
-pub use Rattle.chunk_contexts.specs.Rooms.{class_of, over_most, room_of, rooms, rounded}
+unfoldable pub use Rattle.chunk_contexts.specs.Rooms.{room_of}
+unfoldable pub use Rattle.chunk_contexts.specs.Rooms.{class_of, rooms}
+pub use Rattle.chunk_contexts.specs.Rooms.{over_most, rounded}
 pub use Rattle.chunk_contexts.specs.Set.{SetState, dedicated, growth_by, new_set, set_freed, set_growth, set_reset, set_room, set_taken, set_wrote, taken_by}
 pub use Rattle.chunk_contexts.specs.declared.rooms.TheConstants.{LARGEST, MOST}
 pub use Rattle.chunk_layout.specs.Pieces.{Piece, has, is_at, only, piece_at, place_of, rewritten, same_place, size_at, total, with_block, with_bytes_of}
 pub use Rattle.chunk_layout.specs.declared.place.ChunkName.{ChunkName}
 pub use Rattle.chunk_layout.specs.declared.place.Place.{Place}
 pub use Rattle.context_tree.specs.Contexts.{IsCounted, blocks_of, chunk_bytes, chunks_of, growth_of, has_chunk, held_by, kind_refusal, new_context, no_context, reset_context, room_in, with_bytes, with_chunk, without_chunk}
-pub use Rattle.context_tree.specs.Links.{IsForest, cleared, is_below, is_true_of, is_under, leads_to, parent_of, stamp_of}
+unfoldable pub use Rattle.context_tree.specs.Links.{is_below, leads_to}
+pub use Rattle.context_tree.specs.Links.{IsForest, cleared, is_true_of, is_under, parent_of, stamp_of}
 pub use Rattle.context_tree.specs.Tree.{IsNotMade, IsWhole, TreeState, context_at, deleted, has_stamp, held_below, held_from, is_there, reset, with_context, without_slots}
 pub use Rattle.context_tree.specs.declared.context.Context.{Context}
 pub use Rattle.context_tree.specs.declared.context.Context.TheVariants.{AllocSet, Bump, Slab}
 pub use Rattle.context_tree.specs.declared.links.ContextId.{ContextId}
 pub use Rattle.context_tree.specs.declared.links.Link.{Link}
 pub use Rattle.group_table.specs.Arrays.{HasNext, IsArrayAt, IsNext, IsRewritten, IsSpare, OnlyIn, bytes_at, count_of, with_next, with_slot, with_spare}
-pub use Rattle.group_table.specs.Buckets.{bucket_at, bucket_in, name_at, number_at}
+unfoldable pub use Rattle.group_table.specs.Buckets.{bucket_at, bucket_in, number_at}
+pub use Rattle.group_table.specs.Buckets.{name_at}
 pub use Rattle.group_table.specs.Children.{AreMade, AreNew, IsAsBefore, IsCleared, IsNew, IsRefusedOf, IsSameBySlot}
 pub use Rattle.group_table.specs.Index.{HasAll, Holds, IsIndex, IsPath, Puts, passes, start_of}
 pub use Rattle.group_table.specs.Search.{Finds, IsOther, Tells}

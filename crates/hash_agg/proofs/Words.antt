@@ -27,7 +27,8 @@ pub use Rattle.spill_lists.specs.Lists.{LeftList, deeper, is_none, left_by, list
 pub use Rattle.spill_lists.specs.Standing.{AreOn, AreSpilled, BeginsLast, HasLists, KeepsRest, ListsState, Spilled, ahead_number, count_of, full_pages, list_pages, pages_of, spilled_number, waiting_number, written_pages}
 pub use Rattle.spill_lists.specs.declared.error.SpillError.TheVariants.{NoMemory, TapeDamaged, TapeFault}
 pub use Rattle.spill_lists.specs.declared.lists.OnTape.{OnTape}
-pub use Rattle.spill_tapes.specs.Records.{Record, header_of, record_bytes, tape_bytes}
+unfoldable pub use Rattle.spill_tapes.specs.Records.{header_of}
+pub use Rattle.spill_tapes.specs.Records.{Record, record_bytes, tape_bytes}
 pub use Rattle.tape_disks.specs.Disk.{Leaves}
 pub use Rattle.tape_disks.specs.declared.disk.TapeDisk.{Ghosts}
 pub use Rattle.hash_agg.specs.Added.{Added, AddedBy, AddedOne, Adds, Are, AreInputs, Continues, CountsWithin, Entries, Finished, HasRoom, IsDone, IsOver, IsReady, IsSafeRun, IsSelected, IsUnderway, KeepsLater, KeepsPass, MadeFirst, MadeLater, On_tape, Packed_rows, Refused, RefusedBy, Source, enters, query_of, setting_in, source_of}

@@ -10,7 +10,8 @@ pub use Rattle.packed_rows.specs.Columns.{AreColumns, kinds, printed}
 pub use Rattle.packed_rows.specs.RowsOnEnd.{LieAs}
 pub use Rattle.packed_rows.specs.View.{kind_of, kinds_of, row_of}
 pub use Rattle.query_checks.specs.Calls.{calls_of, distinct_calls}
-pub use Rattle.query_checks.specs.Checks.{Checked, PassesFirst, are_plain, checked, checked_order, checked_places, condition_fits, has_columns, is_boolean, is_column, is_grouped, kind_of_form, kinds_agree, kinds_fit, operands_fit, place, placed, takes_column, takes_one, takes_two, with_order}
+unfoldable pub use Rattle.query_checks.specs.Checks.{checked_order, checked_places}
+pub use Rattle.query_checks.specs.Checks.{Checked, PassesFirst, are_plain, checked, condition_fits, has_columns, is_boolean, is_column, is_grouped, kind_of_form, kinds_agree, kinds_fit, operands_fit, place, placed, takes_column, takes_one, takes_two, with_order}
 pub use Rattle.query_checks.specs.Forms.{Binary, Binary_operator, Call, Call_where, Comparing, Conjunction, Disjunction, Form, Literal, Negation, Testing, Unary, Unary_operator, Written, call_form, form_of, item_form, items_of, map_form, map_reads, places_of, with_filter}
 pub use Rattle.query_checks.specs.Order.{Asked, asked_of, order_of}
 pub use Rattle.query_checks.specs.Parts.{checked_of, written_of_parts}

@@ -130,7 +130,7 @@ fn placed_with_plan(
 
 /// What is kept of a query, once for all its copies. The only error is a failed allocation.
 fn shared(alloc: Global, kept: Kept) -> Result<Rc<Kept>, AllocError>
-    ensures ok { IfOk result (λ shared. shared ≡ kept) }
+    ensures ok { IfOk result (λ shared. shared.value ≡ kept) }
 {
     Ok(Rc::new(alloc, kept)?)
 }

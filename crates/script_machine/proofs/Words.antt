@@ -17,7 +17,10 @@ pub use Rattle.replies.specs.declared.refusal.Refusal.{Refusal}
 pub use Rattle.script_commands.specs.Commands.{Command, command_at, commands_of, owned_by, request_of}
 pub use Rattle.script_io.specs.Records.{Record}
 pub use Rattle.tape_disks.specs.Disk.{Leaves}
-pub use Rattle.script_machine.specs.Agreement.{AreAmong, ColumnsOf, FeedsAmong, IsOfColumns, KnowTheSame, OneBatchEach, after_all, world_of}
+unfoldable pub use Rattle.script_machine.specs.Agreement.{AreAmong}
+pub use Rattle.script_machine.specs.Agreement.{ColumnsOf, FeedsAmong, IsOfColumns, KnowTheSame, OneBatchEach, after_all, world_of}
 pub use Rattle.script_machine.specs.Limits.{FeedWorked, WorksAtLimit, no_work, setting_at}
-pub use Rattle.script_machine.specs.Machine.{Agrees, AgreesAt, AgreesWith, ColumnsReply, FeedAgrees, FeedReply, IsAccepted, IsNoSchema, IsRefusedFor, IsReply, MayReply, QueryReply, Refused, Replies, Run, State, StrictRun, after, answer_reply, is_fault, is_refused, known_reply, limit_reply, load_reply, merge_reply, replica_reply, save_reply, start, uses_tapes, with_replica}
+unfoldable pub use Rattle.script_machine.specs.Machine.{Run, StrictRun}
+unfoldable pub use Rattle.script_machine.specs.Machine.{Agrees}
+pub use Rattle.script_machine.specs.Machine.{AgreesAt, AgreesWith, ColumnsReply, FeedAgrees, FeedReply, IsAccepted, IsNoSchema, IsRefusedFor, IsReply, MayReply, QueryReply, Refused, Replies, State, after, answer_reply, is_fault, is_refused, known_reply, limit_reply, load_reply, merge_reply, replica_reply, save_reply, start, uses_tapes, with_replica}
 pub use Rattle.script_machine.specs.Views.{Answers, AreSaved, Files, FitsWorld, IsFileOf, IsFitting, IsStore, JoinRefused, JoinsNames, Represents, Steps, Store, Updates, empty, knowledge_of, replica_at, saved_at}

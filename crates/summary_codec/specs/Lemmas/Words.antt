@@ -15,10 +15,13 @@ pub use Rattle.origin_prefix.specs.Held.{AreHeldParts, IsHeldPart, Parts}
 pub use Rattle.origin_prefix.specs.Parts.{IsEarly, IsPartOf, Part}
 pub use Rattle.packed_rows.specs.Columns.{AreColumns, Column, IsColumnName, column_text, kind_text, kinds, names, printed}
 pub use Rattle.packed_rows.specs.Packing.{packing, value_packing}
-pub use Rattle.query_checks.specs.Checks.{Checked, all_of, are_plain, are_shallow, checked, checked_order, checked_places, has_columns, has_too_many, is_grouped, is_shallow, kinds_fit, placed, with_order}
+unfoldable pub use Rattle.query_checks.specs.Checks.{checked}
+pub use Rattle.query_checks.specs.Checks.{Checked, all_of, are_plain, are_shallow, checked_order, checked_places, has_columns, has_too_many, is_grouped, is_shallow, kinds_fit, placed, with_order}
 pub use Rattle.query_checks.specs.Spelling.{spelling}
-pub use Rattle.summary_codec.specs.File.{batch_bytes, body_bytes, file_bytes, file_in, part_bytes, sized_bytes}
-pub use Rattle.summary_codec.specs.Reading.{AreStateBytes, HasFault, IsCutShort, IsNext, IsPacking, IsSaved, IsSummary, IsSummaryIn, MayFollow, Outcome, Reader, batch, batches, body, both, columns_in, contents, done, each, ended, heading, must, number, number_within, opened, parts, query, query_in, rest, row, schema, sized, states_width, summary, taken, text}
+unfoldable pub use Rattle.summary_codec.specs.File.{part_bytes}
+pub use Rattle.summary_codec.specs.File.{batch_bytes, body_bytes, file_bytes, file_in, sized_bytes}
+unfoldable pub use Rattle.summary_codec.specs.Reading.{batch, batches, body, contents, heading, number, number_within, opened, parts, query, rest, row, schema, sized, summary, text}
+pub use Rattle.summary_codec.specs.Reading.{AreStateBytes, HasFault, IsCutShort, IsNext, IsPacking, IsSaved, IsSummary, IsSummaryIn, MayFollow, Outcome, Reader, both, columns_in, done, each, ended, must, query_in, states_width, taken}
 pub use Rattle.summary_codec.specs.Versions.{AreWithin, IsBatchWithin, IsWithin, last_number, most_batch_rows, opening}
 pub use Rattle.summary_codec.specs.declared.error.SummaryError.{SummaryError}
 pub use Rattle.summary_codec.specs.declared.version.Version.{Version}
