@@ -56,7 +56,7 @@ const ROOMS: &str = "\
 
 #[test]
 fn faults_of_writers_end_a_run(rt: HostRuntime) -> Result<(), Fail> {
-    expect_told_lines(rt.alloc(), ROOMS, written_to)
+    expect_told_lines(rt, ROOMS, written_to)
 }
 
 /// What becomes of the run of what a reader has, how many bytes are written, and whether the reader failed.

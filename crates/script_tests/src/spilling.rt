@@ -116,7 +116,7 @@ flip: feed,b,0,1,385;known,b;limit,90128;feed,b,0,1,385;answer,b => 1 refused Ta
 
 #[test]
 fn faults_of_disks_are_told(rt: HostRuntime) -> Result<(), Fail> {
-    expect_told_lines(rt.alloc(), FAULTS, told)
+    expect_told_lines(rt, FAULTS, told)
 }
 
 /// A run over a disk of which a call fails: whether that call was made, how many commands were refused, and the replies.

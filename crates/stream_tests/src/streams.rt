@@ -50,6 +50,20 @@ struct ShortWriter {
     at_room: AtRoom,
 }
 
+impl ShortWriter {
+    /// One that took nothing yet.
+    fn new(alloc: Global, room: usize, a_call: usize, at_room: AtRoom) -> ShortWriter {
+        ShortWriter {
+            taken: Vec::new(alloc),
+            room,
+            a_call,
+            calls: 0,
+            flushes: 0,
+            at_room,
+        }
+    }
+}
+
 impl Write for ShortWriter {
     fn write(&mut self, buf: &[u8]) -> io::Result<usize> {
         self.calls = self.calls.wrapping_add(1);
@@ -112,7 +126,7 @@ fn taken(alloc: Global, case: &str) -> Result<String, AllocError> {
 
 #[test]
 fn reads_up_to_the_limit(rt: HostRuntime) -> Result<(), Fail> {
-    expect_told_lines(rt.alloc(), SIZES, taken)
+    expect_told_lines(rt, SIZES, taken)
 }
 
 /// Whether a reader without an end is refused.
@@ -237,7 +251,7 @@ a/\u{feff}b/ => a|;\u{feff}b|;";
 
 #[test]
 fn reads_the_records(rt: HostRuntime) -> Result<(), Fail> {
-    expect_told_lines(rt.alloc(), RECORDS, records_of)
+    expect_told_lines(rt, RECORDS, records_of)
 }
 
 /// How many of five records are passed over in turn, and which are left.
@@ -276,19 +290,12 @@ fn left(alloc: Global, case: &str) -> Result<String, AllocError> {
 
 #[test]
 fn passes_over_records_past_the_end(rt: HostRuntime) -> Result<(), Fail> {
-    expect_told_lines(rt.alloc(), PASSED, left)
+    expect_told_lines(rt, PASSED, left)
 }
 
 /// Whether a text is written to a writer with so much room, or else its front, and a fault is told then, and stays.
 fn fills(rt: HostRuntime, text: &[u8], room: usize, a_call: usize, at_room: AtRoom) -> bool {
-    let mut short = ShortWriter {
-        taken: Vec::new(rt.alloc()),
-        room,
-        a_call,
-        calls: 0,
-        flushes: 0,
-        at_room,
-    };
+    let mut short = ShortWriter::new(rt.alloc(), room, a_call, at_room);
     let mut writer = Fused::new(&mut short);
     let is_whole = put_all(&mut writer, text).is_ok();
     let is_told = is_whole == writer.fault().is_none() && is_whole == writer.flush().is_ok();
@@ -326,14 +333,8 @@ fn writes_all_or_the_front(rt: HostRuntime) {
 
 /// Whether a writer of so much room is flushed when it is asked to, and then alone, and how often it is if that is asked twice.
 fn flushes(rt: HostRuntime, room: usize) -> (bool, usize) {
-    let mut short = ShortWriter {
-        taken: Vec::new(rt.alloc()),
-        room,
-        a_call: 3,
-        calls: 0,
-        flushes: 0,
-        at_room: AtRoom::Fail(ErrorKind::StorageFull),
-    };
+    let at_room = AtRoom::Fail(ErrorKind::StorageFull);
+    let mut short = ShortWriter::new(rt.alloc(), room, 3, at_room);
     let mut writer = Fused::new(&mut short);
     let text = b"count 0\n".get(..room).unwrap_or(b"count 0\n");
     let is_written = put_all(&mut writer, text).is_ok();
@@ -357,14 +358,7 @@ fn flushes_the_writer_behind(rt: HostRuntime) {
 
 #[test]
 fn writes_nothing_without_a_call(rt: HostRuntime) {
-    let mut short = ShortWriter {
-        taken: Vec::new(rt.alloc()),
-        room: 0,
-        a_call: 1,
-        calls: 0,
-        flushes: 0,
-        at_room: AtRoom::TakeNone,
-    };
+    let mut short = ShortWriter::new(rt.alloc(), 0, 1, AtRoom::TakeNone);
     let mut writer = Fused::new(&mut short);
     assert!(rt; put_all(&mut writer, b"").is_ok());
     assert!(rt; writer.fault().is_none());
@@ -373,14 +367,7 @@ fn writes_nothing_without_a_call(rt: HostRuntime) {
 
 #[test]
 fn asks_a_failed_writer_no_more(rt: HostRuntime) {
-    let mut short = ShortWriter {
-        taken: Vec::new(rt.alloc()),
-        room: 0,
-        a_call: 1,
-        calls: 0,
-        flushes: 0,
-        at_room: AtRoom::TakeNone,
-    };
+    let mut short = ShortWriter::new(rt.alloc(), 0, 1, AtRoom::TakeNone);
     let mut writer = Fused::new(&mut short);
     assert!(rt; put_all(&mut writer, b"x").is_err());
     assert!(rt; put_all(&mut writer, b"x").is_err());

@@ -6,6 +6,7 @@ use group_table::{Fnv1a, GroupTable, KeyHash};
 use std::alloc::{AllocError, Global};
 use std::marker::Model;
 use std::test::Fail;
+use test_tables::Told;
 
 /// How many bytes a state has, and a state.
 pub(crate) const WIDTH: u32 = 8;
@@ -107,18 +108,29 @@ impl<H: KeyHash + Drop> Groups<H> {
     }
 }
 
-/// What is told of a new table.
-pub(crate) fn of_groups<
-    F: FnOnce(Global, &mut Groups<Fnv1a>, &mut String) -> Result<(), AllocError>,
->(rt: HostRuntime, tell: F) -> Result<String, TreeError>
+/// What is told of a new table by a hash function.
+pub(crate) fn of_hash<
+    H: KeyHash + Drop,
+    F: FnOnce(&mut Groups<H>, &mut Told) -> Result<(), AllocError>,
+>(rt: HostRuntime, hash: H, tell: F) -> Result<String, TreeError>
     requires { F.IsAlwaysCallable tell }
 {
-    let mut groups = Groups::new(rt.alloc(), Fnv1a)?;
-    let mut text = String::new(rt.alloc());
-    let told = tell(rt.alloc(), &mut groups, &mut text);
+    let mut groups = Groups::new(rt.alloc(), hash)?;
+    let mut told = Told::new(rt.alloc());
+    let outcome = tell(&mut groups, &mut told);
     drop(groups);
-    told?;
-    Ok(text)
+    outcome?;
+    Ok(told.into_text())
+}
+
+/// The same by the usual one.
+pub(crate) fn of_groups<F: FnOnce(&mut Groups<Fnv1a>, &mut Told) -> Result<(), AllocError>>(
+    rt: HostRuntime,
+    tell: F,
+) -> Result<String, TreeError>
+    requires { F.IsAlwaysCallable tell }
+{
+    of_hash(rt, Fnv1a, tell)
 }
 
 /// The key and the state of a number.

@@ -13,6 +13,13 @@ use std::alloc::{AllocError, Global};
 use std::marker::Model;
 use std::test::Fail;
 
+/// One of two tables.
+#[derive(Clone, Copy)]
+enum Side {
+    Left,
+    Right,
+}
+
 /// Two tables below children of the root.
 #[derive(Drop)]
 struct Neighbours<H: KeyHash + Drop> {
@@ -137,6 +144,13 @@ impl<H: KeyHash + Drop> Neighbours<H> {
         put
     }
 
+    fn put(&mut self, side: Side, number: u32) -> Result<bool, AllocError> {
+        match side {
+            Side::Left => self.put_left(number),
+            Side::Right => self.put_right(number),
+        }
+    }
+
     fn clear_left(&mut self) {
         self.right.stays(&self.tree);
         self.tree.is_whole();
@@ -150,40 +164,33 @@ impl<H: KeyHash + Drop> Neighbours<H> {
     }
 }
 
-/// Puts the group of a number into the left table, and tells whether it did and the tables have those of some numbers then.
-fn left<H: KeyHash + Drop>(
+/// Puts the group of a number into a table, and tells whether it did and the tables have those of some numbers then.
+fn turn<H: KeyHash + Drop>(
     tables: &mut Neighbours<H>,
+    side: Side,
     number: u32,
     left: &[u32],
     right: &[u32],
 ) -> Result<bool, AllocError> {
-    Ok(tables.put_left(number)? && tables.has(left, right))
-}
-
-/// Puts the group of a number into the right table, and tells the same.
-fn right<H: KeyHash + Drop>(
-    tables: &mut Neighbours<H>,
-    number: u32,
-    left: &[u32],
-    right: &[u32],
-) -> Result<bool, AllocError> {
-    Ok(tables.put_right(number)? && tables.has(left, right))
+    Ok(tables.put(side, number)? && tables.has(left, right))
 }
 
 /// What two new tables hold, turn by turn.
 fn turns<H: KeyHash + Drop>(tables: &mut Neighbours<H>) -> Result<[bool; 4], AllocError> {
-    let first = left(tables, 1, &[1], &[])?;
-    let second = right(tables, 1, &[1], &[1])?;
-    let third = right(tables, 2, &[1], &[1, 2])?;
-    Ok([first, second, third, left(tables, 3, &[1, 3], &[1, 2])?])
+    let first = turn(tables, Side::Left, 1, &[1], &[])?;
+    let second = turn(tables, Side::Right, 1, &[1], &[1])?;
+    let third = turn(tables, Side::Right, 2, &[1], &[1, 2])?;
+    let fourth = turn(tables, Side::Left, 3, &[1, 3], &[1, 2])?;
+    Ok([first, second, third, fourth])
 }
 
 /// What they hold once the left one is cleared, turn by turn.
 fn turns_again<H: KeyHash + Drop>(tables: &mut Neighbours<H>) -> Result<[bool; 3], AllocError> {
     tables.clear_left();
     let cleared = tables.has(&[], &[1, 2]);
-    let first = left(tables, 4, &[4], &[1, 2])?;
-    Ok([cleared, first, right(tables, 4, &[4], &[1, 2, 4])?])
+    let first = turn(tables, Side::Left, 4, &[4], &[1, 2])?;
+    let second = turn(tables, Side::Right, 4, &[4], &[1, 2, 4])?;
+    Ok([cleared, first, second])
 }
 
 /// Whether two tables hold what they should, turn by turn.

@@ -1,10 +1,7 @@
 //! Tables by a hash function that has a seed.
 
-use crate::groups::Groups;
-use crate::tables::{FOUND, tell_numbers};
-use context_tree::TreeError;
+use crate::tables::{FOUND, of_numbers};
 use group_table::{KeyHash, Seed, SipHash};
-use std::alloc::Global;
 use std::test::Fail;
 use test_tables::expect_told;
 
@@ -49,18 +46,8 @@ fn hashes_are_those_of_another_program(rt: HostRuntime) {
     assert!(rt; told == [1452430622, 1301710370, 1968120336, 3402341386]);
 }
 
-/// What is told of groups of numbers in a table with a seed.
-fn of_seed(alloc: Global, seed: Seed) -> Result<String, TreeError> {
-    let mut groups = Groups::new(alloc, SipHash::new(seed))?;
-    let mut text = String::new(alloc);
-    let told = tell_numbers(alloc, &mut groups, 2000, &mut text);
-    drop(groups);
-    told?;
-    Ok(text)
-}
-
 #[test]
 fn groups_are_the_same_with_each_seed(rt: HostRuntime) -> Result<(), Fail> {
-    expect_told(of_seed(rt.alloc(), RISING), FOUND)?;
-    expect_told(of_seed(rt.alloc(), OF_PYTHON), FOUND)
+    expect_told(of_numbers(rt, SipHash::new(RISING), 2000), FOUND)?;
+    expect_told(of_numbers(rt, SipHash::new(OF_PYTHON), 2000), FOUND)
 }

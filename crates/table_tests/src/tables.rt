@@ -1,11 +1,11 @@
 //! A table by itself.
 
-use crate::groups::{Groups, WIDTH, has_numbers, key, of_groups, put_numbers, state};
+use crate::groups::{Groups, WIDTH, has_numbers, key, of_groups, of_hash, put_numbers, state};
 use context_tree::{ContextId, Tree, TreeError};
 use group_table::{Fnv1a, GroupTable, KeyHash};
 use std::alloc::{AllocError, Global};
 use std::test::Fail;
-use test_tables::{expect_told, tell};
+use test_tables::{Told, expect_told};
 
 /// A hash function by which all keys are alike.
 #[derive(Drop)]
@@ -32,32 +32,28 @@ fn hashes_are_those_of_fnv_1a(rt: HostRuntime) {
 }
 
 /// Tells whether there is room for one group within each of two limits.
-fn tell_room(alloc: Global, groups: &Groups<Fnv1a>, text: &mut String) -> Result<(), AllocError> {
-    tell(alloc, text, groups.room_for(b"k", 32767))?;
-    tell(alloc, text, groups.room_for(b"k", 32768))
+fn tell_room(groups: &Groups<Fnv1a>, told: &mut Told) -> Result<(), AllocError> {
+    told.tell(groups.room_for(b"k", 32767))?;
+    told.tell(groups.room_for(b"k", 32768))
 }
 
 /// Tells what is held, and how many groups there are.
-fn tell_held(alloc: Global, groups: &Groups<Fnv1a>, text: &mut String) -> Result<(), AllocError> {
-    tell(alloc, text, groups.held())?;
-    tell(alloc, text, groups.len())
+fn tell_held(groups: &Groups<Fnv1a>, told: &mut Told) -> Result<(), AllocError> {
+    told.tell(groups.held())?;
+    told.tell(groups.len())
 }
 
 /// Tells one group in a table, before and after it is given up.
-fn tell_one_group(
-    alloc: Global,
-    groups: &mut Groups<Fnv1a>,
-    text: &mut String,
-) -> Result<(), AllocError> {
-    tell_room(alloc, groups, text)?;
-    tell(alloc, text, groups.put(b"k", b"a state!")?)?;
-    tell_held(alloc, groups, text)?;
-    tell(alloc, text, groups.finds(b"k", b"a state!"))?;
-    tell(alloc, text, groups.is_entry(0, b"k", b"a state!"))?;
+fn tell_one_group(groups: &mut Groups<Fnv1a>, told: &mut Told) -> Result<(), AllocError> {
+    tell_room(groups, told)?;
+    told.tell(groups.put(b"k", b"a state!")?)?;
+    tell_held(groups, told)?;
+    told.tell(groups.finds(b"k", b"a state!"))?;
+    told.tell(groups.is_entry(0, b"k", b"a state!"))?;
     groups.clear();
-    tell_held(alloc, groups, text)?;
-    tell(alloc, text, groups.has(b"k"))?;
-    tell_room(alloc, groups, text)
+    tell_held(groups, told)?;
+    told.tell(groups.has(b"k"))?;
+    tell_room(groups, told)
 }
 
 #[test]
@@ -70,96 +66,72 @@ fn one_group_is_put_and_given_up(rt: HostRuntime) -> Result<(), Fail> {
 
 /// Puts the groups of numbers, and tells whether each is a new one and is found.
 fn tell_put<H: KeyHash + Drop>(
-    alloc: Global,
     groups: &mut Groups<H>,
     count: u32,
-    text: &mut String,
+    told: &mut Told,
 ) -> Result<(), AllocError> {
-    tell(alloc, text, put_numbers(groups, count)?)?;
-    tell(alloc, text, has_numbers(groups, count))
+    told.tell(put_numbers(groups, count)?)?;
+    told.tell(has_numbers(groups, count))
 }
 
 /// Tells groups of numbers, again behind a clearing.
-pub(crate) fn tell_numbers<H: KeyHash + Drop>(
-    alloc: Global,
+fn tell_numbers<H: KeyHash + Drop>(
     groups: &mut Groups<H>,
     count: u32,
-    text: &mut String,
+    told: &mut Told,
 ) -> Result<(), AllocError> {
-    tell_put(alloc, groups, count, text)?;
+    tell_put(groups, count, told)?;
     groups.clear();
-    tell(alloc, text, has_numbers(groups, 0))?;
-    tell(alloc, text, groups.has(&key(0)))?;
-    tell_put(alloc, groups, count, text)
+    told.tell(has_numbers(groups, 0))?;
+    told.tell(groups.has(&key(0)))?;
+    tell_put(groups, count, told)
 }
 
 /// What is told of groups of numbers that were found, and found again behind a clearing.
 pub(crate) const FOUND: &str = "true true true false true true ";
 
-/// Tells many groups of numbers.
-fn tell_many(
-    alloc: Global,
-    groups: &mut Groups<Fnv1a>,
-    text: &mut String,
-) -> Result<(), AllocError> {
-    tell_numbers(alloc, groups, 2000, text)
+/// What is told of groups of numbers in a table by a hash function.
+pub(crate) fn of_numbers<H: KeyHash + Drop>(
+    rt: HostRuntime,
+    hash: H,
+    count: u32,
+) -> Result<String, TreeError> {
+    of_hash(rt, hash, |groups, told| tell_numbers(groups, count, told))
 }
 
 #[test]
 fn many_groups_are_found(rt: HostRuntime) -> Result<(), Fail> {
-    expect_told(of_groups(rt, tell_many), FOUND)
-}
-
-/// What is told of groups of numbers in a table by whose hash function all keys are alike.
-fn of_one_hash(alloc: Global, hash: u32) -> Result<String, TreeError> {
-    let mut groups = Groups::new(alloc, Alike { hash })?;
-    let mut text = String::new(alloc);
-    let told = tell_numbers(alloc, &mut groups, 300, &mut text);
-    drop(groups);
-    told?;
-    Ok(text)
+    expect_told(of_numbers(rt, Fnv1a, 2000), FOUND)
 }
 
 #[test]
 fn groups_of_one_hash_are_found(rt: HostRuntime) -> Result<(), Fail> {
-    expect_told(of_one_hash(rt.alloc(), 0), FOUND)?;
-    expect_told(of_one_hash(rt.alloc(), u32::MAX), FOUND)
+    expect_told(of_numbers(rt, Alike { hash: 0 }, 300), FOUND)?;
+    expect_told(of_numbers(rt, Alike { hash: u32::MAX }, 300), FOUND)
 }
 
 /// Tells whether keys that begin alike are new ones, the empty one among them, which is put twice.
-fn tell_alike_put(
-    alloc: Global,
-    groups: &mut Groups<Fnv1a>,
-    text: &mut String,
-) -> Result<(), AllocError> {
-    tell(alloc, text, groups.put(b"", b"nothing.")?)?;
-    tell(alloc, text, groups.put(b"a", b"a letter")?)?;
-    tell(alloc, text, groups.put(b"a\0", b"a zero..")?)?;
-    tell(alloc, text, groups.put(b"", b"nothing!")?)
+fn tell_alike_put(groups: &mut Groups<Fnv1a>, told: &mut Told) -> Result<(), AllocError> {
+    told.tell(groups.put(b"", b"nothing.")?)?;
+    told.tell(groups.put(b"a", b"a letter")?)?;
+    told.tell(groups.put(b"a\0", b"a zero..")?)?;
+    told.tell(groups.put(b"", b"nothing!")?)
 }
 
 /// Tells whether keys that begin alike are found with their states, and two others are.
-fn tell_alike_found(
-    alloc: Global,
-    groups: &Groups<Fnv1a>,
-    text: &mut String,
-) -> Result<(), AllocError> {
-    tell(alloc, text, groups.finds(b"", b"nothing."))?;
-    tell(alloc, text, groups.finds(b"a", b"a letter"))?;
-    tell(alloc, text, groups.finds(b"a\0", b"a zero.."))?;
-    tell(alloc, text, groups.is_entry(2, b"a\0", b"a zero.."))?;
-    tell(alloc, text, groups.has(b"\0"))?;
-    tell(alloc, text, groups.has(b"aa"))
+fn tell_alike_found(groups: &Groups<Fnv1a>, told: &mut Told) -> Result<(), AllocError> {
+    told.tell(groups.finds(b"", b"nothing."))?;
+    told.tell(groups.finds(b"a", b"a letter"))?;
+    told.tell(groups.finds(b"a\0", b"a zero.."))?;
+    told.tell(groups.is_entry(2, b"a\0", b"a zero.."))?;
+    told.tell(groups.has(b"\0"))?;
+    told.tell(groups.has(b"aa"))
 }
 
 /// Tells keys that begin alike.
-fn tell_alike(
-    alloc: Global,
-    groups: &mut Groups<Fnv1a>,
-    text: &mut String,
-) -> Result<(), AllocError> {
-    tell_alike_put(alloc, groups, text)?;
-    tell_alike_found(alloc, groups, text)
+fn tell_alike(groups: &mut Groups<Fnv1a>, told: &mut Told) -> Result<(), AllocError> {
+    tell_alike_put(groups, told)?;
+    tell_alike_found(groups, told)
 }
 
 #[test]
@@ -171,27 +143,19 @@ fn equal_bytes_alone_are_one_key(rt: HostRuntime) -> Result<(), Fail> {
 }
 
 /// Tells a state that is written over: whether there is one, and whether the new one is found by its key and at its place.
-fn tell_changed(
-    alloc: Global,
-    groups: &mut Groups<Fnv1a>,
-    text: &mut String,
-) -> Result<(), AllocError> {
-    tell(alloc, text, groups.write(&key(77), b"changed!"))?;
-    tell(alloc, text, groups.finds(&key(77), b"changed!"))?;
-    tell(alloc, text, groups.is_entry(77, &key(77), b"changed!"))
+fn tell_changed(groups: &mut Groups<Fnv1a>, told: &mut Told) -> Result<(), AllocError> {
+    told.tell(groups.write(&key(77), b"changed!"))?;
+    told.tell(groups.finds(&key(77), b"changed!"))?;
+    told.tell(groups.is_entry(77, &key(77), b"changed!"))
 }
 
 /// Tells one state of many that is written over, and then written back, and one that there is not.
-fn tell_written(
-    alloc: Global,
-    groups: &mut Groups<Fnv1a>,
-    text: &mut String,
-) -> Result<(), AllocError> {
-    tell(alloc, text, put_numbers(groups, 200)?)?;
-    tell_changed(alloc, groups, text)?;
-    tell(alloc, text, groups.write(&key(77), &state(77)))?;
-    tell(alloc, text, has_numbers(groups, 200))?;
-    tell(alloc, text, groups.write(&key(200), b"changed!"))
+fn tell_written(groups: &mut Groups<Fnv1a>, told: &mut Told) -> Result<(), AllocError> {
+    told.tell(put_numbers(groups, 200)?)?;
+    tell_changed(groups, told)?;
+    told.tell(groups.write(&key(77), &state(77)))?;
+    told.tell(has_numbers(groups, 200))?;
+    told.tell(groups.write(&key(200), b"changed!"))
 }
 
 #[test]
@@ -249,14 +213,10 @@ fn first_untold(groups: &mut Groups<Fnv1a>, count: u32) -> Result<Option<u32>, A
 }
 
 /// Tells what room is told for, of each of the groups of numbers.
-fn tell_rooms(
-    alloc: Global,
-    groups: &mut Groups<Fnv1a>,
-    text: &mut String,
-) -> Result<(), AllocError> {
-    tell(alloc, text, first_untold(groups, 2000)?)?;
+fn tell_rooms(groups: &mut Groups<Fnv1a>, told: &mut Told) -> Result<(), AllocError> {
+    told.tell(first_untold(groups, 2000)?)?;
     groups.clear();
-    tell(alloc, text, first_untold(groups, 200)?)
+    told.tell(first_untold(groups, 200)?)
 }
 
 #[test]
@@ -265,30 +225,21 @@ fn room_is_what_is_held_on_the_way(rt: HostRuntime) -> Result<(), Fail> {
 }
 
 /// Tells what one more group needs where there are those of so many numbers, and what is held then.
-fn tell_need(
-    alloc: Global,
-    groups: &mut Groups<Fnv1a>,
-    count: u32,
-    text: &mut String,
-) -> Result<(), AllocError> {
+fn tell_need(groups: &mut Groups<Fnv1a>, count: u32, told: &mut Told) -> Result<(), AllocError> {
     groups.clear();
-    tell(alloc, text, put_numbers(groups, count)?)?;
-    tell(alloc, text, groups.need_for(&key(count)))?;
-    tell(alloc, text, groups.held())
+    told.tell(put_numbers(groups, count)?)?;
+    told.tell(groups.need_for(&key(count)))?;
+    told.tell(groups.held())
 }
 
 /// A block of 8,192 bytes has room for 1,024 of these keys and for 512 states, each in a chunk of 16 bytes. The array that is held
 /// from the first group on has 256 buckets. It is doubled by the 193rd group, to 16,392 bytes, and by the 385th, to 32,776.
-fn tell_needs(
-    alloc: Global,
-    groups: &mut Groups<Fnv1a>,
-    text: &mut String,
-) -> Result<(), AllocError> {
-    tell_need(alloc, groups, 0, text)?;
-    tell_need(alloc, groups, 191, text)?;
-    tell_need(alloc, groups, 192, text)?;
-    tell_need(alloc, groups, 384, text)?;
-    tell_need(alloc, groups, 512, text)
+fn tell_needs(groups: &mut Groups<Fnv1a>, told: &mut Told) -> Result<(), AllocError> {
+    tell_need(groups, 0, told)?;
+    tell_need(groups, 191, told)?;
+    tell_need(groups, 192, told)?;
+    tell_need(groups, 384, told)?;
+    tell_need(groups, 512, told)
 }
 
 #[test]
@@ -321,13 +272,9 @@ fn put_all_again(groups: &mut Groups<Fnv1a>, count: u32) -> Result<bool, AllocEr
 }
 
 /// Under `rt try --test --fail-alloc N` one of these groups is refused its memory, from the first N at which the table was made.
-fn tell_put_again(
-    alloc: Global,
-    groups: &mut Groups<Fnv1a>,
-    text: &mut String,
-) -> Result<(), AllocError> {
-    tell(alloc, text, put_all_again(groups, 200)?)?;
-    tell(alloc, text, has_numbers(groups, 200))
+fn tell_put_again(groups: &mut Groups<Fnv1a>, told: &mut Told) -> Result<(), AllocError> {
+    told.tell(put_all_again(groups, 200)?)?;
+    told.tell(has_numbers(groups, 200))
 }
 
 #[test]

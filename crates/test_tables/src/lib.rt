@@ -37,14 +37,32 @@ pub fn expect_told<E: Debug + Drop>(told: Result<String, E>, wanted: &str) -> Re
     expect(Ok(told), wanted)
 }
 
-/// Tells what a call answered, behind what was told before.
-pub fn tell<T: Debug + Copy>(
+/// What calls answered, one behind the other.
+#[derive(Drop)]
+pub struct Told {
     alloc: Global,
-    text: &mut String,
-    answer: T,
-) -> Result<(), AllocError> {
-    let told = format!(in alloc; "{answer:?} ")?;
-    text.push_str(&told)
+    text: String,
+}
+
+impl Told {
+    /// Nothing is told.
+    pub fn new(alloc: Global) -> Told {
+        Told {
+            alloc,
+            text: String::new(alloc),
+        }
+    }
+
+    /// Tells what a call answered, behind what was told before.
+    pub fn tell<T: Debug + Copy>(&mut self, answer: T) -> Result<(), AllocError> {
+        let told = format!(in self.alloc; "{answer:?} ")?;
+        self.text.push_str(&told)
+    }
+
+    /// All that was told.
+    pub fn into_text(self) -> String {
+        self.text
+    }
 }
 
 /// Fails, with the line and what is told, at the first line of a table whose case, in front of ` => `, has another outcome
@@ -68,18 +86,11 @@ pub fn expect_lines<'t, F: Fn(HostRuntime, &'t str) -> Result<String, Fail>>(
 
 /// The same of outcomes that a library may refuse by an error of its own.
 pub fn expect_told_lines<'t, E: Debug + Drop, F: Fn(Global, &'t str) -> Result<String, E>>(
-    alloc: Global,
+    rt: HostRuntime,
     table: &'t str,
     outcome: F,
 ) -> Result<(), Fail>
     requires { F.IsAlwaysCallable outcome }
 {
-    for line in table.lines() {
-        let (case, wanted) = halves(line, " => ")?;
-        let told = outcome(alloc, case)?;
-        if told.as_str() != wanted {
-            return Err(Fail::new(format_args!("{line}: {told}")));
-        }
-    }
-    Ok(())
+    expect_lines(rt, table, |rt, case| Ok(outcome(rt.alloc(), case)?))
 }
