@@ -142,31 +142,17 @@ fn queries_have_their_parts(rt: HostRuntime) -> Result<(), Fail> {
     expect_lines(rt, PARTS, told)
 }
 
-/// Whether a query is the same as that of `c`'s sums.
-fn is_first(rt: HostRuntime, other: &Query) -> Result<bool, Fail> {
-    match query(
-        rt,
-        "c text, d bigint|SELECT c, sum(d) FROM batches GROUP BY c",
-    ) {
-        Ok(first) => {
-            let is_same = first.same_query(other);
-            drop(first);
-            Ok(is_same)
-        }
-        Err(fail) => Err(fail),
-    }
-}
+/// Columns, and a query of `c`'s sums.
+const FIRST: &str = "c text, d bigint|SELECT c, sum(d) FROM batches GROUP BY c";
 
 /// Whether columns and a text make a query that is the same as the first.
 fn is_same(rt: HostRuntime, case: &str) -> Result<bool, Fail> {
-    match query(rt, case) {
-        Ok(other) => {
-            let is_first = is_first(rt, &other);
-            drop(other);
-            is_first
-        }
-        Err(fail) => Err(fail),
-    }
+    let first = query(rt, FIRST)?;
+    let other = query(rt, case)?;
+    let is_same = first.same_query(&other);
+    drop(other);
+    drop(first);
+    Ok(is_same)
 }
 
 /// The same in a word.
