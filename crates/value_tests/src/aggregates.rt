@@ -158,15 +158,16 @@ fn kinds_named(rt: HostRuntime, names: &str) -> Result<Vec<AggKind>, Fail> {
     Ok(kinds)
 }
 
-/// So many rows, if a state may count them.
-fn rows_named(number: &str) -> Result<u64, Fail>
-    ensures { IfOk result (λ most. most ≤ most_rows) }
+/// So many rows as a case begins with, if a state may count them, and the rest of the case.
+fn most_and_rest(case: &str) -> Result<(u64, &str), Fail>
+    ensures { IfOk result (λ found. found.0 ≤ most_rows) }
 {
+    let (number, rest) = halves(case, " ")?;
     let most = number.parse::<u64>()?;
     if most > MOST_COUNTED {
         return Err("too many rows")?;
     }
-    Ok(most)
+    Ok((most, rest))
 }
 
 /// Whether bytes are those of a row of states.
@@ -180,8 +181,7 @@ fn is_row(rt: HostRuntime, kinds: &[AggKind], most: u64, bytes: &str) -> Result<
 /// The same of functions of some names.
 fn checked(rt: HostRuntime, case: &str) -> Result<String, Fail> {
     let (names, rest) = halves(case, " ")?;
-    let (most, bytes) = halves(rest, " ")?;
-    let most = rows_named(most)?;
+    let (most, bytes) = most_and_rest(rest)?;
     let kinds = kinds_named(rt, names)?;
     let is_row = is_row(rt, &kinds, most, bytes);
     drop(kinds);
@@ -310,8 +310,7 @@ fn moved_by(
 fn moved(rt: HostRuntime, case: &str) -> Result<String, Fail> {
     let (name, rest) = halves(case, " ")?;
     let kind = kind_named(name)?;
-    let (most, rest) = halves(rest, " ")?;
-    let most = rows_named(most)?;
+    let (most, rest) = most_and_rest(rest)?;
     let (bytes, field) = halves(rest, " ")?;
     let reach = argument(kind, field)?;
     moved_by(rt, kind, most, bytes, reach)
@@ -345,8 +344,7 @@ fn combined_with(rt: HostRuntime, most: u64, into: &str, from: &[u8]) -> Result<
 
 /// The same of the bytes of both.
 fn combined(rt: HostRuntime, case: &str) -> Result<String, Fail> {
-    let (most, rows) = halves(case, " ")?;
-    let most = rows_named(most)?;
+    let (most, rows) = most_and_rest(case)?;
     let (into, from) = halves(rows, " ")?;
     let from = decode(rt.alloc(), from)?;
     let combined = combined_with(rt, most, into, &from);
