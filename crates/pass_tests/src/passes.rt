@@ -37,20 +37,18 @@ pub(crate) fn rows_of(rt: HostRuntime, query: &Query, towns: u32) -> Result<Pack
     rows
 }
 
-/// The groups of a row of each of some towns within a limit, by a hash function, what these took, and how many pages of tape.
+/// The groups of rows, what these took, and how many pages of tape.
 fn counted<H: KeyHash + Copy>(
     rt: HostRuntime,
     query: &Query,
     rows: &PackedRows,
-    limit: u64,
-    hash: H,
+    means: &Means<H>,
 ) -> Result<(Run, Work, u64), Fail>
     requires rows { (those : List Row) × ArePackings (meaning query.now).kinds rows.now those }
     requires few { length rows.now ≤ most_rows }
 {
-    let means = Means::new(limit, hash)?;
     let mut disk = MemDisk::new(rt.alloc());
-    let aggregated = aggregate(rt.alloc(), query, &[Input::Flat(rows)], &means, &mut disk);
+    let aggregated = aggregate(rt.alloc(), query, &[Input::Flat(rows)], means, &mut disk);
     let pages = disk.writes();
     drop(disk);
     let (run, work) = aggregated?;
@@ -79,65 +77,38 @@ fn with_work(rt: HostRuntime, told: &str, work: &Work, pages: u64) -> Result<Str
     )?)
 }
 
-/// What is told of the groups of rows within a limit, beside the whole.
-fn compared_with<H: KeyHash + Copy>(
-    rt: HostRuntime,
-    query: &Query,
-    rows: &PackedRows,
-    whole: &Run,
-    limit: u64,
-    hash: H,
-) -> Result<String, Fail>
-    requires rows { (those : List Row) × ArePackings (meaning query.now).kinds rows.now those }
-    requires few { length rows.now ≤ most_rows }
-{
-    let (parts, work, pages) = counted(rt, query, rows, limit, hash)?;
-    let told = told_of_runs(rt, whole, &parts);
-    drop(parts);
-    with_work(rt, &told?, &work, pages)
-}
-
-/// The same beside their groups within the greatest limit.
+/// What is told of the groups of rows, beside those within the greatest limit.
 fn compared_rows<H: KeyHash + Copy>(
     rt: HostRuntime,
     query: &Query,
     rows: &PackedRows,
-    limit: u64,
-    hash: H,
+    means: &Means<H>,
 ) -> Result<String, Fail>
     requires rows { (those : List Row) × ArePackings (meaning query.now).kinds rows.now those }
     requires few { length rows.now ≤ most_rows }
 {
-    let (whole, _, _) = counted(rt, query, rows, 1_099_511_627_776, Fnv1a)?;
-    let told = compared_with(rt, query, rows, &whole, limit, hash);
+    let greatest = Means::new(1_099_511_627_776, Fnv1a)?;
+    let (whole, _, _) = counted(rt, query, rows, &greatest)?;
+    let (parts, work, pages) = counted(rt, query, rows, means)?;
+    let told = told_of_runs(rt, &whole, &parts);
+    drop(parts);
     drop(whole);
-    told
+    with_work(rt, &told?, &work, pages)
 }
 
 /// How many groups there are of a row of each of so many towns, whether they are the same within a limit by a hash function, the last of
 /// them, and what that takes.
-fn compared<H: KeyHash + Copy>(
-    rt: HostRuntime,
-    query: &Query,
-    towns: u32,
-    limit: u64,
-    hash: H,
-) -> Result<String, Fail> {
-    let rows = rows_of(rt, query, towns)?;
-    let told = compared_rows(rt, query, &rows, limit, hash);
-    drop(rows);
-    told
-}
-
-/// The same of the groups of the query.
 pub(crate) fn limited<H: KeyHash + Copy>(
     rt: HostRuntime,
     towns: u32,
     limit: u64,
     hash: H,
 ) -> Result<String, Fail> {
+    let means = Means::new(limit, hash)?;
     let query = query(rt, COLUMNS, TOWNS)?;
-    let told = compared(rt, &query, towns, limit, hash);
+    let rows = rows_of(rt, &query, towns)?;
+    let told = compared_rows(rt, &query, &rows, &means);
+    drop(rows);
     drop(query);
     told
 }
