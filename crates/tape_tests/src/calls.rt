@@ -1,51 +1,70 @@
-//! Calls of tapes, each where its condition holds; else they answer `NoMemory`, which no test wants.
+//! Tapes over a disk. Each call is made where its condition holds; else it answers `NoMemory`, which no test wants.
 
 use spill_tapes::{TapeDisk, TapeError, TapeId, Tapes};
+use std::alloc::Global;
 use std::test::*;
 
-/// Appends a record.
-pub(crate) fn append<D: TapeDisk>(
-    tapes: &mut Tapes,
-    disk: &mut D,
-    tape: TapeId,
-    hash: u32,
-    tag: u8,
-    bytes: &[u8],
-) -> Result<(), TapeError> {
-    if !tapes.is_dead() && !tapes.is_written(tape) || tag > 1 || bytes.len() > 65535 {
-        return Err(TapeError::NoMemory);
-    }
-    tapes.append(disk, tape, hash, tag, bytes)
+/// Tapes, and the disk that they lie on.
+#[derive(Drop)]
+pub(crate) struct Deck<D: TapeDisk + Drop> {
+    pub(crate) alloc: Global,
+    tapes: Tapes,
+    pub(crate) disk: D,
 }
 
-/// Rewinds a tape.
-pub(crate) fn rewind<D: TapeDisk>(
-    tapes: &mut Tapes,
-    disk: &mut D,
-    tape: TapeId,
-) -> Result<(), TapeError> {
-    if !tapes.is_dead() && !tapes.is_written(tape) {
-        return Err(TapeError::NoMemory);
+impl<D: TapeDisk + Drop> Deck<D> {
+    /// No tapes over a disk.
+    pub(crate) fn new(alloc: Global, disk: D) -> Deck<D> {
+        Deck {
+            alloc,
+            tapes: Tapes::new(alloc),
+            disk,
+        }
     }
-    tapes.rewind(disk, tape)
-}
 
-/// Reads the next record of a tape.
-pub(crate) fn next<D: TapeDisk>(
-    tapes: &mut Tapes,
-    disk: &mut D,
-    tape: TapeId,
-    bytes: &mut Vec<u8>,
-) -> Result<Option<(u32, u8)>, TapeError> {
-    if !tapes.is_dead() && !tapes.is_read(tape) {
-        return Err(TapeError::NoMemory);
+    /// Opens a tape.
+    pub(crate) fn open(&mut self) -> Result<TapeId, TapeError> {
+        self.tapes.open(&self.disk)
     }
-    tapes.next(disk, tape, bytes)
-}
 
-/// Closes a tape.
-pub(crate) fn close<D: TapeDisk>(tapes: &mut Tapes, disk: &D, tape: TapeId) {
-    if tapes.is_open(tape) {
-        tapes.close(disk, tape);
+    /// Appends a record.
+    pub(crate) fn append(
+        &mut self,
+        tape: TapeId,
+        hash: u32,
+        tag: u8,
+        bytes: &[u8],
+    ) -> Result<(), TapeError> {
+        if !self.tapes.is_dead() && !self.tapes.is_written(tape) || tag > 1 || bytes.len() > 65535 {
+            return Err(TapeError::NoMemory);
+        }
+        self.tapes.append(&mut self.disk, tape, hash, tag, bytes)
+    }
+
+    /// Rewinds a tape.
+    pub(crate) fn rewind(&mut self, tape: TapeId) -> Result<(), TapeError> {
+        if !self.tapes.is_dead() && !self.tapes.is_written(tape) {
+            return Err(TapeError::NoMemory);
+        }
+        self.tapes.rewind(&mut self.disk, tape)
+    }
+
+    /// Reads the next record of a tape.
+    pub(crate) fn next(
+        &mut self,
+        tape: TapeId,
+        bytes: &mut Vec<u8>,
+    ) -> Result<Option<(u32, u8)>, TapeError> {
+        if !self.tapes.is_dead() && !self.tapes.is_read(tape) {
+            return Err(TapeError::NoMemory);
+        }
+        self.tapes.next(&mut self.disk, tape, bytes)
+    }
+
+    /// Closes a tape.
+    pub(crate) fn close(&mut self, tape: TapeId) {
+        if self.tapes.is_open(tape) {
+            self.tapes.close(&self.disk, tape);
+        }
     }
 }

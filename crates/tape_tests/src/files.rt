@@ -1,16 +1,20 @@
 //! Tapes over a file.
 
-use crate::tapes::tell_case;
+use crate::calls::Deck;
 use spill_tapes::{DiskError, FileDisk, TapeDisk};
 use std::os::unix::fs::MetadataExt;
 use std::test::*;
 use std::{fs, process};
 use test_tables::expect;
 
-/// Tells two records over a disk, and who may read and write the file that it lies in.
-fn told_over<D: TapeDisk>(rt: HostRuntime, disk: &mut D, path: &str) -> Result<String, Fail> {
+/// Tells two records over the disk of a deck, and who may read and write the file that it lies in.
+fn told_over<D: TapeDisk + Drop>(
+    rt: HostRuntime,
+    deck: &mut Deck<D>,
+    path: &str,
+) -> Result<String, Fail> {
     let mut text = String::new(rt.alloc());
-    tell_case(rt.alloc(), disk, "two", &mut text)?;
+    deck.tell_case("two", &mut text)?;
     let mode = fs::metadata(&rt, path)?.mode() & 0o777;
     Ok(format!(in rt.alloc(); "{text}, mode {mode:o}")?)
 }
@@ -25,15 +29,16 @@ fn round_the_last<D: TapeDisk>(disk: &mut D) -> Result<[u8; 8], DiskError> {
 
 /// The same over a new file, which is removed then, whether a second one is refused in its place, and what is read where nothing was written.
 fn told_over_file(rt: HostRuntime, path: &str) -> Result<String, Fail> {
-    let mut disk = match FileDisk::create(&rt, path) {
+    let disk = match FileDisk::create(&rt, path) {
         Ok(disk) => disk,
         Err(fault) => return Err(Fail::new(format!(in rt.alloc(); "{fault}")?)),
     };
     let is_refused = FileDisk::create(&rt, path).is_err();
-    let told = told_over(rt, &mut disk, path);
-    let writes = disk.writes();
-    let round = round_the_last(&mut disk) == Ok(*b"\0\0abcd\0\0");
-    drop(disk);
+    let mut deck = Deck::new(rt.alloc(), disk);
+    let told = told_over(rt, &mut deck, path);
+    let writes = deck.disk.writes();
+    let round = round_the_last(&mut deck.disk) == Ok(*b"\0\0abcd\0\0");
+    drop(deck);
     let removed = fs::remove_file(&rt, path);
     let told = told?;
     removed?;

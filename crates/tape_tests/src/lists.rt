@@ -8,39 +8,54 @@ use std::test::*;
 use test_disks::{Marks, failing, flipping};
 use test_tables::expect;
 
-/// Spills a record: its hash, its tag and its bytes.
-fn spill<D: TapeDisk>(
-    lists: &mut SpillLists,
-    disk: &mut D,
-    hash: u32,
-    tag: u8,
-    bytes: &[u8],
-) -> Result<(), Fail>
-    requires alive { lists.old.tapes.is_dead ≡ false }
-    ensures alive { OnOk result (lists.new.tapes.is_dead ≡ false) }
-    ensures source { lists.new.source ≡ lists.old.source }
-{
-    if tag > 1 || bytes.len() > 65535 {
-        return Err(Fail::from("no record"));
-    }
-    lists.spill(disk, hash, tag, bytes)?;
-    Ok(())
+/// Lists, the disk that they lie on, and the bytes of the record that was read last.
+#[derive(Drop)]
+struct Spool<D: TapeDisk + Drop> {
+    alloc: Global,
+    lists: SpillLists,
+    disk: D,
+    bytes: Vec<u8>,
 }
 
-/// Spills records.
-fn spill_all<D: TapeDisk>(
-    lists: &mut SpillLists,
-    disk: &mut D,
-    records: &[(u32, u8, &[u8])],
-) -> Result<(), Fail>
-    requires alive { lists.old.tapes.is_dead ≡ false }
-    ensures alive { OnOk result (lists.new.tapes.is_dead ≡ false) }
-    ensures source { lists.new.source ≡ lists.old.source }
-{
-    for (hash, tag, bytes) in records {
-        spill(lists, disk, *hash, *tag, bytes)?;
+impl<D: TapeDisk + Drop> Spool<D> {
+    /// New lists over a disk.
+    fn new(alloc: Global, disk: D) -> Spool<D>
+        ensures alive { result.lists.tapes.is_dead ≡ false }
+        ensures parts { result.lists.parts ≡ [] }
+        ensures source { result.lists.source ≡ [] }
+    {
+        Spool {
+            alloc,
+            lists: SpillLists::new(alloc, &disk),
+            disk,
+            bytes: Vec::new(alloc),
+        }
     }
-    Ok(())
+
+    /// Spills a record: its hash, its tag and its bytes.
+    fn spill(&mut self, hash: u32, tag: u8, bytes: &[u8]) -> Result<(), Fail>
+        requires alive { self.old.lists.tapes.is_dead ≡ false }
+        ensures alive { OnOk result (self.new.lists.tapes.is_dead ≡ false) }
+        ensures source { self.new.lists.source ≡ self.old.lists.source }
+    {
+        if tag > 1 || bytes.len() > 65535 {
+            return Err(Fail::from("no record"));
+        }
+        self.lists.spill(&mut self.disk, hash, tag, bytes)?;
+        Ok(())
+    }
+
+    /// Spills records.
+    fn spill_all(&mut self, records: &[(u32, u8, &[u8])]) -> Result<(), Fail>
+        requires alive { self.old.lists.tapes.is_dead ≡ false }
+        ensures alive { OnOk result (self.new.lists.tapes.is_dead ≡ false) }
+        ensures source { self.new.lists.source ≡ self.old.lists.source }
+    {
+        for (hash, tag, bytes) in records {
+            self.spill(*hash, *tag, bytes)?;
+        }
+        Ok(())
+    }
 }
 
 /// Tells a record.
@@ -56,63 +71,44 @@ fn tell_record(
     Ok(text.push_str(&told)?)
 }
 
-/// Tells the records that the pass has to read.
-fn tell_list<D: TapeDisk>(
-    alloc: Global,
-    lists: &mut SpillLists,
-    disk: &mut D,
-    bytes: &mut Vec<u8>,
-    text: &mut String,
-) -> Result<(), Fail>
-    requires alive { lists.old.tapes.is_dead ≡ false }
-    ensures alive { OnOk result (lists.new.tapes.is_dead ≡ false) }
-    ensures parts { lists.new.parts ≡ lists.old.parts }
-    ensures source { OnOk result (lists.new.source ≡ []) }
-    ensures todo { lists.new.todo ≡ lists.old.todo }
-{
-    while let Some((hash, tag)) = lists.next(disk, bytes)? {
-        tell_record(alloc, hash, tag, bytes, text)?;
+impl<D: TapeDisk + Drop> Spool<D> {
+    /// Tells the records that the pass has to read.
+    fn tell_list(&mut self, text: &mut String) -> Result<(), Fail>
+        requires alive { self.old.lists.tapes.is_dead ≡ false }
+        ensures alive { OnOk result (self.new.lists.tapes.is_dead ≡ false) }
+        ensures parts { self.new.lists.parts ≡ self.old.lists.parts }
+        ensures source { OnOk result (self.new.lists.source ≡ []) }
+        ensures todo { self.new.lists.todo ≡ self.old.lists.todo }
+    {
+        while let Some((hash, tag)) = self.lists.next(&mut self.disk, &mut self.bytes)? {
+            tell_record(self.alloc, hash, tag, &self.bytes, text)?;
+        }
+        Ok(())
     }
-    Ok(())
-}
 
-/// Tells the records of each list that was left, the last list first.
-fn tell_lists<D: TapeDisk>(
-    alloc: Global,
-    lists: &mut SpillLists,
-    disk: &mut D,
-    bytes: &mut Vec<u8>,
-    text: &mut String,
-) -> Result<(), Fail>
-    requires alive { lists.old.tapes.is_dead ≡ false }
-    requires parts { lists.old.parts ≡ [] }
-    requires source { lists.old.source ≡ [] }
-{
-    while lists.begin_pass(disk) {
-        text.push('[')?;
-        tell_list(alloc, lists, disk, bytes, text)?;
-        text.push_str(" ]")?;
+    /// Tells the records of each list that was left, the last list first.
+    fn tell_lists(&mut self, text: &mut String) -> Result<(), Fail>
+        requires alive { self.old.lists.tapes.is_dead ≡ false }
+        requires parts { self.old.lists.parts ≡ [] }
+        requires source { self.old.lists.source ≡ [] }
+    {
+        while self.lists.begin_pass(&self.disk) {
+            text.push('[')?;
+            self.tell_list(text)?;
+            text.push_str(" ]")?;
+        }
+        Ok(())
     }
-    Ok(())
-}
 
-/// Tells records once a pass has spilled them.
-fn tell_spilled<D: TapeDisk>(
-    alloc: Global,
-    lists: &mut SpillLists,
-    disk: &mut D,
-    records: &[(u32, u8, &[u8])],
-    text: &mut String,
-) -> Result<(), Fail>
-    requires alive { lists.old.tapes.is_dead ≡ false }
-    requires source { lists.old.source ≡ [] }
-{
-    spill_all(lists, disk, records)?;
-    lists.end_pass(disk)?;
-    let mut bytes = Vec::new(alloc);
-    let told = tell_lists(alloc, lists, disk, &mut bytes, text);
-    drop(bytes);
-    told
+    /// Tells records once a pass has spilled them.
+    fn tell_spilled(&mut self, records: &[(u32, u8, &[u8])], text: &mut String) -> Result<(), Fail>
+        requires alive { self.old.lists.tapes.is_dead ≡ false }
+        requires source { self.old.lists.source ≡ [] }
+    {
+        self.spill_all(records)?;
+        self.lists.end_pass(&mut self.disk)?;
+        self.tell_lists(text)
+    }
 }
 
 /// Tells how many writes there were.
@@ -123,13 +119,11 @@ fn tell_writes(alloc: Global, writes: u64, text: &mut String) -> Result<(), Fail
 
 /// What is told of records once a pass has spilled them, and how many writes there were.
 fn spilled(alloc: Global, records: &[(u32, u8, &[u8])]) -> Result<String, Fail> {
-    let mut disk = MemDisk::new(alloc);
-    let mut lists = SpillLists::new(alloc, &disk);
+    let mut spool = Spool::new(alloc, MemDisk::new(alloc));
     let mut text = String::new(alloc);
-    let told = tell_spilled(alloc, &mut lists, &mut disk, records, &mut text);
-    drop(lists);
-    let writes = disk.writes();
-    drop(disk);
+    let told = spool.tell_spilled(records, &mut text);
+    let writes = spool.disk.writes();
+    drop(spool);
     told?;
     tell_writes(alloc, writes, &mut text)?;
     Ok(text)
@@ -154,24 +148,24 @@ fn records_fall_on_lists_by_the_first_digit(rt: HostRuntime) -> Result<(), Fail>
     )
 }
 
-/// Whether there is no record, before one is spilled, behind it and behind the end of the pass.
-fn emptiness<D: TapeDisk>(lists: &mut SpillLists, disk: &mut D) -> Result<[bool; 3], Fail>
-    requires alive { lists.old.tapes.is_dead ≡ false }
-{
-    let before = lists.is_empty();
-    spill(lists, disk, 7, 0, b"")?;
-    let behind = lists.is_empty();
-    lists.end_pass(disk)?;
-    Ok([before, behind, lists.is_empty()])
+impl<D: TapeDisk + Drop> Spool<D> {
+    /// Whether there is no record, before one is spilled, behind it and behind the end of the pass.
+    fn emptiness(&mut self) -> Result<[bool; 3], Fail>
+        requires alive { self.old.lists.tapes.is_dead ≡ false }
+    {
+        let before = self.lists.is_empty();
+        self.spill(7, 0, b"")?;
+        let behind = self.lists.is_empty();
+        self.lists.end_pass(&mut self.disk)?;
+        Ok([before, behind, self.lists.is_empty()])
+    }
 }
 
 /// Whether new lists have no record, before one is spilled, behind it and behind the end of the pass.
 fn emptiness_in_memory(alloc: Global) -> Result<[bool; 3], Fail> {
-    let mut disk = MemDisk::new(alloc);
-    let mut lists = SpillLists::new(alloc, &disk);
-    let told = emptiness(&mut lists, &mut disk);
-    drop(lists);
-    drop(disk);
+    let mut spool = Spool::new(alloc, MemDisk::new(alloc));
+    let told = spool.emptiness();
+    drop(spool);
     told
 }
 
@@ -185,65 +179,64 @@ fn without_records_there_is_no_list(rt: HostRuntime) -> Result<(), Fail> {
 /// How often a record is spilled before it is told.
 const TIMES: u8 = 10;
 
-/// Spills a record again if it was not spilled so often, or else tells its number.
-fn spill_again<D: TapeDisk>(
-    lists: &mut SpillLists,
-    disk: &mut D,
-    hash: u32,
-    tag: u8,
-    bytes: &[u8],
-    numbers: &mut Vec<u8>,
-) -> Result<(), Fail>
-    requires alive { lists.old.tapes.is_dead ≡ false }
-    ensures alive { OnOk result (lists.new.tapes.is_dead ≡ false) }
-    ensures source { lists.new.source ≡ lists.old.source }
-{
-    let [times, number] = *bytes else {
-        return Err(Fail::from("no such record"));
-    };
-    if times < TIMES {
-        return spill(lists, disk, hash, tag, &[times + 1, number]);
-    }
-    Ok(numbers.push(number)?)
-}
-
-/// A pass that spills again what was not spilled so often, and tells the numbers of the other records.
-fn pass<D: TapeDisk>(
-    lists: &mut SpillLists,
-    disk: &mut D,
-    bytes: &mut Vec<u8>,
-    numbers: &mut Vec<u8>,
-) -> Result<(), Fail>
-    requires alive { lists.old.tapes.is_dead ≡ false }
-    ensures alive { OnOk result (lists.new.tapes.is_dead ≡ false) }
-    ensures parts { OnOk result (lists.new.parts ≡ []) }
-    ensures source { OnOk result (lists.new.source ≡ []) }
-{
-    while let Some((hash, tag)) = lists.next(disk, bytes)? {
-        spill_again(lists, disk, hash, tag, bytes, numbers)?;
-    }
-    lists.end_pass(disk)?;
-    Ok(())
-}
-
-/// The numbers of all records that were left, in the order in which passes tell them.
-fn passes<D: TapeDisk>(
-    lists: &mut SpillLists,
-    disk: &mut D,
-    bytes: &mut Vec<u8>,
-    numbers: &mut Vec<u8>,
-) -> Result<(), Fail>
-    requires alive { lists.old.tapes.is_dead ≡ false }
-    requires parts { lists.old.parts ≡ [] }
-    requires source { lists.old.source ≡ [] }
-{
-    for _pass in 0..1000 {
-        if !lists.begin_pass(disk) {
-            return Ok(());
+impl<D: TapeDisk + Drop> Spool<D> {
+    /// Spills the record that was read last again if it was not spilled so often, or else tells its number.
+    fn spill_again(&mut self, hash: u32, tag: u8, numbers: &mut Vec<u8>) -> Result<(), Fail>
+        requires alive { self.old.lists.tapes.is_dead ≡ false }
+        ensures alive { OnOk result (self.new.lists.tapes.is_dead ≡ false) }
+        ensures source { self.new.lists.source ≡ self.old.lists.source }
+    {
+        let [times, number] = *self.bytes else {
+            return Err(Fail::from("no such record"));
+        };
+        if times < TIMES {
+            return self.spill(hash, tag, &[times + 1, number]);
         }
-        pass(lists, disk, bytes, numbers)?;
+        Ok(numbers.push(number)?)
     }
-    Err(Fail::from("there is no last pass"))
+
+    /// A pass that spills again what was not spilled so often, and tells the numbers of the other records.
+    fn pass(&mut self, numbers: &mut Vec<u8>) -> Result<(), Fail>
+        requires alive { self.old.lists.tapes.is_dead ≡ false }
+        ensures alive { OnOk result (self.new.lists.tapes.is_dead ≡ false) }
+        ensures parts { OnOk result (self.new.lists.parts ≡ []) }
+        ensures source { OnOk result (self.new.lists.source ≡ []) }
+    {
+        while let Some((hash, tag)) = self.lists.next(&mut self.disk, &mut self.bytes)? {
+            self.spill_again(hash, tag, numbers)?;
+        }
+        self.lists.end_pass(&mut self.disk)?;
+        Ok(())
+    }
+
+    /// The numbers of all records that were left, in the order in which passes tell them.
+    fn passes(&mut self, numbers: &mut Vec<u8>) -> Result<(), Fail>
+        requires alive { self.old.lists.tapes.is_dead ≡ false }
+        requires parts { self.old.lists.parts ≡ [] }
+        requires source { self.old.lists.source ≡ [] }
+    {
+        for _pass in 0..1000 {
+            if !self.lists.begin_pass(&self.disk) {
+                return Ok(());
+            }
+            self.pass(numbers)?;
+        }
+        Err(Fail::from("there is no last pass"))
+    }
+
+    /// The numbers of records, in the order in which passes tell them.
+    fn tell_apart(
+        &mut self,
+        records: &[(u32, u8, &[u8])],
+        numbers: &mut Vec<u8>,
+    ) -> Result<(), Fail>
+        requires alive { self.old.lists.tapes.is_dead ≡ false }
+        requires source { self.old.lists.source ≡ [] }
+    {
+        self.spill_all(records)?;
+        self.lists.end_pass(&mut self.disk)?;
+        self.passes(numbers)
+    }
 }
 
 /// Hashes, and behind each its number and that the record was spilled once.
@@ -262,32 +255,12 @@ const HASHES: [(u32, u8, &[u8]); 12] = [
     (0x1234_5678, 1, &[1, 11]),
 ];
 
-/// The numbers of these records, in the order in which passes tell them.
-fn told_apart<D: TapeDisk>(
-    alloc: Global,
-    lists: &mut SpillLists,
-    disk: &mut D,
-    numbers: &mut Vec<u8>,
-) -> Result<(), Fail>
-    requires alive { lists.old.tapes.is_dead ≡ false }
-    requires source { lists.old.source ≡ [] }
-{
-    spill_all(lists, disk, &HASHES)?;
-    lists.end_pass(disk)?;
-    let mut bytes = Vec::new(alloc);
-    let told = passes(lists, disk, &mut bytes, numbers);
-    drop(bytes);
-    told
-}
-
 /// The numbers of these records over a disk in memory.
 fn told_apart_in_memory(alloc: Global) -> Result<Vec<u8>, Fail> {
-    let mut disk = MemDisk::new(alloc);
-    let mut lists = SpillLists::new(alloc, &disk);
+    let mut spool = Spool::new(alloc, MemDisk::new(alloc));
     let mut numbers = Vec::new(alloc);
-    let told = told_apart(alloc, &mut lists, &mut disk, &mut numbers);
-    drop(lists);
-    drop(disk);
+    let told = spool.tell_apart(&HASHES, &mut numbers);
+    drop(spool);
     told?;
     Ok(numbers)
 }
@@ -329,170 +302,129 @@ fn bytes_of(alloc: Global, number: u32) -> Result<Vec<u8>, Fail> {
     Ok(bytes)
 }
 
-/// Spills one of these records.
-fn spill_one<D: TapeDisk>(
-    alloc: Global,
-    lists: &mut SpillLists,
-    disk: &mut D,
-    number: u32,
-) -> Result<(), Fail>
-    requires alive { lists.old.tapes.is_dead ≡ false }
-    ensures alive { OnOk result (lists.new.tapes.is_dead ≡ false) }
-    ensures source { lists.new.source ≡ lists.old.source }
-{
-    let bytes = bytes_of(alloc, number)?;
-    let spilled = spill(lists, disk, hash_of(number), (number % 2) as u8, &bytes);
-    drop(bytes);
-    spilled
-}
-
-/// Spills these records.
-fn spill_many<D: TapeDisk>(alloc: Global, lists: &mut SpillLists, disk: &mut D) -> Result<(), Fail>
-    requires alive { lists.old.tapes.is_dead ≡ false }
-    ensures alive { OnOk result (lists.new.tapes.is_dead ≡ false) }
-    ensures source { lists.new.source ≡ lists.old.source }
-{
-    for number in 0..MANY {
-        spill_one(alloc, lists, disk, number)?;
-    }
-    Ok(())
-}
-
 /// Whether bytes are those of one of these records.
 fn is_record(alloc: Global, bytes: &[u8], number: u32) -> Result<bool, Fail> {
     let wanted = bytes_of(alloc, number)?;
     Ok(bytes == wanted.as_slice())
 }
 
-/// Whether the next record is one of these records.
-fn is_next<D: TapeDisk>(
-    alloc: Global,
-    lists: &mut SpillLists,
-    disk: &mut D,
-    bytes: &mut Vec<u8>,
-    number: u32,
-) -> Result<bool, Fail>
-    requires alive { lists.old.tapes.is_dead ≡ false }
-    ensures alive { OnOk result (lists.new.tapes.is_dead ≡ false) }
-    ensures parts { lists.new.parts ≡ lists.old.parts }
-{
-    let found = lists.next(disk, bytes)?;
-    let same = is_record(alloc, bytes, number)?;
-    Ok(same && found == Some((hash_of(number), (number % 2) as u8)))
-}
+impl<D: TapeDisk + Drop> Spool<D> {
+    /// Spills one of these records.
+    fn spill_one(&mut self, number: u32) -> Result<(), Fail>
+        requires alive { self.old.lists.tapes.is_dead ≡ false }
+        ensures alive { OnOk result (self.new.lists.tapes.is_dead ≡ false) }
+        ensures source { self.new.lists.source ≡ self.old.lists.source }
+    {
+        let bytes = bytes_of(self.alloc, number)?;
+        let spilled = self.spill(hash_of(number), (number % 2) as u8, &bytes);
+        drop(bytes);
+        spilled
+    }
 
-/// How many records of a list are not those of these records that have a digit.
-fn wrong_of_list<D: TapeDisk>(
-    alloc: Global,
-    lists: &mut SpillLists,
-    disk: &mut D,
-    bytes: &mut Vec<u8>,
-    is_second: bool,
-    digit: u32,
-) -> Result<u32, Fail>
-    requires alive { lists.old.tapes.is_dead ≡ false }
-    ensures alive { OnOk result (lists.new.tapes.is_dead ≡ false) }
-    ensures parts { lists.new.parts ≡ lists.old.parts }
-{
-    let mut wrong: u32 = 0;
-    for number in 0..MANY {
-        if digit_of(hash_of(number), is_second) == digit
-            && !is_next(alloc, lists, disk, bytes, number)?
-        {
-            wrong = wrong.saturating_add(1);
+    /// Spills these records.
+    fn spill_many(&mut self) -> Result<(), Fail>
+        requires alive { self.old.lists.tapes.is_dead ≡ false }
+        ensures alive { OnOk result (self.new.lists.tapes.is_dead ≡ false) }
+        ensures source { self.new.lists.source ≡ self.old.lists.source }
+    {
+        for number in 0..MANY {
+            self.spill_one(number)?;
+        }
+        Ok(())
+    }
+
+    /// Whether the next record is one of these records.
+    fn is_next(&mut self, number: u32) -> Result<bool, Fail>
+        requires alive { self.old.lists.tapes.is_dead ≡ false }
+        ensures alive { OnOk result (self.new.lists.tapes.is_dead ≡ false) }
+        ensures parts { self.new.lists.parts ≡ self.old.lists.parts }
+    {
+        let found = self.lists.next(&mut self.disk, &mut self.bytes)?;
+        let same = is_record(self.alloc, &self.bytes, number)?;
+        Ok(same && found == Some((hash_of(number), (number % 2) as u8)))
+    }
+
+    /// How many records of a list are not those of these records that have a digit.
+    fn wrong_of_list(&mut self, is_second: bool, digit: u32) -> Result<u32, Fail>
+        requires alive { self.old.lists.tapes.is_dead ≡ false }
+        ensures alive { OnOk result (self.new.lists.tapes.is_dead ≡ false) }
+        ensures parts { self.new.lists.parts ≡ self.old.lists.parts }
+    {
+        let mut wrong: u32 = 0;
+        for number in 0..MANY {
+            if digit_of(hash_of(number), is_second) == digit && !self.is_next(number)? {
+                wrong = wrong.saturating_add(1);
+            }
+        }
+        Ok(wrong)
+    }
+
+    /// Fails if the list has one more record.
+    fn end_list(&mut self) -> Result<(), Fail>
+        requires alive { self.old.lists.tapes.is_dead ≡ false }
+        ensures alive { OnOk result (self.new.lists.tapes.is_dead ≡ false) }
+        ensures parts { self.new.lists.parts ≡ self.old.lists.parts }
+        ensures source { OnOk result (self.new.lists.source ≡ []) }
+    {
+        match self.lists.next(&mut self.disk, &mut self.bytes)? {
+            None => Ok(()),
+            Some(_) => Err(Fail::from("there is one record too many")),
         }
     }
-    Ok(wrong)
-}
 
-/// Fails if the list has one more record.
-fn end_list<D: TapeDisk>(
-    lists: &mut SpillLists,
-    disk: &mut D,
-    bytes: &mut Vec<u8>,
-) -> Result<(), Fail>
-    requires alive { lists.old.tapes.is_dead ≡ false }
-    ensures alive { OnOk result (lists.new.tapes.is_dead ≡ false) }
-    ensures parts { lists.new.parts ≡ lists.old.parts }
-    ensures source { OnOk result (lists.new.source ≡ []) }
-{
-    match lists.next(disk, bytes)? {
-        None => Ok(()),
-        Some(_) => Err(Fail::from("there is one record too many")),
-    }
-}
-
-/// How many of these records come wrong from the lists that were left, by their first digit or by their second.
-fn wrong_of_lists<D: TapeDisk>(
-    alloc: Global,
-    lists: &mut SpillLists,
-    disk: &mut D,
-    bytes: &mut Vec<u8>,
-    is_second: bool,
-) -> Result<u32, Fail>
-    requires alive { lists.old.tapes.is_dead ≡ false }
-    requires parts { lists.old.parts ≡ [] }
-    requires source { lists.old.source ≡ [] }
-    ensures alive { OnOk result (lists.new.tapes.is_dead ≡ false) }
-    ensures source { OnOk result (lists.new.source ≡ []) }
-{
-    let mut wrong: u32 = 0;
-    for place in 0..16 {
-        if !lists.begin_pass(disk) {
-            return Err(Fail::from("a list is missing"));
+    /// How many of these records come wrong from the lists that were left, by their first digit or by their second.
+    fn wrong_of_lists(&mut self, is_second: bool) -> Result<u32, Fail>
+        requires alive { self.old.lists.tapes.is_dead ≡ false }
+        requires parts { self.old.lists.parts ≡ [] }
+        requires source { self.old.lists.source ≡ [] }
+        ensures alive { OnOk result (self.new.lists.tapes.is_dead ≡ false) }
+        ensures source { OnOk result (self.new.lists.source ≡ []) }
+    {
+        let mut wrong: u32 = 0;
+        for place in 0..16 {
+            if !self.lists.begin_pass(&self.disk) {
+                return Err(Fail::from("a list is missing"));
+            }
+            let more = self.wrong_of_list(is_second, 15 - place)?;
+            wrong = wrong.saturating_add(more);
+            self.end_list()?;
         }
-        let more = wrong_of_list(alloc, lists, disk, bytes, is_second, 15 - place)?;
-        wrong = wrong.saturating_add(more);
-        end_list(lists, disk, bytes)?;
+        Ok(wrong)
     }
-    Ok(wrong)
-}
 
-/// How many of these records come wrong from 16 lists, by their first digit or by their second.
-fn wrong_of_many<D: TapeDisk>(
-    alloc: Global,
-    lists: &mut SpillLists,
-    disk: &mut D,
-    is_second: bool,
-) -> Result<u32, Fail>
-    requires alive { lists.old.tapes.is_dead ≡ false }
-    requires source { lists.old.source ≡ [] }
-    ensures alive { OnOk result (lists.new.tapes.is_dead ≡ false) }
-    ensures source { OnOk result (lists.new.source ≡ []) }
-{
-    spill_many(alloc, lists, disk)?;
-    lists.end_pass(disk)?;
-    let mut bytes = Vec::new(alloc);
-    let wrong = wrong_of_lists(alloc, lists, disk, &mut bytes, is_second);
-    drop(bytes);
-    wrong
+    /// How many of these records come wrong from 16 lists, by their first digit or by their second.
+    fn wrong_of_many(&mut self, is_second: bool) -> Result<u32, Fail>
+        requires alive { self.old.lists.tapes.is_dead ≡ false }
+        requires source { self.old.lists.source ≡ [] }
+        ensures alive { OnOk result (self.new.lists.tapes.is_dead ≡ false) }
+        ensures source { OnOk result (self.new.lists.source ≡ []) }
+    {
+        self.spill_many()?;
+        self.lists.end_pass(&mut self.disk)?;
+        self.wrong_of_lists(is_second)
+    }
 }
 
 /// How many of these records come wrong, twice, and how far the disk was written each time.
-fn two_turns(
-    alloc: Global,
-    lists: &mut SpillLists,
-    disk: &mut Marks,
-) -> Result<([u32; 2], [u64; 2]), Fail>
-    requires alive { lists.old.tapes.is_dead ≡ false }
-    requires source { lists.old.source ≡ [] }
+fn two_turns(spool: &mut Spool<Marks>) -> Result<([u32; 2], [u64; 2]), Fail>
+    requires alive { spool.old.lists.tapes.is_dead ≡ false }
+    requires source { spool.old.lists.source ≡ [] }
 {
-    let first = wrong_of_many(alloc, lists, disk, false)?;
-    let end = disk.end;
-    let second = wrong_of_many(alloc, lists, disk, true)?;
-    Ok(([first, second], [end, disk.end]))
+    let first = spool.wrong_of_many(false)?;
+    let end = spool.disk.end;
+    let second = spool.wrong_of_many(true)?;
+    Ok(([first, second], [end, spool.disk.end]))
 }
 
 /// How many of these records come wrong of new lists, twice, and how far the disk was written each time.
 fn two_turns_of_new_lists(alloc: Global) -> Result<([u32; 2], [u64; 2]), Fail> {
-    let mut disk = Marks {
+    let disk = Marks {
         inner: MemDisk::new(alloc),
         end: 0,
     };
-    let mut lists = SpillLists::new(alloc, &disk);
-    let told = two_turns(alloc, &mut lists, &mut disk);
-    drop(lists);
-    drop(disk);
+    let mut spool = Spool::new(alloc, disk);
+    let told = two_turns(&mut spool);
+    drop(spool);
     told
 }
 
@@ -532,39 +464,36 @@ fn a_fault_of_a_full_page_is_told(rt: HostRuntime) -> Result<(), Fail> {
 
 type Found = Result<Option<(u32, u8)>, SpillError>;
 
-/// What becomes of the one record of a list that is read again.
-fn read_again<D: TapeDisk>(
-    lists: &mut SpillLists,
-    disk: &mut D,
-    bytes: &mut Vec<u8>,
-) -> Result<Found, Fail>
-    requires alive { lists.old.tapes.is_dead ≡ false }
-    requires source { lists.old.source ≡ [] }
-{
-    spill(lists, disk, 7, 0, b"ab")?;
-    lists.end_pass(disk)?;
-    if !lists.begin_pass(disk) {
-        return Err(Fail::from("there is no list"));
+impl<D: TapeDisk + Drop> Spool<D> {
+    /// What becomes of the one record of a list that is read again.
+    fn read_again(&mut self) -> Result<Found, Fail>
+        requires alive { self.old.lists.tapes.is_dead ≡ false }
+        requires source { self.old.lists.source ≡ [] }
+    {
+        self.spill(7, 0, b"ab")?;
+        self.lists.end_pass(&mut self.disk)?;
+        if !self.lists.begin_pass(&self.disk) {
+            return Err(Fail::from("there is no list"));
+        }
+        Ok(self.lists.next(&mut self.disk, &mut self.bytes))
     }
-    Ok(lists.next(disk, bytes))
 }
 
 /// What becomes of the one record of a list that is read again over a disk.
-fn read_over<D: TapeDisk>(alloc: Global, disk: &mut D) -> Result<Found, Fail> {
-    let mut lists = SpillLists::new(alloc, disk);
-    let mut bytes = Vec::new(alloc);
-    read_again(&mut lists, disk, &mut bytes)
+fn read_over<D: TapeDisk + Drop>(alloc: Global, disk: D) -> Result<Found, Fail> {
+    let mut spool = Spool::new(alloc, disk);
+    spool.read_again()
 }
 
 #[test]
 fn damage_is_told(rt: HostRuntime) -> Result<(), Fail> {
-    assert!(rt; read_over(rt.alloc(), &mut flipping(rt.alloc()))? == Err(SpillError::TapeDamaged));
+    assert!(rt; read_over(rt.alloc(), flipping(rt.alloc()))? == Err(SpillError::TapeDamaged));
     Ok(())
 }
 
 #[test]
 fn a_fault_of_reading_is_told(rt: HostRuntime) -> Result<(), Fail> {
-    assert!(rt; read_over(rt.alloc(), &mut failing(rt.alloc(), 1))? == Err(SpillError::TapeFault));
+    assert!(rt; read_over(rt.alloc(), failing(rt.alloc(), 1))? == Err(SpillError::TapeFault));
     Ok(())
 }
 

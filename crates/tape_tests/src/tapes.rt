@@ -2,8 +2,8 @@
 
 ghost use Rattle.std.specs.Prelude.{◌+◌, ◌<◌, ◌^◌};
 
-use crate::calls::{append, close, next, rewind};
-use spill_tapes::{DiskError, FlipDisk, MemDisk, TapeDisk, TapeError, TapeId, Tapes};
+use crate::calls::Deck;
+use spill_tapes::{DiskError, FlipDisk, MemDisk, TapeDisk, TapeError, TapeId};
 use std::alloc::{AllocError, Global};
 use std::test::Fail;
 use test_disks::{Marks, failing, flipping};
@@ -24,21 +24,6 @@ fn record_told(
     Ok(format!(in alloc; "{found:?} {text}, ")?)
 }
 
-/// Tells the next record of a tape.
-fn tell_next<D: TapeDisk>(
-    alloc: Global,
-    tapes: &mut Tapes,
-    disk: &mut D,
-    tape: TapeId,
-    text: &mut String,
-) -> Result<(), Fail> {
-    let mut bytes = Vec::new(alloc);
-    let found = next(tapes, disk, tape, &mut bytes);
-    let told = record_told(alloc, found, &bytes);
-    drop(bytes);
-    Ok(text.push_str(&told?)?)
-}
-
 /// Tells what became of a call.
 fn tell_outcome(
     alloc: Global,
@@ -49,148 +34,131 @@ fn tell_outcome(
     text.push_str(&told)
 }
 
-/// Tells whether one more tape can be opened, or why not.
-fn tell_opened<D: TapeDisk>(
-    alloc: Global,
-    tapes: &mut Tapes,
-    disk: &D,
-    text: &mut String,
-) -> Result<(), AllocError> {
-    let refused = tapes.open(disk).err();
-    let told = format!(in alloc; "{refused:?}")?;
-    text.push_str(&told)
-}
-
 /// Tells how many writes there were.
 fn tell_writes(alloc: Global, writes: u64, text: &mut String) -> Result<(), AllocError> {
     let told = format!(in alloc; ", {writes} written")?;
     text.push_str(&told)
 }
 
-/// Opens a tape and appends two records to it.
-fn append_two<D: TapeDisk>(tapes: &mut Tapes, disk: &mut D) -> Result<TapeId, TapeError> {
-    let tape = tapes.open(disk)?;
-    append(tapes, disk, tape, 7, 0, b"ab")?;
-    append(tapes, disk, tape, 9, 1, b"")?;
-    Ok(tape)
+impl<D: TapeDisk + Drop> Deck<D> {
+    /// Tells the next record of a tape.
+    fn tell_next(&mut self, tape: TapeId, text: &mut String) -> Result<(), Fail> {
+        let mut bytes = Vec::new(self.alloc);
+        let found = self.next(tape, &mut bytes);
+        let told = record_told(self.alloc, found, &bytes);
+        drop(bytes);
+        Ok(text.push_str(&told?)?)
+    }
+
+    /// Tells whether one more tape can be opened, or why not.
+    fn tell_opened(&mut self, text: &mut String) -> Result<(), AllocError> {
+        let refused = self.open().err();
+        let told = format!(in self.alloc; "{refused:?}")?;
+        text.push_str(&told)
+    }
+
+    /// Rewinds a tape, and tells what became of that.
+    fn tell_rewound(&mut self, tape: TapeId, text: &mut String) -> Result<(), AllocError> {
+        let rewound = self.rewind(tape);
+        tell_outcome(self.alloc, rewound, text)
+    }
+
+    /// Opens a tape and appends two records to it.
+    fn append_two(&mut self) -> Result<TapeId, TapeError> {
+        let tape = self.open()?;
+        self.append(tape, 7, 0, b"ab")?;
+        self.append(tape, 9, 1, b"")?;
+        Ok(tape)
+    }
+
+    /// Tells three records of a tape, or their absence, and closes it.
+    fn tell_three(&mut self, tape: TapeId, text: &mut String) -> Result<(), Fail> {
+        self.tell_next(tape, text)?;
+        self.tell_next(tape, text)?;
+        self.tell_next(tape, text)?;
+        self.close(tape);
+        Ok(())
+    }
+
+    /// Tells a tape with two records: its rewind and the calls after it.
+    fn two_records(&mut self, text: &mut String) -> Result<(), Fail> {
+        let tape = self.append_two()?;
+        self.tell_rewound(tape, text)?;
+        self.tell_three(tape, text)?;
+        Ok(self.tell_opened(text)?)
+    }
+
+    /// Tells a tape whose first record is longer than a page: its append and the calls after it.
+    fn long_record(&mut self, text: &mut String) -> Result<(), Fail> {
+        let tape = self.open()?;
+        let appended = self.append(tape, 7, 0, &[b'x'; 9000]);
+        tell_outcome(self.alloc, appended, text)?;
+        let again = self.append(tape, 7, 0, b"ab");
+        tell_outcome(self.alloc, again, text)?;
+        self.tell_rewound(tape, text)?;
+        Ok(self.tell_opened(text)?)
+    }
+
+    /// Tells a tape with one record, and what comes behind it.
+    fn one_record(&mut self, text: &mut String) -> Result<(), Fail> {
+        let tape = self.open()?;
+        self.append(tape, 7, 0, b"ab")?;
+        self.rewind(tape)?;
+        self.tell_next(tape, text)?;
+        self.tell_next(tape, text)?;
+        self.close(tape);
+        Ok(())
+    }
+
+    /// Tells a tape without a record.
+    fn no_record(&mut self, text: &mut String) -> Result<(), Fail> {
+        let tape = self.open()?;
+        self.rewind(tape)?;
+        self.tell_next(tape, text)?;
+        self.close(tape);
+        Ok(())
+    }
+
+    /// Tells what a case names: a tape of two records, of a long one, of one or of none.
+    pub(crate) fn tell_case(&mut self, case: &str, text: &mut String) -> Result<(), Fail> {
+        match case {
+            "two" => self.two_records(text),
+            "long" => self.long_record(text),
+            "one" => self.one_record(text),
+            _ => self.no_record(text),
+        }
+    }
 }
 
-/// Tells three records of a tape, or their absence, and closes it.
-fn tell_three<D: TapeDisk>(
+/// What is told of a case over a disk, and how many writes there were.
+fn told_over<D: TapeDisk + Drop, F: FnOnce(&D) -> u64>(
     alloc: Global,
-    tapes: &mut Tapes,
-    disk: &mut D,
-    tape: TapeId,
-    text: &mut String,
-) -> Result<(), Fail> {
-    tell_next(alloc, tapes, disk, tape, text)?;
-    tell_next(alloc, tapes, disk, tape, text)?;
-    tell_next(alloc, tapes, disk, tape, text)?;
-    close(tapes, disk, tape);
-    Ok(())
-}
-
-/// Tells a tape with two records: its rewind and the calls after it.
-fn two_records<D: TapeDisk>(
-    alloc: Global,
-    tapes: &mut Tapes,
-    disk: &mut D,
-    text: &mut String,
-) -> Result<(), Fail> {
-    let tape = append_two(tapes, disk)?;
-    let rewound = rewind(tapes, disk, tape);
-    tell_outcome(alloc, rewound, text)?;
-    tell_three(alloc, tapes, disk, tape, text)?;
-    Ok(tell_opened(alloc, tapes, disk, text)?)
-}
-
-/// Tells a tape whose first record is longer than a page: its append and the calls after it.
-fn long_record<D: TapeDisk>(
-    alloc: Global,
-    tapes: &mut Tapes,
-    disk: &mut D,
-    text: &mut String,
-) -> Result<(), Fail> {
-    let tape = tapes.open(disk)?;
-    let appended = append(tapes, disk, tape, 7, 0, &[b'x'; 9000]);
-    tell_outcome(alloc, appended, text)?;
-    let again = append(tapes, disk, tape, 7, 0, b"ab");
-    tell_outcome(alloc, again, text)?;
-    let rewound = rewind(tapes, disk, tape);
-    tell_outcome(alloc, rewound, text)?;
-    Ok(tell_opened(alloc, tapes, disk, text)?)
-}
-
-/// Tells a tape with one record, and what comes behind it.
-fn one_record<D: TapeDisk>(
-    alloc: Global,
-    tapes: &mut Tapes,
-    disk: &mut D,
-    text: &mut String,
-) -> Result<(), Fail> {
-    let tape = tapes.open(disk)?;
-    append(tapes, disk, tape, 7, 0, b"ab")?;
-    rewind(tapes, disk, tape)?;
-    tell_next(alloc, tapes, disk, tape, text)?;
-    tell_next(alloc, tapes, disk, tape, text)?;
-    close(tapes, disk, tape);
-    Ok(())
-}
-
-/// Tells a tape without a record.
-fn no_record<D: TapeDisk>(
-    alloc: Global,
-    tapes: &mut Tapes,
-    disk: &mut D,
-    text: &mut String,
-) -> Result<(), Fail> {
-    let tape = tapes.open(disk)?;
-    rewind(tapes, disk, tape)?;
-    tell_next(alloc, tapes, disk, tape, text)?;
-    close(tapes, disk, tape);
-    Ok(())
-}
-
-/// Tells what a case names of tapes over a disk: a tape of two records, of a long one, of one or of none.
-pub(crate) fn tell_case<D: TapeDisk>(
-    alloc: Global,
-    disk: &mut D,
+    disk: D,
     case: &str,
-    text: &mut String,
-) -> Result<(), Fail> {
-    let mut tapes = Tapes::new(alloc);
-    let told = match case {
-        "two" => two_records(alloc, &mut tapes, disk, text),
-        "long" => long_record(alloc, &mut tapes, disk, text),
-        "one" => one_record(alloc, &mut tapes, disk, text),
-        _ => no_record(alloc, &mut tapes, disk, text),
-    };
-    drop(tapes);
-    told
+    writes: F,
+) -> Result<String, Fail>
+    requires { F.IsAlwaysCallable writes }
+{
+    let mut deck = Deck::new(alloc, disk);
+    let mut text = String::new(alloc);
+    let told = deck.tell_case(case, &mut text);
+    let writes = writes(&deck.disk);
+    drop(deck);
+    told?;
+    tell_writes(alloc, writes, &mut text)?;
+    Ok(text)
 }
 
-/// Tells a case over a disk of which a call fails, and how many writes succeeded.
-fn tell_over_failing(alloc: Global, call: u64, case: &str, text: &mut String) -> Result<(), Fail> {
-    let mut disk = failing(alloc, call);
-    let told = tell_case(alloc, &mut disk, case, text);
-    let writes = disk.inner().writes();
-    drop(disk);
-    told?;
-    Ok(tell_writes(alloc, writes, text)?)
+/// The same over a disk of which a call fails.
+fn told_over_failing(alloc: Global, call: u64, case: &str) -> Result<String, Fail> {
+    told_over(alloc, failing(alloc, call), case, |disk| {
+        disk.inner().writes()
+    })
 }
 
-/// Tells a case over a disk that flips a bit, and how many writes there were.
-fn tell_over_flipping(
-    alloc: Global,
-    mut disk: FlipDisk<MemDisk>,
-    case: &str,
-    text: &mut String,
-) -> Result<(), Fail> {
-    let told = tell_case(alloc, &mut disk, case, text);
-    let writes = disk.inner().writes();
-    drop(disk);
-    told?;
-    Ok(tell_writes(alloc, writes, text)?)
+/// The same over a disk that flips a bit.
+fn told_over_flipping(alloc: Global, disk: FlipDisk<MemDisk>, case: &str) -> Result<String, Fail> {
+    told_over(alloc, disk, case, |disk| disk.inner().writes())
 }
 
 /// A disk by which the first record on each page, of two bytes, has none.
@@ -198,29 +166,17 @@ fn shortening(alloc: Global) -> FlipDisk<MemDisk> {
     FlipDisk::new(MemDisk::new(alloc), 8, 2)
 }
 
-/// Tells a case over a disk in memory, and how many writes there were.
-fn tell_over_memory(alloc: Global, case: &str, text: &mut String) -> Result<(), Fail> {
-    let mut disk = MemDisk::new(alloc);
-    let told = tell_case(alloc, &mut disk, case, text);
-    let writes = disk.writes();
-    drop(disk);
-    told?;
-    Ok(tell_writes(alloc, writes, text)?)
-}
-
 /// What is told of a case over a disk with a fault, or in memory where it has none: `FAULT CASE`.
 fn told(rt: HostRuntime, line: &str) -> Result<String, Fail> {
     let alloc = rt.alloc();
     let (fault, case) = halves(line, " ")?;
-    let mut text = String::new(alloc);
     match fault {
-        "none" => tell_over_memory(alloc, case, &mut text)?,
-        "write" => tell_over_failing(alloc, 0, case, &mut text)?,
-        "read" => tell_over_failing(alloc, 1, case, &mut text)?,
-        "shorter" => tell_over_flipping(alloc, shortening(alloc), case, &mut text)?,
-        _ => tell_over_flipping(alloc, flipping(alloc), case, &mut text)?,
+        "none" => told_over(alloc, MemDisk::new(alloc), case, |disk| disk.writes()),
+        "write" => told_over_failing(alloc, 0, case),
+        "read" => told_over_failing(alloc, 1, case),
+        "shorter" => told_over_flipping(alloc, shortening(alloc), case),
+        _ => told_over_flipping(alloc, flipping(alloc), case),
     }
-    Ok(text)
 }
 
 /// Records come in order. A fault of writing or of reading, and damage, kill the tapes, which then take no record; bytes behind
@@ -248,161 +204,113 @@ fn record(alloc: Global, tape: u32, number: u32) -> Result<Vec<u8>, AllocError> 
     Ok(bytes)
 }
 
-/// Opens tapes.
-fn open_all<D: TapeDisk>(
-    tapes: &mut Tapes,
-    disk: &D,
-    ids: &mut Vec<TapeId>,
-) -> Result<(), TapeError> {
-    for _ in 0..TAPES {
-        let id = tapes.open(disk)?;
-        ids.push(id).map_err(|_| TapeError::NoMemory)?;
-    }
-    Ok(())
-}
-
-/// Appends one of these records to a tape.
-fn append_one<D: TapeDisk>(
-    alloc: Global,
-    tapes: &mut Tapes,
-    disk: &mut D,
-    id: TapeId,
-    tape: u32,
-    number: u32,
-) -> Result<(), Fail> {
-    let bytes = record(alloc, tape, number)?;
-    let appended = append(tapes, disk, id, number, (number % 2) as u8, &bytes);
-    drop(bytes);
-    Ok(appended?)
-}
-
-/// Appends one record to each of some tapes.
-fn append_round<D: TapeDisk>(
-    alloc: Global,
-    tapes: &mut Tapes,
-    disk: &mut D,
-    ids: &[TapeId],
-    number: u32,
-) -> Result<(), Fail> {
-    let mut tape = 0;
-    for id in ids {
-        append_one(alloc, tapes, disk, *id, tape, number)?;
-        tape = tape.saturating_add(1);
-    }
-    Ok(())
-}
-
 /// Whether bytes are those of one of these records.
 fn is_record(alloc: Global, bytes: &[u8], tape: u32, number: u32) -> Result<bool, AllocError> {
     let wanted = record(alloc, tape, number)?;
     Ok(bytes == wanted.as_slice())
 }
 
-/// Whether the next record of a tape is the one that was appended.
-fn is_next<D: TapeDisk>(
-    alloc: Global,
-    tapes: &mut Tapes,
-    disk: &mut D,
-    id: TapeId,
-    tape: u32,
-    number: u32,
-) -> Result<bool, Fail> {
-    let mut bytes = Vec::new(alloc);
-    let found = next(tapes, disk, id, &mut bytes);
-    let same = is_record(alloc, &bytes, tape, number);
-    drop(bytes);
-    Ok(found? == Some((number, (number % 2) as u8)) && same?)
-}
-
-/// Reads one record of each of some tapes, and tells how many are not the ones that were appended.
-fn wrong_in_round<D: TapeDisk>(
-    alloc: Global,
-    tapes: &mut Tapes,
-    disk: &mut D,
-    ids: &[TapeId],
-    number: u32,
-) -> Result<u32, Fail> {
-    let mut tape = 0;
-    let mut wrong: u32 = 0;
-    for id in ids {
-        if !is_next(alloc, tapes, disk, *id, tape, number)? {
-            wrong = wrong.saturating_add(1);
+impl<D: TapeDisk + Drop> Deck<D> {
+    /// Opens tapes.
+    fn open_all(&mut self, ids: &mut Vec<TapeId>) -> Result<(), TapeError> {
+        for _ in 0..TAPES {
+            let id = self.open()?;
+            ids.push(id).map_err(|_| TapeError::NoMemory)?;
         }
-        tape = tape.saturating_add(1);
+        Ok(())
     }
-    Ok(wrong)
-}
 
-/// Appends the records of some tapes, and rewinds these.
-fn append_all<D: TapeDisk>(
-    alloc: Global,
-    tapes: &mut Tapes,
-    disk: &mut D,
-    ids: &[TapeId],
-) -> Result<(), Fail> {
-    for number in 0..RECORDS {
-        append_round(alloc, tapes, disk, ids, number)?;
+    /// Appends one of these records to a tape.
+    fn append_one(&mut self, id: TapeId, tape: u32, number: u32) -> Result<(), Fail> {
+        let bytes = record(self.alloc, tape, number)?;
+        let appended = self.append(id, number, (number % 2) as u8, &bytes);
+        drop(bytes);
+        Ok(appended?)
     }
-    for id in ids {
-        rewind(tapes, disk, *id)?;
-    }
-    Ok(())
-}
 
-/// Whether a tape has one more record.
-fn has_more<D: TapeDisk>(
-    alloc: Global,
-    tapes: &mut Tapes,
-    disk: &mut D,
-    id: TapeId,
-) -> Result<bool, TapeError> {
-    let mut bytes = Vec::new(alloc);
-    let found = next(tapes, disk, id, &mut bytes);
-    drop(bytes);
-    Ok(found?.is_some())
-}
-
-/// Closes tapes, and tells how many have one more record.
-fn close_all<D: TapeDisk>(
-    alloc: Global,
-    tapes: &mut Tapes,
-    disk: &mut D,
-    ids: &[TapeId],
-) -> Result<u32, TapeError> {
-    let mut more: u32 = 0;
-    for id in ids {
-        if has_more(alloc, tapes, disk, *id)? {
-            more = more.saturating_add(1);
+    /// Appends one record to each of some tapes.
+    fn append_round(&mut self, ids: &[TapeId], number: u32) -> Result<(), Fail> {
+        let mut tape = 0;
+        for id in ids {
+            self.append_one(*id, tape, number)?;
+            tape = tape.saturating_add(1);
         }
-        close(tapes, disk, *id);
+        Ok(())
     }
-    Ok(more)
-}
 
-/// How many records of some tapes come wrong.
-fn wrong_of_ids<D: TapeDisk>(
-    alloc: Global,
-    tapes: &mut Tapes,
-    disk: &mut D,
-    ids: &[TapeId],
-) -> Result<u32, Fail> {
-    append_all(alloc, tapes, disk, ids)?;
-    let mut wrong: u32 = 0;
-    for number in 0..RECORDS {
-        let more = wrong_in_round(alloc, tapes, disk, ids, number)?;
-        wrong = wrong.saturating_add(more);
+    /// Whether the next record of a tape is the one that was appended.
+    fn is_next(&mut self, id: TapeId, tape: u32, number: u32) -> Result<bool, Fail> {
+        let mut bytes = Vec::new(self.alloc);
+        let found = self.next(id, &mut bytes);
+        let same = is_record(self.alloc, &bytes, tape, number);
+        drop(bytes);
+        Ok(found? == Some((number, (number % 2) as u8)) && same?)
     }
-    let more = close_all(alloc, tapes, disk, ids)?;
-    Ok(wrong.saturating_add(more))
-}
 
-/// How many records of many tapes at once come wrong.
-fn wrong_of_many<D: TapeDisk>(alloc: Global, tapes: &mut Tapes, disk: &mut D) -> Result<u32, Fail> {
-    let mut ids = Vec::new(alloc);
-    open_all(tapes, disk, &mut ids)?;
-    let wrong = wrong_of_ids(alloc, tapes, disk, &ids);
-    drop(ids);
-    wrong
+    /// Reads one record of each of some tapes, and tells how many are not the ones that were appended.
+    fn wrong_in_round(&mut self, ids: &[TapeId], number: u32) -> Result<u32, Fail> {
+        let mut tape = 0;
+        let mut wrong: u32 = 0;
+        for id in ids {
+            if !self.is_next(*id, tape, number)? {
+                wrong = wrong.saturating_add(1);
+            }
+            tape = tape.saturating_add(1);
+        }
+        Ok(wrong)
+    }
+
+    /// Appends the records of some tapes, and rewinds these.
+    fn append_all(&mut self, ids: &[TapeId]) -> Result<(), Fail> {
+        for number in 0..RECORDS {
+            self.append_round(ids, number)?;
+        }
+        for id in ids {
+            self.rewind(*id)?;
+        }
+        Ok(())
+    }
+
+    /// Whether a tape has one more record.
+    fn has_more(&mut self, id: TapeId) -> Result<bool, TapeError> {
+        let mut bytes = Vec::new(self.alloc);
+        let found = self.next(id, &mut bytes);
+        drop(bytes);
+        Ok(found?.is_some())
+    }
+
+    /// Closes tapes, and tells how many have one more record.
+    fn close_all(&mut self, ids: &[TapeId]) -> Result<u32, TapeError> {
+        let mut more: u32 = 0;
+        for id in ids {
+            if self.has_more(*id)? {
+                more = more.saturating_add(1);
+            }
+            self.close(*id);
+        }
+        Ok(more)
+    }
+
+    /// How many records of some tapes come wrong.
+    fn wrong_of_ids(&mut self, ids: &[TapeId]) -> Result<u32, Fail> {
+        self.append_all(ids)?;
+        let mut wrong: u32 = 0;
+        for number in 0..RECORDS {
+            let more = self.wrong_in_round(ids, number)?;
+            wrong = wrong.saturating_add(more);
+        }
+        let more = self.close_all(ids)?;
+        Ok(wrong.saturating_add(more))
+    }
+
+    /// How many records of many tapes at once come wrong.
+    fn wrong_of_many(&mut self) -> Result<u32, Fail> {
+        let mut ids = Vec::new(self.alloc);
+        self.open_all(&mut ids)?;
+        let wrong = self.wrong_of_ids(&ids);
+        drop(ids);
+        wrong
+    }
 }
 
 /// How many pages many tapes have: each as many as its bytes fill, and one more if some are left.
@@ -420,12 +328,10 @@ fn pages_of_many() -> u64 {
 
 /// How many records of many tapes come wrong over a disk in memory, and how many writes there were.
 fn many_over_memory(alloc: Global) -> Result<(u32, u64), Fail> {
-    let mut disk = MemDisk::new(alloc);
-    let mut tapes = Tapes::new(alloc);
-    let wrong = wrong_of_many(alloc, &mut tapes, &mut disk);
-    let writes = disk.writes();
-    drop(tapes);
-    drop(disk);
+    let mut deck = Deck::new(alloc, MemDisk::new(alloc));
+    let wrong = deck.wrong_of_many();
+    let writes = deck.disk.writes();
+    drop(deck);
     Ok((wrong?, writes))
 }
 
@@ -436,38 +342,38 @@ fn many_tapes_at_once(rt: HostRuntime) -> Result<(), Fail> {
 }
 
 /// How many records of many tapes come wrong, and how far the disk was written.
-fn turn(alloc: Global, tapes: &mut Tapes, disk: &mut Marks) -> Result<(u32, u64), Fail> {
-    let wrong = wrong_of_many(alloc, tapes, disk)?;
-    Ok((wrong, disk.end))
+fn turn(deck: &mut Deck<Marks>) -> Result<(u32, u64), Fail> {
+    let wrong = deck.wrong_of_many()?;
+    Ok((wrong, deck.disk.end))
 }
 
 /// The outcomes of two turns, one after the other.
-fn two_turns(alloc: Global, tapes: &mut Tapes, disk: &mut Marks) -> Result<[(u32, u64); 2], Fail> {
-    let first = turn(alloc, tapes, disk)?;
-    let second = turn(alloc, tapes, disk)?;
+fn two_turns(deck: &mut Deck<Marks>) -> Result<[(u32, u64); 2], Fail> {
+    let first = turn(deck)?;
+    let second = turn(deck)?;
     Ok([first, second])
 }
 
 /// How far a disk is written by tapes that are closed, nine times: each has a record that is longer than a page.
-fn closed_tapes(alloc: Global, tapes: &mut Tapes, disk: &mut Marks) -> Result<u64, Fail> {
+fn closed_tapes(deck: &mut Deck<Marks>) -> Result<u64, Fail> {
     for _ in 0..9 {
-        let tape = tapes.open(disk)?;
-        append_one(alloc, tapes, disk, tape, 0, 119)?;
-        close(tapes, disk, tape);
+        let tape = deck.open()?;
+        deck.append_one(tape, 0, 119)?;
+        deck.close(tape);
     }
-    Ok(disk.end)
+    Ok(deck.disk.end)
 }
 
 /// What a function tells of new tapes over a disk that keeps how far it was written.
-fn over_marks<R, F: FnOnce(Global, &mut Tapes, &mut Marks) -> R>(alloc: Global, told: F) -> R
+fn over_marks<R, F: FnOnce(&mut Deck<Marks>) -> R>(alloc: Global, told: F) -> R
     requires { F.IsAlwaysCallable told }
 {
-    let mut disk = Marks {
+    let disk = Marks {
         inner: MemDisk::new(alloc),
         end: 0,
     };
-    let mut tapes = Tapes::new(alloc);
-    told(alloc, &mut tapes, &mut disk)
+    let mut deck = Deck::new(alloc, disk);
+    told(&mut deck)
 }
 
 #[test]
