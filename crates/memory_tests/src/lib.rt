@@ -2,12 +2,4 @@
 #![tactic(auto)]
 
 #[cfg(test)]
-mod blocks;
-#[cfg(test)]
-mod callers;
-#[cfg(test)]
-mod contexts;
-#[cfg(test)]
-mod footprint;
-#[cfg(test)]
-mod kinds;
+mod tests;

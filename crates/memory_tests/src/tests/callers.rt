@@ -1,7 +1,7 @@
 //! Callers that know a context by its trait alone: what they promise of it is proved by the trait's clauses.
 ghost use Rattle.std.specs.Prelude.{◌≡◌, true, IfOk, length, ◌≤◌, slice_index};
 
-use crate::kinds::{with_alloc_set, with_bump, with_generation, with_slab};
+use crate::tests::kinds::{with_alloc_set, with_bump, with_generation, with_slab};
 use chunk_contexts::{ChunkContext, ContextError};
 use std::test::Fail;
 

@@ -1,6 +1,6 @@
 //! What contexts hold and answer, by numbers from outside. Each function that takes a context knows it by its trait alone.
 
-use crate::kinds::{with_alloc_set, with_bump, with_generation, with_slab};
+use crate::tests::kinds::{with_alloc_set, with_bump, with_generation, with_slab};
 use chunk_contexts::{ChunkContext, ChunkName, ContextError};
 use std::test::Fail;
 

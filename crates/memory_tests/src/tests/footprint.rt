@@ -4,8 +4,8 @@
 //! given back looks the same as one that was not, so these tests say nothing; that the blocks of a process go back at all is then told by
 //! `blocks_are_given_back` alone, which takes more than a process can have.
 
-use crate::contexts::{reset, take_all};
-use crate::kinds::{with_alloc_set, with_bump, with_generation, with_slab};
+use crate::tests::contexts::{reset, take_all};
+use crate::tests::kinds::{with_alloc_set, with_bump, with_generation, with_slab};
 use chunk_contexts::{ChunkContext, ContextError};
 use std::fs;
 use std::test::Fail;

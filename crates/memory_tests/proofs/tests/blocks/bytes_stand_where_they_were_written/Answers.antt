@@ -3,7 +3,7 @@ use Rattle.std.specs.Prelude.{codes}
 use Rattle.block_memory.specs.Cells.{Cells, zeros}
 use Rattle.block_memory.specs.CellLaws.{length-zeros}
 use Rattle.block_memory.specs.Lemmas.CellLemmas.{written_by_write, written_kept, written_of_holds}
-use Rattle.memory_tests.proofs.blocks.bytes_stand_where_they_were_written.Goals as goal
+use Rattle.memory_tests.proofs.tests.blocks.bytes_stand_where_they_were_written.Goals as goal
 
 pub bytes-requires-3 : goal.bytes-requires-3
 bytes-requires-3 g c =

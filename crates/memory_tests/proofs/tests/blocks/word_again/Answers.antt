@@ -1,5 +1,5 @@
 use Rattle.block_memory.specs.Lemmas.CellLemmas.{holds_by_set_word, word_read_back, written_by_set_word}
-use Rattle.memory_tests.proofs.blocks.word_again.Goals as goal
+use Rattle.memory_tests.proofs.tests.blocks.word_again.Goals as goal
 
 pub word-requires : goal.word-requires
 word-requires c = rw c.set_word.ensures.written (written_by_set_word c.args.block.now c.args.at c.args.word c.requires)

@@ -1,7 +1,7 @@
 use Rattle.std.proofs.Common.{◌+◌, ◌≤◌, length, arith}
 use Rattle.block_memory.specs.Cells.{Cells}
 use Rattle.block_memory.specs.Lemmas.CellLemmas.{written_by_set_word}
-use Rattle.memory_tests.proofs.blocks.words_have_their_highest_byte_first.Goals as goal
+use Rattle.memory_tests.proofs.tests.blocks.words_have_their_highest_byte_first.Goals as goal
 
 pub bytes-requires : goal.bytes-requires
 bytes-requires g c =

@@ -2,7 +2,7 @@ use Rattle.std.proofs.Common.{◌≡◌, ◌+◌, ◌≤◌, ◌∷◌, [], ◌�
 use Rattle.std.specs.List.{splice}
 use Rattle.block_memory.specs.Cells.{Cells, Holds, with_bytes}
 use Rattle.block_memory.specs.Lemmas.CellLemmas.{holds_by_write, holds_over, holds_unique, length_over, written_by_write, written_of_holds, written_part}
-use Rattle.memory_tests.proofs.blocks.write_twice.Goals as goal
+use Rattle.memory_tests.proofs.tests.blocks.write_twice.Goals as goal
 
 set_one : (xs : List ℕ) (x : ℕ) → length xs ≡ 1 → take 1 (set xs 0 x) ≡ x ∷ []
 set_one [] x long = absurd (omega (arith, long))

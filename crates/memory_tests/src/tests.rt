@@ -1,0 +1,5 @@
+mod blocks;
+mod callers;
+mod contexts;
+mod footprint;
+mod kinds;
