@@ -4,16 +4,4 @@
 #![tactic(auto)]
 
 #[cfg(test)]
-mod aggregates;
-#[cfg(test)]
-mod files;
-#[cfg(test)]
-mod longest;
-#[cfg(test)]
-mod on_end;
-#[cfg(test)]
-mod rows;
-#[cfg(test)]
-mod schemas;
-#[cfg(test)]
-mod tokens;
+mod tests;

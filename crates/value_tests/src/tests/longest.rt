@@ -1,6 +1,6 @@
 //! A file of as many rows as a batch may have.
 
-use crate::files::read;
+use crate::tests::files::read;
 use std::test::*;
 
 /// A file of 1,048,576 rows.
