@@ -106,4 +106,4 @@ module _ {H : Type 0} (t : TableState H) where
 
 -- with an array there is nothing to ask of the space
 pub any_space : (P : Rattle.chunk_contexts.specs.Set.SetState → Type 0) (c : Context) (a : Option ChunkName) (name : ChunkName) → a ≡ Some name → IsSetWith P c → IsSetWith (HasSpace a) c
-any_space P c a name is with = let set = set_of P c with in set_with (HasSpace a) c set.set set.is (subst (λ x. HasSpace x set.set) (sym is) tt)
+any_space P c a name is with = let set = set_of P c with in set_with (HasSpace a) c set.state set.is (subst (λ x. HasSpace x set.state) (sym is) tt)

@@ -106,7 +106,7 @@ module _ {H : Type 0} (hash_of : H → List ℕ → ℕ) (t : TableState H) (nam
     -- the first array
     pub first_moved : t.array ≡ None → OnlyIn t.buckets tree tree → IsStanding hash_of moved tree
     first_moved array only =
-        let set = now None array in let s = set.set in
+        let set = now None array in let s = set.state in
         let beside = spare_at s set.is in
         let bytes : bytes_at tree t.buckets name ≡ bytes_of s.chunks name = ap (λ (c : Context). chunk_bytes c name) set.is in
         stands_moved tree only s set.is set.with.0 beside.0 beside.1 (live_at s set.is)
@@ -126,7 +126,7 @@ module _ {H : Type 0} (hash_of : H → List ℕ → ℕ) (t : TableState H) (nam
       set = now (Some old) array
 
       abbrev s : SetState
-      s = set.set
+      s = set.state
 
       was : IsArrayIn hash_of t keys s old
       was = set.with.1

@@ -112,7 +112,7 @@ module _ {H : Type 0} (hash_of : H → List ℕ → ℕ) (t : TableState H) (slo
       set = set_of P b (subst (λ a. IsSetWith (λ s. IsFirst s × HasArray hash_of t keys a s) b) array is.stands.set)
 
       abbrev s : SetState
-      s = set.set
+      s = set.state
 
       was : IsArrayIn hash_of t keys s name
       was = set.with.1

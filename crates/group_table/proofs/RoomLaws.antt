@@ -30,7 +30,7 @@ module _ {H : Type 0} (hash_of : H → List ℕ → ℕ) (t : TableState H) (tre
   first =
       let set = set_of (λ s. IsFirst s × HasArray hash_of t (context_at tree t.keys) t.array s) b is.standing.stands.set in
       let space = subst (IsSetWith (HasSpace None)) set.is (subst (λ a. IsSetWith (HasSpace a) b) emptied.array is.space) in
-      subst (λ (c : Context). held_by c + growth_of c 8192 ≤ 16384) (sym set.is) (omega (arith, first_grows set.set set.with.0 space))
+      subst (λ (c : Context). held_by c + growth_of c 8192 ≤ 16384) (sym set.is) (omega (arith, first_grows set.state set.with.0 space))
 
   pub all_growth : held_below tree t.parent + group_growth t tree n ≤ 32768
   all_growth = omega (arith, wanted, first, emptied.buckets, key_growth (context_at tree t.keys) n is.standing.stands.run short, state_growth (context_at tree t.states) t.width is.standing.stands.slab narrow)

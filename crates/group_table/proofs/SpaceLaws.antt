@@ -12,7 +12,7 @@ use Rattle.chunk_contexts.specs.Slab.{SlabState, slab_block, slab_growth, slab_t
 use Rattle.group_table.specs.declared.children.Children.{Children}
 use Rattle.group_table.proofs.BlockLaws.{same_or_twice, wanted_is, count_is, array_grows, space_held, still_held, first_taken, larger_taken}
 use Rattle.group_table.proofs.CountLaws.{key_grows, state_grows, state_growth_is, one_state_more}
-use Rattle.group_table.proofs.StandLaws.{SetOf, set_of, set_with}
+use Rattle.group_table.proofs.StandLaws.{StateOf, SetOf, set_of, set_with}
 use Rattle.group_table.proofs.InsertLaws.{keys_left, states_left}
 use Rattle.group_table.proofs.TakeLaws.{not_over}
 use Rattle.group_table.proofs.TreeFacts.{at_same, at_other, held_with}
@@ -22,22 +22,12 @@ use Rattle.std.proofs.lemmas.Bool.Decides.{nat_tests}
 use Rattle.std.proofs.lemmas.Grind.{common_steps}
 
 -- the run of a bump, and what a slab holds
-pub record RunOf (P : RunState → Type 0) (c : Context) : Type 0 where
-  pub run : RunState
-  pub is : c ≡ Bump run
-  pub with : P run
-
-pub run_of : (P : RunState → Type 0) (c : Context) → IsRunWith P c → RunOf P c
-run_of P (Bump s) with = record { run = s; is = refl; with = with }
+pub run_of : (P : RunState → Type 0) (c : Context) → IsRunWith P c → StateOf Bump P c
+run_of P (Bump s) with = record { state = s; is = refl; with = with }
 run_of P _ none = absurd none
 
-pub record SlabOf (P : SlabState → Type 0) (c : Context) : Type 0 where
-  pub slab : SlabState
-  pub is : c ≡ Slab slab
-  pub with : P slab
-
-pub slab_of : (P : SlabState → Type 0) (c : Context) → IsSlabWith P c → SlabOf P c
-slab_of P (Slab s) with = record { slab = s; is = refl; with = with }
+pub slab_of : (P : SlabState → Type 0) (c : Context) → IsSlabWith P c → StateOf Slab P c
+slab_of P (Slab s) with = record { state = s; is = refl; with = with }
 slab_of P _ none = absurd none
 
 -- no state takes no block
@@ -72,14 +62,14 @@ module _ {H : Type 0} (hash_of : H → List ℕ → ℕ) (t : TableState H) (tre
   set : SetOf P b
   set = set_of P b is.standing.stands.set
 
-  array_held : HoldsArray t.array n set.set
+  array_held : HoldsArray t.array n set.state
   array_held = subst (IsSetWith (HoldsArray t.array n)) set.is holds.in_buckets
 
-  has_space : HasSpace t.array set.set
+  has_space : HasSpace t.array set.state
   has_space = subst (IsSetWith (HasSpace t.array)) set.is is.space
 
   wanted : buckets_for (buckets_in t.array) n ≡ buckets (n + 1)
-  wanted = wanted_is t.array n set.set array_held
+  wanted = wanted_is t.array n set.state array_held
 
   module _ (key : Key) where
     abbrev keys : List Key
@@ -95,22 +85,22 @@ module _ {H : Type 0} (hash_of : H → List ℕ → ℕ) (t : TableState H) (tre
       buckets_grow : held_by b + array_growth t tree ≡ bucket_blocks (buckets n) (buckets (n + 1))
       buckets_grow =
           ap (λ (c : Context). held_by c + cond (buckets_for (buckets_in t.array) n == buckets_in t.array) 0 (growth_of c (buckets_for (buckets_in t.array) n * 32))) set.is
-          ∙ ap (λ w. total set.set.blocks + cond (w == buckets_in t.array) 0 (set_growth set.set (w * 32))) wanted
-          ∙ array_grows t.array n set.set set.with.0 has_space array_held (subst (λ w. w ≤ most_buckets) wanted few)
+          ∙ ap (λ w. total set.state.blocks + cond (w == buckets_in t.array) 0 (set_growth set.state (w * 32))) wanted
+          ∙ array_grows t.array n set.state set.with.0 has_space array_held (subst (λ w. w ≤ most_buckets) wanted few)
 
       keys_grow : held_by (context_at tree t.keys) + growth_of (context_at tree t.keys) (length key) ≡ key_blocks keys
       keys_grow =
           let run = run_of (HoldsKeyBlocks (keys_in t tree)) (context_at tree t.keys) holds.in_keys in
           ap (λ (c : Context). held_by c + growth_of c (length key)) run.is
-          ∙ key_grows run.run (keys_in t tree) key run.with (not_over (length key) (omega (arith, short)))
+          ∙ key_grows run.state (keys_in t tree) key run.with (not_over (length key) (omega (arith, short)))
 
       states_grow : held_by (context_at tree t.states) + growth_of (context_at tree t.states) t.width ≡ state_blocks t.width (n + 1)
       states_grow =
           let slab = slab_of (HoldsStates t.width n) (context_at tree t.states) holds.in_states in
           let free = subst IsCounted slab.is counted in
           ap (λ (c : Context). held_by c + growth_of c t.width) slab.is
-          ∙ ap (λ m. total slab.slab.blocks + m) (state_growth_is t.width n slab.slab slab.with free is.standing.stands.width)
-          ∙ state_grows t.width n slab.slab slab.with free
+          ∙ ap (λ m. total slab.state.blocks + m) (state_growth_is t.width n slab.state slab.with free is.standing.stands.width)
+          ∙ state_grows t.width n slab.state slab.with free
 
       pub need_is : held_below tree t.parent + group_growth t tree (length key) ≡ need t.width keys
       need_is =
@@ -132,7 +122,7 @@ module _ {H : Type 0} (hash_of : H → List ℕ → ℕ) (t : TableState H) (tre
   state_blocks_held : held_by (context_at tree t.states) ≡ state_blocks t.width n
   state_blocks_held = let slab = slab_of (HoldsStates t.width n) (context_at tree t.states) holds.in_states in ap held_by slab.is ∙ slab.with.held
 
-  some_held_by : (array : Option ChunkName) → 0 < n → HoldsArray array n set.set → total set.set.blocks ≡ bucket_blocks (buckets n) (buckets n)
+  some_held_by : (array : Option ChunkName) → 0 < n → HoldsArray array n set.state → total set.state.blocks ≡ bucket_blocks (buckets n) (buckets n)
   some_held_by None some held = absurd (omega (arith, some, held))
   some_held_by (Some name) some held = held.held
 
@@ -143,8 +133,8 @@ module _ {H : Type 0} (hash_of : H → List ℕ → ℕ) (t : TableState H) (tre
       ap (λ m. bucket_blocks (buckets m) (buckets m) + key_blocks (keys_in t tree) + state_blocks t.width m) (as_many_keys t tree) in
       omega (arith, holds.alone, array, key_blocks_held, state_blocks_held, counts)
 
-  none_held_by : (array : Option ChunkName) → n ≡ 0 → HoldsArray array n set.set → HasSpace array set.set → total set.set.blocks ≤ 16384
-  none_held_by None none held space = space_held set.set space
+  none_held_by : (array : Option ChunkName) → n ≡ 0 → HoldsArray array n set.state → HasSpace array set.state → total set.state.blocks ≤ 16384
+  none_held_by None none held space = space_held set.state space
   none_held_by (Some name) none held space = absurd (omega (arith, none, held.some))
 
   no_keys : (ks : List Key) → length ks ≡ 0 → key_blocks ks ≡ 0
@@ -184,15 +174,15 @@ slab_more c now width state name is more long low counted number holds =
     let slab = slab_of (HoldsStates width number) c holds in
     let free = subst IsCounted slab.is counted in
     let p : Piece = as_chunk name (rounded (length state)) state in
-    let taken : now ≡ Slab (slab_taken slab.slab p) = is ∙ ap (λ (x : Context). with_chunk x (length state) (as_chunk name (room_in x (length state)) state)) slab.is in
-    let grown : held_by now ≡ total slab.slab.blocks + slab_growth slab.slab width =
-    more ∙ ap (λ (x : Context). held_by x + growth_of x (length state)) slab.is ∙ ap (λ n. total slab.slab.blocks + slab_growth slab.slab n) long in
+    let taken : now ≡ Slab (slab_taken slab.state p) = is ∙ ap (λ (x : Context). with_chunk x (length state) (as_chunk name (room_in x (length state)) state)) slab.is in
+    let grown : held_by now ≡ total slab.state.blocks + slab_growth slab.state width =
+    more ∙ ap (λ (x : Context). held_by x + growth_of x (length state)) slab.is ∙ ap (λ n. total slab.state.blocks + slab_growth slab.state n) long in
     subst (IsSlabWith (HoldsStates width (number + 1))) (sym taken)
-    (one_state_more width number slab.slab slab.with free p (sym (ap held_by taken) ∙ grown ∙ ap (λ n. total slab.slab.blocks + n) (state_growth_is width number slab.slab slab.with free low)))
+    (one_state_more width number slab.state slab.with free p (sym (ap held_by taken) ∙ grown ∙ ap (λ n. total slab.state.blocks + n) (state_growth_is width number slab.state slab.with free low)))
 
 -- ---- a chunk is taken for the next array
 pub set_map : (P Q : SetState → Type 0) (c : Context) → ((s : SetState) → P s → Q s) → IsSetWith P c → IsSetWith Q c
-set_map P Q c f holds = let set = set_of P c holds in set_with Q c set.set set.is (f set.set set.with)
+set_map P Q c f holds = let set = set_of P c holds in set_with Q c set.state set.is (f set.state set.with)
 
 module _ {H : Type 0} (hash_of : H → List ℕ → ℕ) (t : TableState H) (tree : TreeState) (is : IsTableIn hash_of t tree) where
   abbrev w : ℕ
@@ -214,7 +204,7 @@ module _ {H : Type 0} (hash_of : H → List ℕ → ℕ) (t : TableState H) (tre
     old = set_of (λ s. IsFirst s × HasArray hash_of t (context_at tree t.keys) t.array s) before is.standing.stands.set
 
     abbrev s : SetState
-    s = old.set
+    s = old.state
 
     abbrev k : ℕ
     k = length t.slots

@@ -6,14 +6,17 @@ use Rattle.chunk_contexts.specs.Chunks.{chunk_of}
 use Rattle.std.proofs.lemmas.Bool.Decides.{nat_tests}
 use Rattle.std.proofs.lemmas.Grind.{common_steps}
 
--- the set of a context that is one
-pub record SetOf (P : SetState → Type 0) (c : Context) : Type 0 where
-  pub set : SetState
-  pub is : c ≡ AllocSet set
-  pub with : P set
+-- the state of a context of a kind
+pub record StateOf {S : Type 0} (kind : S → Context) (P : S → Type 0) (c : Context) : Type 0 where
+  pub state : S
+  pub is : c ≡ kind state
+  pub with : P state
+
+abbrev pub SetOf : (SetState → Type 0) → Context → Type 0
+SetOf P c = StateOf AllocSet P c
 
 pub set_of : (P : SetState → Type 0) (c : Context) → IsSetWith P c → SetOf P c
-set_of P (AllocSet s) with = record { set = s; is = refl; with = with }
+set_of P (AllocSet s) with = record { state = s; is = refl; with = with }
 set_of P _ none = absurd none
 
 pub set_with : (P : SetState → Type 0) (c : Context) (s : SetState) → c ≡ AllocSet s → P s → IsSetWith P c

@@ -86,7 +86,7 @@ module _ {H : Type 0} (hash_of : H → List ℕ → ℕ) (t : TableState H) (tre
     now = set_of P b is.standing.stands.set
 
     abbrev s : SetState
-    s = now.set
+    s = now.state
 
     abbrev taken : SetState
     taken = set_taken s n (chunk_of name (set_room n) (zeros n))

@@ -1,8 +1,7 @@
 -- The words that the proofs cite, of this crate and of those below, in one place to import them from.
 pub use Rattle.aggregation_cost.specs.Space.{Blocks, Key, array_block, bucket_blocks, buckets, fits, grown, held_after, key_blocks, key_room, need, quotient_up, state_blocks}
 pub use Rattle.chunk_contexts.specs.Chunks.{Keeps, bytes_of, is_live}
-unfoldable pub use Rattle.chunk_contexts.specs.Rooms.{room_of}
-unfoldable pub use Rattle.chunk_contexts.specs.Rooms.{class_of, rooms}
+unfoldable pub use Rattle.chunk_contexts.specs.Rooms.{class_of, room_of, rooms}
 pub use Rattle.chunk_contexts.specs.Rooms.{over_most, rounded}
 pub use Rattle.chunk_contexts.specs.Set.{SetState, dedicated, growth_by, new_set, set_freed, set_growth, set_reset, set_room, set_taken, set_wrote, taken_by}
 pub use Rattle.chunk_contexts.specs.declared.rooms.TheConstants.{LARGEST, MOST}
