@@ -1,11 +1,10 @@
-use Rattle.std.specs.Prelude.{◌+◌, ◌∷◌, ◌++◌, [], List, length, drop, slice_range}
-use Rattle.std.proofs.Common.{sym, ◌∙◌, ap, subst, arith, append-nil}
-use Rattle.std.proofs.lemmas.List.{length-append}
-use Rattle.group_runs.proofs.MergedLaws.{Merged, merged_there, merged_new}
+use Rattle.std.specs.Prelude.{◌+◌, ◌∷◌, ◌++◌, [], List, drop, slice_range}
+use Rattle.std.proofs.Common.{sym, ◌∙◌, ap, subst, arith}
+use Rattle.group_runs.proofs.MergedLaws.{Merged, long_there, merged_there, pushed_rises, merged_new}
 use Rattle.group_runs.proofs.Words.{Query, meaning, Entry, Rises, HasRoomForGroup}
 use Rattle.grouping_model.specs.MemberLaws.{false_is_not_true}
 use Rattle.group_runs.proofs.RunLaws.{run_front_rises}
-use Rattle.group_runs.specs.Lemmas.PlaceLaws.{Moves, Passes, rises_between}
+use Rattle.group_runs.specs.Lemmas.PlaceLaws.{Moves, Passes}
 use Rattle.group_runs.proofs.PlaceLaws.{moves, passes, some_moved}
 use Rattle.group_runs.proofs.SpliceLaws.{present_room}
 use Rattle.group_runs.proofs.chunk.Chunk.merge_group.Goals.{Then-has_at, Else-has_at}
@@ -39,31 +38,25 @@ push_range-requires-clause-rises c =
 
 pub overflow_sub-len : goal.overflow_sub-len
 overflow_sub-len c =
-    let done : List Entry = c.args.self.now in
-    let old : List Entry = c.args.old.now in
-    let place = c.seek-place.result in
-    let key = c.args.key.now in
     let here = at_key (goal.at.overflow_sub-len c).Then-has_at in
-    let long = c.len.ensures.length ∙ ap length (c.in_ok-push_range.ensures.pushed ∙ here.front) ∙ length-append (done ++ slice_range old c.args.from place) ((key, here.states) ∷ []) in
+    let long = long_there c.args.self.now c.args.old.now c.args.from c.seek-place.result c.args.key.now c.push_range.new.self c.len.result here c.in_ok-push_range.ensures.pushed c.len.ensures.length in
     omega (arith, long)
 
 pub combine_at-requires : goal.combine_at-requires
 combine_at-requires c =
     let q : Query = meaning c.args.query.now in
-    let done : List Entry = c.args.self.now in
     let old : List Entry = c.args.old.now in
     let place = c.seek-place.result in
-    let key = c.args.key.now in
     let here = at_key (goal.at.combine_at-requires c).Then-has_at in
-    let front : List Entry = done ++ slice_range old c.args.from place in
-    let long = c.len.ensures.length ∙ ap length (c.in_ok-push_range.ensures.pushed ∙ here.front) ∙ length-append front ((key, here.states) ∷ []) in
+    let front : List Entry = c.args.self.now ++ slice_range old c.args.from place in
+    let long = long_there c.args.self.now old c.args.from place c.args.key.now c.push_range.new.self c.len.result here c.in_ok-push_range.ensures.pushed c.len.ensures.length in
     record {
       front = front;
-      entry = (key, here.states);
+      entry = (c.args.key.now, here.states);
       back = [];
       is = c.in_ok-push_range.ensures.pushed ∙ here.front;
       long = omega (arith, long);
-      room = present_room q key here.states c.args.states.now front (drop (place + 1) old) here.below (subst (λ run. HasRoomForGroup q run (key, c.args.states.now)) here.whole c.requires.room);
+      room = present_room q c.args.key.now here.states c.args.states.now front (drop (place + 1) old) here.below (subst (λ run. HasRoomForGroup q run (c.args.key.now, c.args.states.now)) here.whole c.requires.room);
     }
 
 pub overflow_add-result : goal.overflow_add-result
@@ -82,12 +75,10 @@ there c =
     let done : List Entry = c.args.self.now in
     let old : List Entry = c.args.old.now in
     let place = c.seek-place.result in
-    let key = c.args.key.now in
     let here = at_key (goal.at.returns-then-has_at-clause-rises c).Then-has_at in
-    let front : List Entry = done ++ slice_range old c.args.from place in
-    let long = c.len.ensures.length ∙ ap length (c.in_ok-push_range.ensures.pushed ∙ here.front) ∙ length-append front ((key, here.states) ∷ []) in
-    let given = c.combine_at.ensures front (key, here.states) [] (c.in_ok-push_range.ensures.pushed ∙ here.front) (omega (arith, long)) in
-    merged_there (meaning c.args.query.now) done old c.args.from place key c.args.states.now given.0 c.combine_at.new.self here c.requires.rises given.1 given.2
+    let long = long_there done old c.args.from place c.args.key.now c.push_range.new.self c.len.result here c.in_ok-push_range.ensures.pushed c.len.ensures.length in
+    let given = c.combine_at.ensures (done ++ slice_range old c.args.from place) (c.args.key.now, here.states) [] (c.in_ok-push_range.ensures.pushed ∙ here.front) (omega (arith, long)) in
+    merged_there (meaning c.args.query.now) done old c.args.from place c.args.key.now c.args.states.now given.0 c.combine_at.new.self here c.requires.rises given.1 given.2
 
 pub returns-then-has_at-clause-rises : goal.returns-then-has_at-clause-rises
 returns-then-has_at-clause-rises c = (there c).rises
@@ -106,27 +97,13 @@ push_range-requires-2-clause-rises c =
     run_front_rises (done ++ slice_range old c.args.from place) (drop place old) (subst Rises (some_moved done old c.args.from place c.seek-place.ensures.place.behind) c.requires.rises)
 
 pub push-requires : goal.push-requires
-push-requires c =
-    let done : List Entry = c.args.self.now in
-    let old : List Entry = c.args.old.now in
-    let place = c.seek-place.result in
-    let key = c.args.key.now in
-    let here = past_key (goal.at.push-requires c).Else-has_at in
-    let front : List Entry = done ++ slice_range old c.args.from place in
-    let rises : Rises front = run_front_rises front (drop place old) (subst Rises here.whole c.requires.rises) in
-    subst (λ run. Rises (run ++ (key, c.args.states.now) ∷ [])) (sym c.in_ok-push_range-2.ensures.pushed)
-    (rises_between front [] key c.args.states.now (subst Rises (sym (append-nil front)) rises) here.below tt)
+push-requires c = pushed_rises _ _ _ _ _ _ _ (past_key (goal.at.push-requires c).Else-has_at) c.requires.rises c.in_ok-push_range-2.ensures.pushed
 
 -- there was none
 new : (c : goal.In_ok-push) → Merged (meaning c.args.query.now) (c.args.self.now ++ drop c.args.from c.args.old.now) c.args.key.now c.args.states.now c.push.new.self (drop c.seek-place.result c.args.old.now)
 new c =
-    let done : List Entry = c.args.self.now in
-    let old : List Entry = c.args.old.now in
-    let place = c.seek-place.result in
-    let key = c.args.key.now in
-    let here = past_key (goal.at.returns-clause-rises c).Else-has_at in
-    merged_new (meaning c.args.query.now) done old c.args.from place key c.args.states.now c.push.new.self here c.requires.rises
-    (c.in_ok-push.ensures.pushed ∙ ap (λ run. run ++ (key, c.args.states.now) ∷ []) c.in_ok-push_range-2.ensures.pushed)
+    merged_new (meaning c.args.query.now) c.args.self.now c.args.old.now c.args.from c.seek-place.result c.args.key.now c.args.states.now c.push.new.self (past_key (goal.at.returns-clause-rises c).Else-has_at) c.requires.rises
+    (c.in_ok-push.ensures.pushed ∙ ap (λ run. run ++ (c.args.key.now, c.args.states.now) ∷ []) c.in_ok-push_range-2.ensures.pushed)
 
 pub returns-clause-rises : goal.returns-clause-rises
 returns-clause-rises c = (new c).rises

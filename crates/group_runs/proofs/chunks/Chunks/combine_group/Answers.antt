@@ -31,46 +31,28 @@ combine_at-requires c =
           (subst (λ run. HasRoomForGroup q run (c.args.key.now, c.args.states.now)) here.is c.requires.room);
     }
 
-pub returns-clause-added : goal.returns-clause-added
-returns-clause-added c =
-    let q : Query = meaning c.args.query.now in
-    let run : List Entry = (on_end c.args.self.now) in
-    let place = c.seek-place.result in
-    let here = stands (goal.at.returns-clause-added c).After-seek-place in
-    let given = c.combine_at.ensures (take place run) (c.args.key.now, here.states) (drop (place + 1) run) here.is here.long in
-    subst (AddsGroup q run (c.args.key.now, c.args.states.now)) (sym given.1)
-    (subst (λ run. AddsGroup q run (c.args.key.now, c.args.states.now) (take place (on_end c.args.self.now) ++ (c.args.key.now, given.0) ∷ drop (place + 1) (on_end c.args.self.now))) (sym here.is)
-    (present_added q c.args.key.now here.states c.args.states.now given.0 (take place run) (drop (place + 1) run) (below_front run c.args.from c.args.key.now place c.requires.below c.seek-place.ensures.place) given.2))
-
-pub returns-clause-keys : goal.returns-clause-keys
-returns-clause-keys c =
-    let run : List Entry = (on_end c.args.self.now) in
-    let place = c.seek-place.result in
-    let here = stands (goal.at.returns-clause-keys c).After-seek-place in
-    let given = c.combine_at.ensures (take place run) (c.args.key.now, here.states) (drop (place + 1) run) here.is here.long in
-    ap packed_keys given.1 ∙ same_keys (take place run) c.args.key.now given.0 here.states (drop (place + 1) run) ∙ ap packed_keys (sym here.is)
-
 pub overflow_add-result : goal.overflow_add-result
 overflow_add-result c =
     let here = stands (goal.at.overflow_add-result c).After-seek-place in
     omega (arith, here.low, c.seek-place.ensures.few)
 
-pub returns-clause-within : goal.returns-clause-within
-returns-clause-within c =
-    let run : List Entry = (on_end c.args.self.now) in
-    let place = c.seek-place.result in
-    let here = stands (goal.at.returns-clause-within c).After-seek-place in
-    let given = c.combine_at.ensures (take place run) (c.args.key.now, here.states) (drop (place + 1) run) here.is here.long in
-    let all = ap length given.1 ∙ length-append (take place run) ((c.args.key.now, given.0) ∷ drop (place + 1) run) in
-    let long = here.long in
-    omega (arith, all, long)
-
-pub returns-clause-up_to : goal.returns-clause-up_to
-returns-clause-up_to c =
+pub returns : goal.returns
+returns c =
+    let q : Query = meaning c.args.query.now in
     let run : List Entry = (on_end c.args.self.now) in
     let place = c.seek-place.result in
     let key = c.args.key.now in
-    let here = stands (goal.at.returns-clause-up_to c).After-seek-place in
-    let given = c.combine_at.ensures (take place run) (key, here.states) (drop (place + 1) run) here.is here.long in
-    subst (λ new. AreUpTo key (take (place + 1) new)) (sym given.1)
-    (up_to_here (take place run) (drop (place + 1) run) key given.0 place here.long (below_front run c.args.from key place c.requires.below c.seek-place.ensures.place))
+    let here = stands (goal.at.returns c).After-seek-place in
+    let front : List Entry = take place run in
+    let back : List Entry = drop (place + 1) run in
+    let below = below_front run c.args.from key place c.requires.below c.seek-place.ensures.place in
+    let given = c.combine_at.ensures front (key, here.states) back here.is here.long in
+    let all = ap length given.1 ∙ length-append front ((key, given.0) ∷ back) in
+    let long = here.long in
+    record {
+      added = subst (AddsGroup q run (key, c.args.states.now)) (sym given.1)
+          (subst (λ run. AddsGroup q run (key, c.args.states.now) (front ++ (key, given.0) ∷ back)) (sym here.is) (present_added q key here.states c.args.states.now given.0 front back below given.2));
+      keys = ap packed_keys given.1 ∙ same_keys front key given.0 here.states back ∙ ap packed_keys (sym here.is);
+      within = omega (arith, all, long);
+      up_to = subst (λ new. AreUpTo key (take (place + 1) new)) (sym given.1) (up_to_here front back key given.0 place here.long below);
+    }
