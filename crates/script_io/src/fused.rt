@@ -16,7 +16,7 @@ pub struct Fused<S> {
     fault: Option<io::Error>,
 }
 
-impl<S: Drop> Fused<S> {
+impl<S> Fused<S> {
     ghost use Rattle.script_io.specs.Fused.{behind, fault_of};
 
     /// A stream of which no call has failed yet.
