@@ -3,15 +3,16 @@ use Rattle.std.specs.Prelude.{◌≡◌, ◌≢◌, refl, ℕ, ◌+◌, ◌≤�
 use Rattle.std.specs.declared.result.Result.{Result}
 use Rattle.std.proofs.Common.{sym, ◌∙◌, ap, subst, arith}
 use Rattle.std.proofs.lemmas.List.Sums.{sum_by-cons}
-use Rattle.std.proofs.lemmas.Result.{err_from_is_err_and}
-use Rattle.hash_agg.proofs.Words.{Leaves, Query, Group, functions, Record, Ghosts, ListsState, KeepsRest, Spilled, spill_faults, TapeDamaged, TapeFault, Names, HasNo, state_in, Slot, Entry, packed_keys, is_empty, fits, AreStates, StandsFor, AreWithin, Piece, Of_row, Of_group, AreOnce, AreSafe, GroupsState, IsPiece, IsSameTable, Proceeds, WritesAt, WritesPages, Brings, CanRead, entries_of, standing, setting_of, weight, brings, brought_by, Source, Entries, Are, Added, AddedBy, AddedOne, Adds, HasRoom, IsReady, KeepsLater, KeepsPass, Refused, RefusedBy, enters, query_of, Pass, Plan}
+use Rattle.std.proofs.lemmas.Result.{err_from_is_err_and, on_ok_weaker, IfErr-weaker}
+use Rattle.hash_agg.proofs.Words.{Leaves, Query, Group, Partial, functions, Record, Ghosts, ListsState, KeepsRest, Spilled, spill_faults, TapeDamaged, TapeFault, Names, HasNo, state_in, Slot, Entry, packed_keys, is_empty, fits, AreStates, StandsFor, AreWithin, Piece, Of_row, Of_group, AreOnce, AreSafe, GroupsState, IsPiece, IsSameTable, Proceeds, WritesAt, WritesPages, Brings, CanRead, entries_of, standing, setting_of, weight, brings, brought_by, Source, Entries, Are, Added, AddedBy, AddedOne, Adds, HasRoom, IsReady, KeepsLater, KeepsPass, Refused, RefusedBy, enters, query_of, Pass, Plan}
 use Rattle.tape_disks.specs.DiskLaws.{leaves_none}
+use Rattle.hash_agg.specs.Added.{AddedGenuine, IsGenuine}
 use Rattle.spill_lists.specs.declared.error.SpillError.{SpillError}
 use Rattle.hash_agg.proofs.DiskLaws.{left_out, leaves_still}
 use Rattle.hash_agg.proofs.NeedLaws.{first_fits}
 use Rattle.hash_agg.proofs.PassLaws.{IsKept, after}
 use Rattle.hash_agg.proofs.ReturnLaws.{same_table, same_table_twice, same_rest, keeps_rest_twice, moved_table, moved_proceeds, spilled_proceeds}
-use Rattle.hash_agg.proofs.StepLaws.{err_out, BringsSome, IsAt, ReadsSome, Told, one_there, one_new, one_left, safe_there, safe_new, fit_told, proceeds_new, group_is_at, next_room, next_read, none_read, all_read, next_brings, all_brings}
+use Rattle.hash_agg.proofs.StepLaws.{err_out, BringsSome, IsAt, ReadsSome, Told, one_there, one_new, one_left, safe_there, safe_new, there_room, fit_told, proceeds_new, group_is_at, next_room, next_read, none_read, all_read, next_brings, all_brings}
 
 -- ---- a pass that stays what it is
 
@@ -64,6 +65,17 @@ pub refused_still : {H D T : Type 0} {Done : (H → List ℕ → ℕ) → Ghosts
     → (r : Result T SpillError) (e : SpillError) → IsErrAnd r (λ x. x ≡ e) → Refused hash_of g what old before e new → e ≢ TapeFault → Adds Done hash_of g what old before r new before
 refused_still {g = g} {before = before} r e given refusal none = refused_out r e given refusal (leaves_still g e before none)
 
+-- before which the pass was not changed
+pub refused_here : {H D T : Type 0} {Done : (H → List ℕ → ℕ) → Ghosts D → Source → Pass H → D → Pass H → D → Type 0} {hash_of : H → List ℕ → ℕ} {g : Ghosts D} {what : Source} {old : Pass H} {before : D}
+    → (r : Result T SpillError) (e : SpillError) → IsErrAnd r (λ x. x ≡ e) → (CanRead old.plan (hash_of old.groups.hash) (Are (query_of old) (hash_of old.groups.hash) what) (standing old.groups old.lists (g.last before)) → e ≢ TapeDamaged)
+    → e ≢ TapeFault → Adds Done hash_of g what old before r old before
+refused_here {old = old} r e given right none = refused_still r e given (record { undamaged = right; kept = same_pass old }) none
+
+-- what is read was added, without the disk
+pub added_here : {H D T : Type 0} {Done : (H → List ℕ → ℕ) → Ghosts D → Source → Pass H → D → Pass H → D → Type 0} {hash_of : H → List ℕ → ℕ} {g : Ghosts D} {what : Source} {old new : Pass H} {before : D}
+    → (x : T) → Done hash_of g what old before new before → Adds Done hash_of g what old before (Ok x) new before
+added_here {g = g} {before = before} x done = record { added = done; refused = tt; disk = leaves_none g before }
+
 -- a tape that gave back what was not written to it is found by the call itself
 pub damaged_here : {H D T : Type 0} {Done : (H → List ℕ → ℕ) → Ghosts D → Source → Pass H → D → Pass H → D → Type 0} {hash_of : H → List ℕ → ℕ} {g : Ghosts D} {what : Source} {old new : Pass H} {before : D}
     → (CanRead old.plan (hash_of old.groups.hash) (Are (query_of old) (hash_of old.groups.hash) what) (standing old.groups old.lists (g.last before)) → ⊥)
@@ -109,6 +121,18 @@ module _ {H D : Type 0} (hash_of : H → List ℕ → ℕ) (g : Ghosts D) (what 
         proceeds = goes;
       }
 
+  -- it finds no room there
+  pub there_damaged : {T : Type 0} (groups : GroupsState H) (slot : Slot) → Names old.groups.table old.groups.tree slot key → groups.table ≡ old.groups.table → groups.hash ≡ old.groups.hash → groups.most_held ≡ old.groups.most_held
+      → ((more : List Piece) (are : Are (query_of old) hf what more) (m : ℕ) (found : List Partial) → AreStates (functions (query_of old)) m (state_in old.groups.table old.groups.tree slot) found
+      → m + weight (told more are).piece ≤ old.plan.most → ⊥)
+      → Adds {T = T} AddedOne hash_of g what old disk (Err TapeDamaged) (record old { groups = groups }) disk
+  there_damaged groups slot named same hashed held full =
+      damaged_here
+      (λ can.
+      let room = there_room old.plan hf old.groups old.lists (g.last disk) key (Are (query_of old) hf what) Moved told slot named can in
+      full room.0 room.1 room.2 room.3 room.4 room.5)
+      (record { plan = refl; table = moved_table old.plan.limit old.groups groups same hashed held; lists = same_rest old.lists })
+
   -- it makes a group of its own
   pub new_added : (groups : GroupsState H) (states : List ℕ) (bytes : ℕ) → HasNo old.groups.table old.groups.tree key → HasRoom old key bytes → true ≡ enters hf old key → entries_of groups ≡ entries_of old.groups ++ (key, states) ∷ [] → ((limit : ℕ) → bytes ≤ limit → IsSameTable limit old.groups groups)
       → ((more : List Piece) (are : Are (query_of old) hf what more) → weight (told more are).piece ≤ old.plan.most → AreStates (functions (query_of old)) (weight (told more are).piece) states (after (query_of old) None (told more are).piece))
@@ -153,7 +177,7 @@ module _ {H D : Type 0} (hash_of : H → List ℕ → ℕ) (g : Ghosts D) (what 
 
 module _ {H D : Type 0} (hash_of : H → List ℕ → ℕ) (g : Ghosts D) (what other : Source) (old : Pass H) (before : D)
     (gives : (more : List Piece) → Are (query_of old) (hash_of old.groups.hash) what more → Are (query_of old) (hash_of old.groups.hash) other more) where
-  pub added_by : {T E : Type 0} (r : Result T E) (new : Pass H) (after : D) → OnOk r (AddedOne hash_of g other old before new after) → OnOk r (AddedOne hash_of g what old before new after)
+  added_by : {T E : Type 0} (r : Result T E) (new : Pass H) (after : D) → OnOk r (AddedOne hash_of g other old before new after) → OnOk r (AddedOne hash_of g what old before new after)
   added_by (Err e) new after one = tt
   added_by (Ok x) new after one = record {
     added =
@@ -168,10 +192,18 @@ module _ {H D : Type 0} (hash_of : H → List ℕ → ℕ) (g : Ghosts D) (what 
     proceeds = one.proceeds;
   }
 
-  pub refused_by : (new : Pass H) (error : SpillError) → Refused hash_of g other old before error new → Refused hash_of g what old before error new
+  refused_by : (new : Pass H) (error : SpillError) → Refused hash_of g other old before error new → Refused hash_of g what old before error new
   refused_by new error refusal = record {
     undamaged = λ (pieces, more, ahead, todo, holds, are, count). refusal.undamaged (pieces, more, ahead, todo, holds, gives more are, count);
     kept = refusal.kept;
+  }
+
+  -- a record of which it is known that it is one
+  pub genuine_by : {T : Type 0} (r : Result T SpillError) (new : Pass H) (after : D) → IsGenuine hash_of old what → Adds AddedOne hash_of g other old before r new after → Adds AddedGenuine hash_of g what old before r new after
+  genuine_by r new after genuine adds = record {
+    added = on_ok_weaker r (λ added. record { added = added; genuine = genuine }) (added_by r new after adds.added);
+    refused = IfErr-weaker r _ _ (refused_by new) adds.refused;
+    disk = adds.disk;
   }
 
 -- ---- one thing after the other

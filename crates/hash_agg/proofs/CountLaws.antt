@@ -15,7 +15,7 @@ use Rattle.group_runs.specs.Lemmas.RunLaws.{run_apart}
 use Rattle.group_runs.specs.Lemmas.MergeLaws.{puts-append}
 use Rattle.group_runs.specs.MergeLaws.{AreApart, puts, puts_rise, nothing_rises, keys_of-rows_added, keys_of-groups_added}
 use Rattle.hash_agg.proofs.PassLaws.{rows_append, pieces_append}
-use Rattle.hash_agg.proofs.WholeLaws.{GivenAt, given_added, all_added, packings_once}
+use Rattle.hash_agg.proofs.WholeLaws.{GivenAt, given_at, InputAt, given_added, all_added, packings_once}
 
 pub pieces_are : (q : Query) (hf : List ℕ → ℕ) (input : Brought) (given : Given) → Gives q input given → Are q hf (source_of input) (given_pieces input given)
 pieces_are q hf (Packed packed) (Of_rows rows) gives = (rows, gives, refl)
@@ -146,13 +146,17 @@ front_few q k (x ∷ inputs) (g ∷ givens) (suc n) =
     let b = rows_append q k (given_pieces x g) (all_pieces (take n inputs) (take n givens)) in
     omega (arith, rest, a, b)
 
-module _ (plan : Plan) (hf : List ℕ → ℕ) (inputs : List Brought) (givens : List Given) (i : ℕ) (input : Brought) (at : slice_get inputs i ≡ Some input) (found : GivenAt (meaning plan.query.now) givens i input) (all : AllByRecursion (IsInput (meaning plan.query.now)) inputs) (give : AllGive (meaning plan.query.now) inputs givens) (low : all_rows inputs ≤ plan.most) where
+module _ (plan : Plan) (hf : List ℕ → ℕ) (inputs : List Brought) (givens : List Given) (i : ℕ) (input : Brought) (here : InputAt inputs i input)
+    (all : AllByRecursion (IsInput (meaning plan.query.now)) inputs) (give : AllGive (meaning plan.query.now) inputs givens) (low : all_rows inputs ≤ plan.most) where
+  abbrev found : GivenAt (meaning plan.query.now) givens i input
+  found = given_at (meaning plan.query.now) inputs givens i input give here.within here.is
+
   front_count : CountUpTo (meaning plan.query.now) plan.most (all_pieces (take i inputs) (take i givens) ++ given_pieces input found.given)
   front_count k =
       let a = front_few (meaning plan.query.now) k inputs givens (i + 1) in
       let b = all_few (meaning plan.query.now) k inputs givens all give in
       let c : rows_at (meaning plan.query.now) k (all_pieces (take (i + 1) inputs) (take (i + 1) givens)) ≡ rows_at (meaning plan.query.now) k (all_pieces (take i inputs) (take i givens) ++ given_pieces input found.given) =
-      ap (rows_at (meaning plan.query.now) k) (pieces_next inputs givens i input found.given at found.at) in
+      ap (rows_at (meaning plan.query.now) k) (pieces_next inputs givens i input found.given here.at found.at) in
       omega (arith, a, b, c, low)
 
   module _ (pass : PassState) (ahead : List Record) (todo : List LeftList) (holds : Holds (meaning plan.query.now) (setting_of plan hf) pass (all_pieces (take i inputs) (take i givens)) ahead todo) where
@@ -161,16 +165,17 @@ module _ (plan : Plan) (hf : List ℕ → ℕ) (inputs : List Brought) (givens :
 
     pub input_read : (next : PassState) → Reads plan hf (Are (meaning plan.query.now) hf (source_of input)) pass next → Holds (meaning plan.query.now) (setting_of plan hf) next (all_pieces (take (i + 1) inputs) (take (i + 1) givens)) ahead todo
     input_read next reads =
-        subst (λ ps. Holds (meaning plan.query.now) (setting_of plan hf) next ps ahead todo) (sym (pieces_next inputs givens i input found.given at found.at))
+        subst (λ ps. Holds (meaning plan.query.now) (setting_of plan hf) next ps ahead todo) (sym (pieces_next inputs givens i input found.given here.at found.at))
         (reads (all_pieces (take i inputs) (take i givens)) (given_pieces input found.given) ahead todo holds (pieces_are (meaning plan.query.now) hf input found.given found.gives) front_count)
 
 -- what an input brings, on top of what those before it brought
-pub input_brings : (q : Query) (hf : List ℕ → ℕ) (inputs : List Brought) (givens : List Given) (i : ℕ) (input : Brought) (old new : List Entry) (before after : ListsState) → slice_get inputs i ≡ Some input → GivenAt q givens i input
+pub input_brings : (q : Query) (hf : List ℕ → ℕ) (inputs : List Brought) (givens : List Given) (i : ℕ) (input : Brought) (old new : List Entry) (before after : ListsState) → InputAt inputs i input → AllGive q inputs givens
     → Brings q (Are q hf (source_of input)) old before new after → total old before ≤ brought_by q (all_pieces (take i inputs) (take i givens)) → total new after ≤ brought_by q (all_pieces (take (i + 1) inputs) (take (i + 1) givens))
-input_brings q hf inputs givens i input old new before after at found brought few =
+input_brings q hf inputs givens i input old new before after here give brought few =
+    let found : GivenAt q givens i input = given_at q inputs givens i input give here.within here.is in
     let more = brought (given_pieces input found.given) (pieces_are q hf input found.given found.gives) in
     let both : brought_by q (all_pieces (take (i + 1) inputs) (take (i + 1) givens)) ≡ brought_by q (all_pieces (take i inputs) (take i givens)) + brought_by q (given_pieces input found.given) =
-    ap (brought_by q) (pieces_next inputs givens i input found.given at found.at) ∙ sum_by-append (brings q) (all_pieces (take i inputs) (take i givens)) (given_pieces input found.given) in
+    ap (brought_by q) (pieces_next inputs givens i input found.given here.at found.at) ∙ sum_by-append (brings q) (all_pieces (take i inputs) (take i givens)) (given_pieces input found.given) in
     omega (arith, few, more, both)
 
 -- ---- as many as keys are brought

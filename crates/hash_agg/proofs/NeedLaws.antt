@@ -1,13 +1,14 @@
 -- What the table of a pass needs.
-use Rattle.std.specs.Prelude.{◌≡◌, refl, ℕ, zero, suc, ◌<◌, ◌≤◌, nat_le, true, false, max, List, [], ◌∷◌, ◌++◌, map, length, slice_get, slice_set, Some, Ok, Err, IfOk, OnOk}
+use Rattle.std.specs.Prelude.{◌≡◌, refl, ℕ, zero, suc, ◌<◌, ◌≤◌, nat_le, true, false, max, List, [], ◌∷◌, ◌++◌, map, length, slice_get, slice_set, Bool, Option, Some, Ok, Err, IfOk, OnOk, OnErr}
 use Rattle.std.specs.declared.result.Result.{Result}
 use Rattle.std.proofs.Common.{sym, ◌∙◌, ap, subst, arith}
+use Rattle.std.proofs.lemmas.Result.{on_ok_weaker, on_err_weaker}
 use Rattle.std.proofs.lemmas.Bool.Decides.{nat_tests}
 use Rattle.std.proofs.lemmas.List.{map-append}
-use Rattle.hash_agg.proofs.Words.{greatest, Key, Setting, need, fits, fronts, low_hash, TableState, IsSlot, IsSameBut, key_in, state_in, group_in, groups, Slot, Entry, packed_keys, GroupsState, AreHeld}
+use Rattle.hash_agg.proofs.Words.{greatest, Key, Setting, need, fits, fronts, low_hash, TableState, IsSlot, IsSameBut, key_in, state_in, group_in, groups, Slot, Entry, packed_keys, GroupsState, AreHeld, WritesAt, entries_of}
 use Rattle.aggregation_cost.specs.Lemmas.CostLaws.{one_fits}
 use Rattle.context_tree.specs.Tree.{TreeState}
-use Rattle.group_table.specs.Space.{HoldsKeys, key_of, keys_in}
+use Rattle.group_table.specs.Space.{HoldsKeys, is_within, key_of, keys_in}
 use Rattle.group_table.specs.Standing.{IsTableIn}
 use Rattle.hash_agg.proofs.TableLaws.{get_mapped}
 
@@ -77,6 +78,32 @@ still_held {H = H} x old slot after states view are is stands holds written =
           same_needed x.table x.tree after is.0 x.most_held (key_in x.table x.tree slot) (state_in x.table x.tree slot) states (get_mapped (group_in x.table x.tree) x.table.slots is.0 slot at)
           (written is.0 at) are.most;
     }
+
+-- by such as these, or by none, since there was no room
+module _ {H T E : Type 0} (r : Result T E) (x old : GroupsState H) (slot : Slot) (was : List ℕ) (view : x ≡ old) (state : was ≡ state_in x.table x.tree slot) where
+  own : was ≡ state_in old.table old.tree slot
+  own = state ∙ ap (λ (y : GroupsState H). state_in y.table y.tree slot) view
+
+  pub written_over : (after : TreeState) (states : List ℕ) (Moved : List ℕ → List ℕ → Type 0)
+      → ((place : ℕ) → slice_get x.table.slots place ≡ Some slot → groups x.table after ≡ slice_set (groups x.table x.tree) place (key_in x.table x.tree slot, states))
+      → OnOk r (Moved was states)
+      → OnOk r (WritesAt old slot (Moved (state_in old.table old.tree slot)) (record { table = x.table; tree = after; most_held = x.most_held; hash = x.hash }))
+  written_over after states Moved written moved =
+      let new : GroupsState H = record { table = x.table; tree = after; most_held = x.most_held; hash = x.hash } in
+      on_ok_weaker r
+      (λ moved. subst (λ (y : GroupsState H). WritesAt y slot (Moved (state_in old.table old.tree slot)) new) view (λ place at. (states, subst (λ b. Moved b states) own moved, written place at)))
+      moved
+
+  pub no_room_over : (HasRoom : List ℕ → Type 0) → OnErr r (¬ (HasRoom was)) → OnErr r (¬ (HasRoom (state_in old.table old.tree slot)))
+  no_room_over HasRoom none = on_err_weaker r (λ none. subst (λ b. ¬ (HasRoom b)) own none) none
+
+-- whether one group more fits, as it is told
+pub fits_by : {H : Type 0} (x old : GroupsState H) (key : Key) (limit : ℕ) (hash : Key → ℕ) (told need : Option ℕ) (result : Bool) → x ≡ old → told ≡ need
+    → is_within told limit ≡ fits (record { limit = limit; width = x.table.width; hash = hash }) (packed_keys (entries_of x) ++ key ∷ [])
+    → result ≡ is_within need limit → result ≡ fits (record { limit = limit; width = old.table.width; hash = hash }) (packed_keys (entries_of old) ++ key ∷ [])
+fits_by {H = H} x old key limit hash told need result view is fit same =
+    same ∙ sym (ap (λ bytes. is_within bytes limit) is) ∙ fit
+    ∙ ap (λ (y : GroupsState H). fits (record { limit = limit; width = y.table.width; hash = hash }) (packed_keys (entries_of y) ++ key ∷ [])) view
 
 -- what a success tells holds of all that it leaves
 pub ok_from : {T E : Type 0} (r : Result T E) (P : T → Type 0) {A : Type 0} → ((x : T) → P x → A) → IfOk r P → OnOk r A

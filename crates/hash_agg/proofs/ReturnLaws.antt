@@ -8,7 +8,7 @@ use Rattle.key_hashes.specs.declared.sip_hash.SipHash.{SipHash}
 use Rattle.group_runs.specs.StandingLaws.{groups_raised}
 use Rattle.hash_agg.proofs.StepLaws.{as_many}
 
--- an error has nothing to say of a success; and what holds anyhow holds of a success
+-- an error has nothing to say of a success
 pub no_ok : {T E : Type 0} (r : Result T E) (P : Type 0) → IsErr r → OnOk r P
 no_ok (Ok x) P is = absurd cc
 no_ok (Err e) P is = tt
@@ -16,10 +16,6 @@ no_ok (Err e) P is = tt
 pub no_if_ok : {T E : Type 0} (r : Result T E) (P : T → Type 0) → IsErr r → IfOk r P
 no_if_ok (Ok x) P is = absurd cc
 no_if_ok (Err e) P is = tt
-
-pub ok_any : {T E : Type 0} (r : Result T E) (P : Type 0) → P → OnOk r P
-ok_any (Ok x) P holds = holds
-ok_any (Err e) P holds = tt
 
 -- nothing moved; or states alone; or a record was spilled
 pub same_table : {Hash : Type 0} (limit : ℕ) (g : GroupsState Hash) → IsSameTable limit g g

@@ -2,6 +2,7 @@
 use Rattle.std.specs.Prelude.{◌≡◌, refl, ℕ, zero, suc, ◌<◌, ◌≤◌, List, [], ◌∷◌, ◌++◌, length, map, Some, slice_get, slice_index_or}
 use Rattle.std.proofs.Common.{sym, ◌∙◌, ap, subst, arith, append-nil, append_assoc}
 use Rattle.std.proofs.lemmas.List.{length-map, get_or-map}
+use Rattle.std.proofs.lemmas.Option.{slice_get-get_or}
 use Rattle.std.specs.List.{AllByRecursion}
 use Rattle.hash_agg.proofs.Words.{Row, Kind, HasKinds, row_cmp, distinct, Query, Group, part, keys_of, packing, Input, Entry, packed_keys, AreGroups, on_end, Brought, Packed, Counted, brought, IsInput, AreInputsOf, Given, Of_rows, Of_groups, AllGive, rows_added, groups_added}
 use Rattle.hash_agg.specs.Inputs.{Gives}
@@ -46,10 +47,17 @@ given_at q (x ∷ inputs) (g ∷ givens) (suc i) input (first, all) low is =
     record { given = found.given; at = found.at; gives = found.gives }
 
 -- an input of the code at a place, as what it brings
-pub brought_at : (inputs : List Input) (i : ℕ) (input : Input) → i < length inputs → input ≡ slice_index_or inputs i input → (brought input ≡ slice_index_or (map brought inputs) i (brought input)) × (i < length (map brought inputs))
+pub record InputAt (inputs : List Brought) (i : ℕ) (input : Brought) : Type 0 where
+  pub within : i < length inputs
+  pub is : input ≡ slice_index_or inputs i input
+  pub at : slice_get inputs i ≡ Some input
+
+pub brought_at : (inputs : List Input) (i : ℕ) (input : Input) → i < length inputs → input ≡ slice_index_or inputs i input → InputAt (map brought inputs) i (brought input)
 brought_at inputs i input low is =
     let same : length (map brought inputs) ≡ length inputs = length-map inputs brought in
-    (ap brought is ∙ sym (get_or-map brought inputs i input (brought input) low), omega (arith, low, same))
+    let here : brought input ≡ slice_index_or (map brought inputs) i (brought input) = ap brought is ∙ sym (get_or-map brought inputs i input (brought input) low) in
+    let within : i < length (map brought inputs) = omega (arith, low, same) in
+    record { within = within; is = here; at = slice_get-get_or (map brought inputs) i (brought input) within ∙ ap Some (sym here) }
 
 -- ---- lists of rows
 

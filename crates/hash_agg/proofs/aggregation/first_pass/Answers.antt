@@ -1,4 +1,4 @@
-use Rattle.std.specs.Prelude.{◌≡◌, refl, ◌≤◌, ℕ, ◌∷◌, List, [], length, map, take, slice_get, Some}
+use Rattle.std.specs.Prelude.{◌≡◌, refl, ◌≤◌, ℕ, ◌∷◌, List, [], length, map, take}
 use Rattle.std.proofs.Common.{sym, ◌∙◌, ap, subst, arith}
 use Rattle.std.proofs.lemmas.List.{length-map, take_all}
 use Rattle.std.proofs.lemmas.List.Sums.{sum_by-cons}
@@ -15,9 +15,8 @@ use Rattle.hash_agg.proofs.FitLaws.{all_fit}
 use Rattle.hash_agg.proofs.NeedLaws.{held_by_both}
 use Rattle.hash_agg.proofs.ReturnLaws.{no_if_ok}
 use Rattle.hash_agg.proofs.StepLaws.{err_out}
-use Rattle.std.proofs.lemmas.Option.{slice_get-get_or}
 use Rattle.hash_agg.proofs.UnionLaws.{none_safe, safe_moved}
-use Rattle.hash_agg.proofs.WholeLaws.{all_given, given_at, brought_at}
+use Rattle.hash_agg.proofs.WholeLaws.{all_given, brought_at}
 use Rattle.hash_agg.proofs.OneByOneLaws.{as_long}
 use Rattle.hash_agg.proofs.aggregation.first_pass.Goals as goal
 
@@ -38,15 +37,13 @@ loop-input-init g c =
 pub add_input-requires-clause-input : goal.add_input-requires-clause-input
 add_input-requires-clause-input g c =
     let inputs : List Brought = map brought c.args.inputs.now in
-    let i : ℕ = c.loop-input.input-index in
     let input : Brought = brought c.input-item.result in
-    let here = brought_at c.args.inputs.now i c.input-item.result c.loop-input-test.true c.input-item.is in
-    let at : slice_get inputs i ≡ Some input = slice_get-get_or inputs i input here.1 ∙ ap Some (sym here.0) in
-    let few = input_few inputs i input at in
+    let here = brought_at c.args.inputs.now c.loop-input.input-index c.input-item.result c.loop-input-test.true c.input-item.is in
+    let few = input_few inputs c.loop-input.input-index input here.at in
     let all = c.requires.inputs.few in
     let sum = sum_by-cons rows_in input [] in
     subst (λ (plan : Plan). AreInputs (meaning plan.query.now) plan.most (input ∷ [])) (sym c.loop-input.invariant.kept.plan)
-    (record { are = (all_at (IsInput (query_of c.args.pass.now)) inputs i input c.requires.inputs.are at, tt); few = omega (arith, few, all, sum) })
+    (record { are = (all_at (IsInput (query_of c.args.pass.now)) inputs c.loop-input.input-index input c.requires.inputs.are here.at, tt); few = omega (arith, few, all, sum) })
 
 pub returns-in_err-row : goal.returns-in_err-row
 returns-in_err-row g c =
@@ -58,15 +55,10 @@ returns-in_err-row g c =
 
 pub returns-in_err-add_input : goal.returns-in_err-add_input
 returns-in_err-add_input g c =
-    let q : Query = query_of c.args.pass.now in
-    let hf : List ℕ → ℕ = g.H.KeyHash.hash_of c.args.pass.now.groups.hash in
     let inputs : List Brought = map brought c.args.inputs.now in
-    let i : ℕ = c.loop-input.input-index in
     let input : Brought = brought c.input-item.result in
-    let here = brought_at c.args.inputs.now i c.input-item.result c.loop-input-test.true c.input-item.is in
-    let at : slice_get inputs i ≡ Some input = slice_get-get_or inputs i input here.1 ∙ ap Some (sym here.0) in
-    let given = all_given q inputs c.requires.inputs.are in
-    let found = given_at q inputs given.0 i input given.1 here.1 here.0 in
+    let here = brought_at c.args.inputs.now c.loop-input.input-index c.input-item.result c.loop-input-test.true c.input-item.is in
+    let given = all_given (query_of c.args.pass.now) inputs c.requires.inputs.are in
     let so_far = c.loop-input.invariant in
     let refusal = refused_first g.H.KeyHash.hash_of g.D.TapeDisk (source_of input) c.args.pass.now c.loop-input.pass c.loop-input.disk c.add_input.new.self so_far.kept.plan so_far.kept.table.hash c.in_err-add_input.field-0.0 c.in_err-add_input.ensures.refused in
     record {
@@ -74,7 +66,8 @@ returns-in_err-add_input g c =
       undamaged =
           err_out c.from_residual-in_err-add_input.result c.in_err-add_input.field-0.0 _ c.from_residual-in_err-add_input.ensures.1
           (refusal.undamaged
-          (can_read_input c.args.pass.now.plan hf inputs given.0 i input at found c.requires.inputs.are given.1 c.requires.inputs.few (standing c.loop-input.pass.groups c.loop-input.pass.lists (g.D.TapeDisk.last c.loop-input.disk)) [] [] (so_far.reads given.0 given.1)));
+          (can_read_input c.args.pass.now.plan (g.H.KeyHash.hash_of c.args.pass.now.groups.hash) inputs given.0 c.loop-input.input-index input here c.requires.inputs.are given.1 c.requires.inputs.few
+          (standing c.loop-input.pass.groups c.loop-input.pass.lists (g.D.TapeDisk.last c.loop-input.disk)) [] [] (so_far.reads given.0 given.1)));
       disk =
           left_out g.D.TapeDisk c.from_residual-in_err-add_input.result c.in_err-add_input.field-0.0 c.args.disk.now c.add_input.new.disk c.from_residual-in_err-add_input.ensures.1
           (leaves_twice g.D.TapeDisk (spill_faults c.in_err-add_input.field-0.0) c.args.disk.now c.loop-input.disk c.add_input.new.disk so_far.disk c.in_err-add_input.ensures.disk);
@@ -88,18 +81,14 @@ loop-input-preserved g c =
     let i : ℕ = c.loop-input.input-index in
     let input : Brought = brought c.input-item.result in
     let here = brought_at c.args.inputs.now i c.input-item.result c.loop-input-test.true c.input-item.is in
-    let at : slice_get inputs i ≡ Some input = slice_get-get_or inputs i input here.1 ∙ ap Some (sym here.0) in
     let now : PassState = standing c.loop-input.pass.groups c.loop-input.pass.lists (g.D.TapeDisk.last c.loop-input.disk) in
     let next : PassState = standing c.add_input.new.self.groups c.add_input.new.self.lists (g.D.TapeDisk.last c.add_input.new.disk) in
     let so_far = c.loop-input.invariant in
     let add = added_first g.H.KeyHash.hash_of g.D.TapeDisk (source_of input) c.args.pass.now c.loop-input.pass c.loop-input.disk c.add_input.new.self so_far.kept.plan so_far.kept.table.hash c.add_input.new.disk c.in_ok-add_input.ensures.added in
     record {
       reads = λ givens give.
-          let found = given_at q inputs givens i input give here.1 here.0 in
-          input_read c.args.pass.now.plan hf inputs givens i input at found c.requires.inputs.are give c.requires.inputs.few now [] [] (so_far.reads givens give) next add.reads;
-      brings = λ givens give.
-          let found = given_at q inputs givens i input give here.1 here.0 in
-          input_brings q hf inputs givens i input now.entries next.entries now.lists next.lists at found add.brings (so_far.brings givens give);
+          input_read c.args.pass.now.plan hf inputs givens i input here c.requires.inputs.are give c.requires.inputs.few now [] [] (so_far.reads givens give) next add.reads;
+      brings = λ givens give. input_brings q hf inputs givens i input now.entries next.entries now.lists next.lists here give add.brings (so_far.brings givens give);
       safe = add.safe so_far.safe;
       pages = let before = so_far.pages in let more = add.pages in omega (arith, before, more);
       ready = add.ready;

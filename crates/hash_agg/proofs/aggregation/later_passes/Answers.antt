@@ -82,7 +82,6 @@ returns-in_err-push g c =
 pub loop-pass-preserved : goal.loop-pass-preserved
 loop-pass-preserved g c =
     let q : Query = query_of c.args.pass.now in
-    let set : Setting = setting_in g.H.KeyHash.hash_of c.args.pass.now in
     let i = c.loop-pass.invariant in
     let end = c.in_ok-more.ensures.finished in
     let counts = c.in_ok-more.ensures.counted in
@@ -111,7 +110,8 @@ loop-pass-preserved g c =
       waits = λ honest pieces start writes underway count.
           let read_pages = add.pages in
           let none : written_pages c.begin_pass.new.self ≡ 0 = ap (full_pages c.begin_pass.new.self.tapes) c.begin_pass.ensures.parts in
-          subst (λ es. IsWaiting q set pieces es c.finish.new.self.lists (g.D.TapeDisk.last c.finish.new.disk) start c.finish.new.work writes (g.D.TapeDisk.writes c.finish.new.disk)) (sym more)
+          subst (λ es. IsWaiting q (setting_in g.H.KeyHash.hash_of c.args.pass.now) pieces es
+          c.finish.new.self.lists (g.D.TapeDisk.last c.finish.new.disk) start c.finish.new.work writes (g.D.TapeDisk.writes c.finish.new.disk)) (sym more)
           (pass_made c.args.pass.now.plan (g.H.KeyHash.hash_of c.args.pass.now.groups.hash) pieces (on_end (c.args.run ∷ c.loop-pass.others.items)) (entries_of c.loop-pass.pass.groups) c.loop-pass.pass.lists c.begin_pass.new.self (g.D.TapeDisk.last c.loop-pass.disk) start c.loop-pass.work writes (g.D.TapeDisk.writes c.loop-pass.disk)
           (i.waits honest pieces start writes underway count) count (c.begin_pass.ensures.begins c.loop-pass-test.true)
           c.add_list.new.self.lists c.finish.new.self.lists (g.D.TapeDisk.last c.add_list.new.disk) (g.D.TapeDisk.last c.finish.new.disk) (entries_of c.add_list.new.self.groups) run c.finish.new.work (g.D.TapeDisk.writes c.add_list.new.disk) (g.D.TapeDisk.writes c.finish.new.disk) c.requires.over.ready.plan.formed add.kept.level

@@ -1,36 +1,31 @@
 use Rattle.std.specs.Prelude.{◌≡◌, refl, ◌∷◌, ◌≤◌, [], length}
 use Rattle.std.proofs.Common.{sym, ◌∙◌, subst}
 use Rattle.std.proofs.lemmas.Result.{IfErr-weaker}
-use Rattle.tape_disks.specs.DiskLaws.{leaves_none}
 use Rattle.hash_agg.proofs.Words.{Record, NoMemory, Query, partials, functions, AreCombined, Entries, Are, query_of, group_record}
-use Rattle.hash_agg.proofs.AddedLaws.{same_pass, there_added, new_added, left_added, refused_still, damaged_here}
-use Rattle.hash_agg.proofs.ReturnLaws.{same_table, same_rest, moved_table}
-use Rattle.hash_agg.proofs.StepLaws.{key_brief, key_short, group_short, same_wide, entry_told, there_room, one_group, is_group_record}
+use Rattle.hash_agg.proofs.AddedLaws.{added_here, there_added, there_damaged, new_added, left_added, refused_still, refused_here}
+use Rattle.hash_agg.proofs.ReturnLaws.{same_table, same_rest}
+use Rattle.hash_agg.proofs.StepLaws.{key_brief, key_short, group_short, same_wide, entry_told, one_group, is_group_record}
 use Rattle.hash_agg.proofs.pass.Pass.add_group.Goals as goal
 
 pub returns-in-Ok : goal.returns-in-Ok
 returns-in-Ok g c =
     let q : Query = query_of c.args.self.now in
-    record {
-      added =
-          there_added g.H.KeyHash.hash_of g.D.TapeDisk (Entries ((c.args.key.now, c.args.states.now) ∷ [])) c.args.self.now c.args.disk.now c.args.key.now (λ old new. AreCombined (functions q) c.args.self.now.plan.most old c.args.states.now new) c.requires.ready
-          (entry_told q c.args.self.now.plan.most c.args.key.now c.args.states.now)
-          c.combine.new.self c.in-Some.slot c.find.ensures.once c.in-Some.ensures.found c.in-Ok.ensures.written c.combine.ensures.table c.combine.ensures.hash c.combine.ensures.held (λ new moved. moved.within);
-      refused = tt;
-      disk = leaves_none g.D.TapeDisk c.args.disk.now;
-    }
+    added_here _
+    (there_added g.H.KeyHash.hash_of g.D.TapeDisk (Entries ((c.args.key.now, c.args.states.now) ∷ [])) c.args.self.now c.args.disk.now c.args.key.now
+    (λ old new. AreCombined (functions q) c.args.self.now.plan.most old c.args.states.now new) c.requires.ready
+    (entry_told q c.args.self.now.plan.most c.args.key.now c.args.states.now)
+    c.combine.new.self c.in-Some.slot c.find.ensures.once c.in-Some.ensures.found c.in-Ok.ensures.written c.combine.ensures.table c.combine.ensures.hash c.combine.ensures.held (λ new moved. moved.within))
 
 pub returns-in-Err : goal.returns-in-Err
 returns-in-Err g c =
-    damaged_here
-    (λ can.
     let q : Query = query_of c.args.self.now in
-    let room = there_room c.args.self.now.plan (g.H.KeyHash.hash_of c.args.self.now.groups.hash) c.args.self.now.groups c.args.self.now.lists (g.D.TapeDisk.last c.args.disk.now) c.args.key.now
-    (Are q (g.H.KeyHash.hash_of c.args.self.now.groups.hash) (Entries ((c.args.key.now, c.args.states.now) ∷ []))) (λ old new. AreCombined (functions q) c.args.self.now.plan.most old c.args.states.now new)
-    (entry_told q c.args.self.now.plan.most c.args.key.now c.args.states.now) c.in-Some.slot c.in-Some.ensures.found can in
-    let one = one_group q room.1.0 c.args.key.now c.args.states.now room.0 room.1.1 in
-    c.in-Err.ensures.refused (room.2, room.1.0, room.3, one.0.1, room.4, one.2.states, room.5))
-    (record { plan = refl; table = moved_table c.args.self.now.plan.limit c.args.self.now.groups c.combine.new.self c.combine.ensures.table c.combine.ensures.hash c.combine.ensures.held; lists = same_rest _ })
+    there_damaged g.H.KeyHash.hash_of g.D.TapeDisk (Entries ((c.args.key.now, c.args.states.now) ∷ [])) c.args.self.now c.args.disk.now c.args.key.now
+    (λ old new. AreCombined (functions q) c.args.self.now.plan.most old c.args.states.now new) c.requires.ready
+    (entry_told q c.args.self.now.plan.most c.args.key.now c.args.states.now)
+    c.combine.new.self c.in-Some.slot c.in-Some.ensures.found c.combine.ensures.table c.combine.ensures.hash c.combine.ensures.held
+    (λ more are m found states low.
+    let one = one_group q are.0 c.args.key.now c.args.states.now more are.1 in
+    c.in-Err.ensures.refused (m, are.0, found, one.0.1, states, one.2.states, low))
 
 pub room_for-requires-clause-key : goal.room_for-requires-clause-key
 room_for-requires-clause-key g c =
@@ -52,16 +47,13 @@ pub returns-in-Some-room_for : goal.returns-in-Some-room_for
 returns-in-Some-room_for g c =
     let q : Query = query_of c.args.self.now in
     let group = c.requires.group in
-    record {
-      added =
-          new_added g.H.KeyHash.hash_of g.D.TapeDisk (Entries ((c.args.key.now, c.args.states.now) ∷ [])) c.args.self.now c.args.disk.now c.args.key.now (λ old new. AreCombined (functions q) c.args.self.now.plan.most old c.args.states.now new) c.requires.ready
-          (entry_told q c.args.self.now.plan.most c.args.key.now c.args.states.now)
-          c.enter.new.self c.args.states.now c.in-Some-room_for.need c.in_default.ensures.found c.in-Some-room_for.ensures.room (c.in-Some-room_for.ensures.exact (g.H.KeyHash.hash_of c.args.self.now.groups.hash))
-          c.in_ok-enter.ensures.entered c.enter.ensures.table
-          (λ more are low. (one_group q are.0 c.args.key.now c.args.states.now more are.1).2.states) group.0 group.1;
-      refused = tt;
-      disk = leaves_none g.D.TapeDisk c.args.disk.now;
-    }
+    added_here _
+    (new_added g.H.KeyHash.hash_of g.D.TapeDisk (Entries ((c.args.key.now, c.args.states.now) ∷ [])) c.args.self.now c.args.disk.now c.args.key.now
+    (λ old new. AreCombined (functions q) c.args.self.now.plan.most old c.args.states.now new) c.requires.ready
+    (entry_told q c.args.self.now.plan.most c.args.key.now c.args.states.now)
+    c.enter.new.self c.args.states.now c.in-Some-room_for.need c.in_default.ensures.found c.in-Some-room_for.ensures.room (c.in-Some-room_for.ensures.exact (g.H.KeyHash.hash_of c.args.self.now.groups.hash))
+    c.in_ok-enter.ensures.entered c.enter.ensures.table
+    (λ more are low. (one_group q are.0 c.args.key.now c.args.states.now more are.1).2.states) group.0 group.1)
 
 pub write_group-requires : goal.write_group-requires
 write_group-requires g c =
@@ -82,7 +74,8 @@ returns g c =
     let written : c.deref.result.now ≡ group_record c.args.key.now c.args.states.now = c.deref.ensures.value ∙ c.in_ok-write_group.ensures in
     record {
       added =
-          left_added g.H.KeyHash.hash_of g.D.TapeDisk (Entries ((c.args.key.now, c.args.states.now) ∷ [])) c.args.self.now c.args.disk.now c.args.key.now (λ old new. AreCombined (functions q) c.args.self.now.plan.most old c.args.states.now new) c.requires.ready
+          left_added g.H.KeyHash.hash_of g.D.TapeDisk (Entries ((c.args.key.now, c.args.states.now) ∷ [])) c.args.self.now c.args.disk.now c.args.key.now
+          (λ old new. AreCombined (functions q) c.args.self.now.plan.most old c.args.states.now new) c.requires.ready
           (entry_told q c.args.self.now.plan.most c.args.key.now c.args.states.now)
           c.spill.result c.spill.new.self c.spill.new.disk one c.in_default.ensures.found (key_brief q c.args.key.now group.0.0 c.requires.ready.plan.formed group.1.key group.1.of_kinds)
           (sym (c.in_default-room_for.ensures.exact (g.H.KeyHash.hash_of c.args.self.now.groups.hash)))
@@ -101,6 +94,4 @@ returns-in_err-enter g c =
 
 pub returns-in_err-write_group : goal.returns-in_err-write_group
 returns-in_err-write_group g c =
-    refused_still c.from_residual-in_err-write_group.result NoMemory c.from_residual-in_err-write_group.ensures.1
-    (record { undamaged = λ can same. cc; kept = same_pass c.args.self.now })
-    (λ same. cc)
+    refused_here c.from_residual-in_err-write_group.result NoMemory c.from_residual-in_err-write_group.ensures.1 (λ can same. cc) (λ same. cc)

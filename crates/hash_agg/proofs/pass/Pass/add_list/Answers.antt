@@ -31,6 +31,7 @@ loop-hash-init g c =
 pub returns-in_err-hash : goal.returns-in_err-hash
 returns-in_err-hash g c =
     let i = c.loop-hash.invariant in
+    let kept = later_same c.args.self.now c.loop-hash.self c.next.new.self i.kept c.next.ensures.todo c.next.ensures.level in
     record {
       added = no_ok c.from_residual.result _ c.from_residual.ensures.0;
       refused =
@@ -40,7 +41,7 @@ returns-in_err-hash g c =
                 λ honest can.
                 let r = i.reads honest can.0 can.1 can.2 can.3 can.4 can.5 in
                 c.in_err-hash.ensures.undamaged (subst IsTrue (sym i.disk.honesty) honest) r.holds.0 r.ahead can.2 r.holds.1;
-            kept = later_same c.args.self.now c.loop-hash.self c.next.new.self i.kept c.next.ensures.todo c.next.ensures.level;
+            kept = kept;
           });
       disk =
           left_out g.D.TapeDisk c.from_residual.result c.in_err-hash.field-0.0 c.args.disk.now c.next.new.disk c.from_residual.ensures.1

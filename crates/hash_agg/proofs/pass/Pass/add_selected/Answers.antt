@@ -1,39 +1,31 @@
 use Rattle.std.specs.Prelude.{refl, ◌∷◌, ◌++◌, []}
 use Rattle.std.proofs.Common.{sym, ◌∙◌, ap, arith}
 use Rattle.std.proofs.lemmas.Result.{IfErr-weaker}
-use Rattle.tape_disks.specs.DiskLaws.{leaves_none}
 use Rattle.hash_agg.proofs.Words.{partials, Query, row_of, AreAdvanced, NoMemory, Packed_rows, query_of, AreRows, entries_of}
 use Rattle.grouping_model.specs.Grouping.{key_of}
-use Rattle.hash_agg.proofs.AddedLaws.{same_pass, there_added, new_added, left_added, refused_still, damaged_here}
+use Rattle.hash_agg.proofs.AddedLaws.{added_here, there_added, there_damaged, new_added, left_added, refused_still, refused_here}
 use Rattle.hash_agg.specs.Lemmas.KeyLaws.{key_has}
-use Rattle.hash_agg.proofs.ReturnLaws.{same_table, same_rest, moved_table}
-use Rattle.hash_agg.proofs.StepLaws.{key_brief, key_short, packed_short, row_told, there_room, new_room}
+use Rattle.hash_agg.proofs.ReturnLaws.{same_table, same_rest}
+use Rattle.hash_agg.proofs.StepLaws.{key_brief, key_short, packed_short, row_told, new_room}
 use Rattle.hash_agg.proofs.pass.Pass.add_selected.Goals as goal
 
 pub returns-in-Ok : goal.returns-in-Ok
 returns-in-Ok g c =
     let q : Query = query_of c.args.self.now in
-    record {
-      added =
-          there_added g.H.KeyHash.hash_of g.D.TapeDisk (Packed_rows (c.args.packed.now ∷ [])) c.args.self.now c.args.disk.now c.args.key.now (λ old new. AreAdvanced q.aggregates c.args.self.now.plan.most old (row_of c.args.row.now) new) c.requires.ready
-          (row_told q c.args.self.now.plan.most c.args.packed.now c.args.key.now (row_of c.args.row.now) c.requires.ready.plan.formed c.requires.selected)
-          c.advance.new.self c.in-Some.slot c.find.ensures.once c.in-Some.ensures.found c.in-Ok.ensures.written c.advance.ensures.table c.advance.ensures.hash c.advance.ensures.held (λ new moved. moved.within);
-      refused = tt;
-      disk = leaves_none g.D.TapeDisk c.args.disk.now;
-    }
+    added_here _
+    (there_added g.H.KeyHash.hash_of g.D.TapeDisk (Packed_rows (c.args.packed.now ∷ [])) c.args.self.now c.args.disk.now c.args.key.now
+    (λ old new. AreAdvanced q.aggregates c.args.self.now.plan.most old (row_of c.args.row.now) new) c.requires.ready
+    (row_told q c.args.self.now.plan.most c.args.packed.now c.args.key.now (row_of c.args.row.now) c.requires.ready.plan.formed c.requires.selected)
+    c.advance.new.self c.in-Some.slot c.find.ensures.once c.in-Some.ensures.found c.in-Ok.ensures.written c.advance.ensures.table c.advance.ensures.hash c.advance.ensures.held (λ new moved. moved.within))
 
 pub returns-in-Err : goal.returns-in-Err
 returns-in-Err g c =
-    damaged_here
-    (λ can.
     let q : Query = query_of c.args.self.now in
-    let room = there_room c.args.self.now.plan (g.H.KeyHash.hash_of c.args.self.now.groups.hash) c.args.self.now.groups c.args.self.now.lists (g.D.TapeDisk.last c.args.disk.now) c.args.key.now
-    (AreRows q (c.args.packed.now ∷ [])) (λ old new. AreAdvanced q.aggregates c.args.self.now.plan.most old (row_of c.args.row.now) new)
+    there_damaged g.H.KeyHash.hash_of g.D.TapeDisk (Packed_rows (c.args.packed.now ∷ [])) c.args.self.now c.args.disk.now c.args.key.now
+    (λ old new. AreAdvanced q.aggregates c.args.self.now.plan.most old (row_of c.args.row.now) new) c.requires.ready
     (row_told q c.args.self.now.plan.most c.args.packed.now c.args.key.now (row_of c.args.row.now) c.requires.ready.plan.formed c.requires.selected)
-    c.in-Some.slot c.in-Some.ensures.found can in
-    let low = room.5 in
-    c.in-Err.ensures.refused (room.2, room.3, room.4, omega (arith, low)))
-    (record { plan = refl; table = moved_table c.args.self.now.plan.limit c.args.self.now.groups c.advance.new.self c.advance.ensures.table c.advance.ensures.hash c.advance.ensures.held; lists = same_rest _ })
+    c.advance.new.self c.in-Some.slot c.in-Some.ensures.found c.advance.ensures.table c.advance.ensures.hash c.advance.ensures.held
+    (λ more are m found states low. c.in-Err.ensures.refused (m, found, states, omega (arith, low)))
 
 pub room_for-requires-clause-key : goal.room_for-requires-clause-key
 room_for-requires-clause-key g c =
@@ -43,17 +35,13 @@ room_for-requires-clause-key g c =
 pub returns-in_err-first_after : goal.returns-in_err-first_after
 returns-in_err-first_after g c =
     let q : Query = query_of c.args.self.now in
-    refused_still c.from_residual.result c.in_err-first_after.field-0.0 c.from_residual.ensures.1
-    (record {
-      undamaged =
-          λ can.
-          let room = new_room c.args.self.now.plan (g.H.KeyHash.hash_of c.args.self.now.groups.hash) c.args.self.now.groups c.args.self.now.lists (g.D.TapeDisk.last c.args.disk.now) c.args.key.now
-          (AreRows q (c.args.packed.now ∷ [])) (λ old new. AreAdvanced q.aggregates c.args.self.now.plan.most old (row_of c.args.row.now) new)
-          (row_told q c.args.self.now.plan.most c.args.packed.now c.args.key.now (row_of c.args.row.now) c.requires.ready.plan.formed c.requires.selected) can in
-          let low = room.2 in
-          c.in_err-first_after.ensures.undamaged (0, partials q [], c.requires.ready.plan.states, omega (arith, low));
-      kept = same_pass c.args.self.now;
-    })
+    refused_here c.from_residual.result c.in_err-first_after.field-0.0 c.from_residual.ensures.1
+    (λ can.
+    let room = new_room c.args.self.now.plan (g.H.KeyHash.hash_of c.args.self.now.groups.hash) c.args.self.now.groups c.args.self.now.lists (g.D.TapeDisk.last c.args.disk.now) c.args.key.now
+    (AreRows q (c.args.packed.now ∷ [])) (λ old new. AreAdvanced q.aggregates c.args.self.now.plan.most old (row_of c.args.row.now) new)
+    (row_told q c.args.self.now.plan.most c.args.packed.now c.args.key.now (row_of c.args.row.now) c.requires.ready.plan.formed c.requires.selected) can in
+    let low = room.2 in
+    c.in_err-first_after.ensures.undamaged (0, partials q [], c.requires.ready.plan.states, omega (arith, low)))
     c.in_err-first_after.ensures.faultless
 
 pub enter-requires-clause-key : goal.enter-requires-clause-key
@@ -65,18 +53,15 @@ pub returns-in-Some-room_for : goal.returns-in-Some-room_for
 returns-in-Some-room_for g c =
     let q : Query = query_of c.args.self.now in
     let within = c.in_ok-first_after.ensures.advanced.within in
-    record {
-      added =
-          new_added g.H.KeyHash.hash_of g.D.TapeDisk (Packed_rows (c.args.packed.now ∷ [])) c.args.self.now c.args.disk.now c.args.key.now (λ old new. AreAdvanced q.aggregates c.args.self.now.plan.most old (row_of c.args.row.now) new) c.requires.ready
-          (row_told q c.args.self.now.plan.most c.args.packed.now c.args.key.now (row_of c.args.row.now) c.requires.ready.plan.formed c.requires.selected)
-          c.enter.new.self c.first_after.new.states.items c.in-Some-room_for.need c.in_default.ensures.found c.in-Some-room_for.ensures.room (c.in-Some-room_for.ensures.exact (g.H.KeyHash.hash_of c.args.self.now.groups.hash))
-          (c.in_ok-enter.ensures.entered ∙ ap (λ states. entries_of c.args.self.now.groups ++ (c.args.key.now, states) ∷ []) c.deref.ensures.value) c.enter.ensures.table
-          (λ more are low. c.in_ok-first_after.ensures.advanced.moved 0 (partials q []) (omega (arith, low)) c.requires.ready.plan.states)
-          (key_of q (row_of c.args.row.now), within.0)
-          (record { key = c.requires.selected.named; of_kinds = key_has q (row_of c.args.row.now) c.requires.ready.plan.formed.keys c.requires.selected.has; states = within.1 });
-      refused = tt;
-      disk = leaves_none g.D.TapeDisk c.args.disk.now;
-    }
+    added_here _
+    (new_added g.H.KeyHash.hash_of g.D.TapeDisk (Packed_rows (c.args.packed.now ∷ [])) c.args.self.now c.args.disk.now c.args.key.now
+    (λ old new. AreAdvanced q.aggregates c.args.self.now.plan.most old (row_of c.args.row.now) new) c.requires.ready
+    (row_told q c.args.self.now.plan.most c.args.packed.now c.args.key.now (row_of c.args.row.now) c.requires.ready.plan.formed c.requires.selected)
+    c.enter.new.self c.first_after.new.states.items c.in-Some-room_for.need c.in_default.ensures.found c.in-Some-room_for.ensures.room (c.in-Some-room_for.ensures.exact (g.H.KeyHash.hash_of c.args.self.now.groups.hash))
+    (c.in_ok-enter.ensures.entered ∙ ap (λ states. entries_of c.args.self.now.groups ++ (c.args.key.now, states) ∷ []) c.deref.ensures.value) c.enter.ensures.table
+    (λ more are low. c.in_ok-first_after.ensures.advanced.moved 0 (partials q []) (omega (arith, low)) c.requires.ready.plan.states)
+    (key_of q (row_of c.args.row.now), within.0)
+    (record { key = c.requires.selected.named; of_kinds = key_has q (row_of c.args.row.now) c.requires.ready.plan.formed.keys c.requires.selected.has; states = within.1 }))
 
 pub spill-requires-clause-len : goal.spill-requires-clause-len
 spill-requires-clause-len g c = packed_short c.args.self.now.plan.query.now.columns c.args.packed.now (row_of c.args.row.now) c.requires.ready.plan.columns c.requires.selected.is c.requires.selected.has
@@ -86,7 +71,8 @@ returns g c =
     let q : Query = query_of c.args.self.now in
     record {
       added =
-          left_added g.H.KeyHash.hash_of g.D.TapeDisk (Packed_rows (c.args.packed.now ∷ [])) c.args.self.now c.args.disk.now c.args.key.now (λ old new. AreAdvanced q.aggregates c.args.self.now.plan.most old (row_of c.args.row.now) new) c.requires.ready
+          left_added g.H.KeyHash.hash_of g.D.TapeDisk (Packed_rows (c.args.packed.now ∷ [])) c.args.self.now c.args.disk.now c.args.key.now
+          (λ old new. AreAdvanced q.aggregates c.args.self.now.plan.most old (row_of c.args.row.now) new) c.requires.ready
           (row_told q c.args.self.now.plan.most c.args.packed.now c.args.key.now (row_of c.args.row.now) c.requires.ready.plan.formed c.requires.selected)
           c.spill.result c.spill.new.self c.spill.new.disk (record { hash = c.hash-hash.result; tag = 0; bytes = c.args.packed.now }) c.in_default.ensures.found
           (key_brief q c.args.key.now (key_of q (row_of c.args.row.now)) c.requires.ready.plan.formed c.requires.selected.named (key_has q (row_of c.args.row.now) c.requires.ready.plan.formed.keys c.requires.selected.has))
