@@ -108,29 +108,19 @@ impl<H: KeyHash + Drop> Groups<H> {
     }
 }
 
-/// What is told of a new table by a hash function.
-pub(crate) fn of_hash<
-    H: KeyHash + Drop,
-    F: FnOnce(&mut Groups<H>, &mut Told) -> Result<(), AllocError>,
->(rt: HostRuntime, hash: H, tell: F) -> Result<String, TreeError>
-    requires { F.IsAlwaysCallable tell }
-{
-    let mut groups = Groups::new(rt.alloc(), hash)?;
-    let mut told = Told::new(rt.alloc());
-    let outcome = tell(&mut groups, &mut told);
-    drop(groups);
-    outcome?;
-    Ok(told.into_text())
-}
-
-/// The same by the usual one.
+/// What is told of a new table by the usual hash function.
 pub(crate) fn of_groups<F: FnOnce(&mut Groups<Fnv1a>, &mut Told) -> Result<(), AllocError>>(
     rt: HostRuntime,
     tell: F,
 ) -> Result<String, TreeError>
     requires { F.IsAlwaysCallable tell }
 {
-    of_hash(rt, Fnv1a, tell)
+    let mut groups = Groups::new(rt.alloc(), Fnv1a)?;
+    let mut told = Told::new(rt.alloc());
+    let outcome = tell(&mut groups, &mut told);
+    drop(groups);
+    outcome?;
+    Ok(told.into_text())
 }
 
 /// The key and the state of a number.

@@ -1,6 +1,6 @@
 //! A table by itself.
 
-use crate::groups::{Groups, WIDTH, has_numbers, key, of_groups, of_hash, put_numbers, state};
+use crate::groups::{Groups, WIDTH, has_numbers, key, of_groups, put_numbers, state};
 use context_tree::{ContextId, Tree, TreeError};
 use group_table::{Fnv1a, GroupTable, KeyHash};
 use std::alloc::{AllocError, Global};
@@ -96,7 +96,12 @@ pub(crate) fn of_numbers<H: KeyHash + Drop>(
     hash: H,
     count: u32,
 ) -> Result<String, TreeError> {
-    of_hash(rt, hash, |groups, told| tell_numbers(groups, count, told))
+    let mut groups = Groups::new(rt.alloc(), hash)?;
+    let mut told = Told::new(rt.alloc());
+    let outcome = tell_numbers(&mut groups, count, &mut told);
+    drop(groups);
+    outcome?;
+    Ok(told.into_text())
 }
 
 #[test]
