@@ -33,6 +33,7 @@ use Rattle.origin_prefix.specs.declared.error.JoinError.TheVariants as join
 use Rattle.replica_merge.specs.declared.error.MergeError.{MergeError}
 use Rattle.replica_merge.specs.declared.error.MergeError.TheVariants as merge
 use Rattle.replies.specs.declared.refusal.Refusal.TheVariants as why
+use Rattle.replies.specs.declared.reply.Reply.{Reply}
 use Rattle.replies.specs.declared.reply.Reply.TheVariants as says
 
 -- ---- names
@@ -53,6 +54,14 @@ others_kept : {X : Type 0} (name other : List ℕ) (old new : List (Vec ℕ Glob
 unfolding KeepsOthers
 others_kept name other old new keeps different =
     keeps (λ (key : Vec ℕ Global). bytes_eq other key.items) (λ x y. alike other x.items y.items) (λ key. apart name other key.items different)
+
+-- what was put under a key was put under the name that the key is
+pub put_named : {S V : Type 0} (key name : List ℕ) (given held : V) (old new : HashMap (Vec ℕ Global) V S) → key ≡ name → given ≡ held
+    → UpdatesBy (λ (x y : Vec ℕ Global). bytes_eq x.items y.items) (λ (k : Vec ℕ Global). bytes_eq key k.items) old new (Some given)
+    → UpdatesBy (λ (x y : Vec ℕ Global). bytes_eq x.items y.items) (λ (k : Vec ℕ Global). bytes_eq name k.items) old new (Some held)
+put_named key name given held old new same is u =
+    subst (λ v. UpdatesBy (λ (x y : Vec ℕ Global). bytes_eq x.items y.items) (λ (k : Vec ℕ Global). bytes_eq name k.items) old new (Some v)) is
+    (subst (λ q. UpdatesBy (λ (x y : Vec ℕ Global). bytes_eq x.items y.items) (λ (k : Vec ℕ Global). bytes_eq q k.items) old new (Some given)) same u)
 
 -- a map that was updated at a name is a store that was
 pub updated : {S : Type 0} (limit : ℕ) (columns : Option (List Column)) (query : Option Checked) (saved : List (Vec ℕ Global × List ℕ)) (name : List ℕ) (held : Held) (old new : HashMap (Vec ℕ Global) Held S)
@@ -108,6 +117,18 @@ fits_updated world old new name held u fits f =
 -- the files are what was saved, where they stay
 saved_still : (state : State) (old new : Store) → new.saved ≡ old.saved → Represents state old → (name : List ℕ) → AreSaved (state.saved name) (saved_at new name)
 saved_still state old new stay r name = subst (AreSaved (state.saved name)) (sym (files_at old new stay name)) (r.saved name)
+
+-- where one name has another replica now, and the state knows what that tells, the state stands for the store again
+represents_updated : (state : State) (old new : Store) (name : List ℕ) (held : Held) (known : Knowledge) → Represents state old → Updates old new name held → known ≡ knowledge_of held
+    → Represents (record state { replicas = with_replica state.replicas name known }) new
+represents_updated state old new name held known r u same =
+    record {
+      columns = r.columns ∙ sym u.columns;
+      query = r.query ∙ sym u.query;
+      replicas = λ other. ap (λ k. with_replica state.replicas name k other) same ∙ known_updated state old new name held r u other;
+      saved = saved_still state old new u.saved r;
+      limit = r.limit ∙ sym u.limit;
+    }
 
 -- ---- refusals
 
@@ -330,6 +351,14 @@ loaded_asks store saved bytes later is there same =
     let file = subst (λ o. IfSome o (IsFileOf store.query)) there (is.files saved) in
     file.asked ∙ ap (λ (h : Held). Some h.query) (sym (same file.held file.is))
 
+-- ---- a command's steps, told of the store as it is called
+
+pub leaves_it : {honest : Bool} {request : Request} {owned : List Record} {reply : Reply} {old now : Store} → old ≡ now → Steps honest request owned old reply old → Steps honest request owned now reply now
+leaves_it {honest = honest} {request = request} {owned = owned} {reply = reply} same steps = subst (λ s. Steps honest request owned s reply s) same steps
+
+pub turns_it : {honest : Bool} {request : Request} {owned : List Record} {reply : Reply} {old now new : Store} → old ≡ now → Steps honest request owned old reply new → Steps honest request owned now reply new
+turns_it {honest = honest} {request = request} {owned = owned} {reply = reply} {new = new} same steps = subst (λ s. Steps honest request owned s reply new) same steps
+
 -- ---- replies, over a disk of tapes that may be honest
 
 module _ {honest : Bool} where
@@ -520,13 +549,7 @@ module _ {honest : Bool} where
               ∙ ap (λ known. replica_reply (Some query) known name.now) (r.replicas name.now ∙ ap (option_map knowledge_of) (none_there (replica_at old name.now) none))))));
           strict = λ right world f agrees. inr (sym (ap (λ q. replica_reply q (state.replicas name.now) name.now) (r.query ∙ told)
               ∙ ap (λ known. replica_reply (Some query) known name.now) (r.replicas name.now ∙ ap (option_map knowledge_of) (none_there (replica_at old name.now) none))));
-          represents = record {
-            columns = r.columns ∙ sym u.columns;
-            query = r.query ∙ sym u.query;
-            replicas = known_updated state old new name.now (record { query = query; parts = [] }) r u;
-            saved = saved_still state old new u.saved r;
-            limit = r.limit ∙ sym u.limit;
-          };
+          represents = represents_updated state old new name.now (record { query = query; parts = [] }) nothing r u refl;
           refused = refl;
           faulted = refl;
           fits = λ right world f agrees. fits_updated world old new name.now (record { query = query; parts = [] }) u (fits_nothing query world) f;
@@ -602,15 +625,8 @@ module _ {honest : Bool} where
               (inl (record { what = takes.fed; is_so = subst (λ cs. IsBatch (kinds cs) origin number told_rows owned takes.fed) (sym (feed_columns state old name held r is there)) takes.is_batch; says = ap (machine.Took name takes.fed) takes.reply })))));
           strict = λ right world f agrees. inr (subst (λ known. FeedReply (unwrap_or state.columns []) known name origin number told_rows owned (machine.Took name takes.fed delivered)) (sym (known_there state old name held r there))
               (inl (record { what = takes.fed; is_so = subst (λ cs. IsBatch (kinds cs) origin number told_rows owned takes.fed) (sym (feed_columns state old name held r is there)) takes.is_batch; says = ap (machine.Took name takes.fed) takes.reply })));
-          represents = record {
-            columns = r.columns ∙ sym u.columns;
-            query = r.query ∙ sym u.query;
-            replicas = λ other. ap (λ known. with_replica state.replicas name known other)
-                (ap (λ known. learn (unwrap_or known nothing) (takes.fed.origin, takes.fed.number)) (known_there state old name held r there) ∙ sym takes.learns)
-                ∙ known_updated state old new name later r u other;
-            saved = saved_still state old new u.saved r;
-            limit = r.limit ∙ sym u.limit;
-          };
+          represents = represents_updated state old new name later _ r u
+              (ap (λ known. learn (unwrap_or known nothing) (takes.fed.origin, takes.fed.number)) (known_there state old name held r there) ∙ sym takes.learns);
           refused = refl;
           faulted = refl;
           fits = λ right world f agrees. fits_updated world old new name later u
@@ -731,15 +747,8 @@ module _ {honest : Bool} where
               said = machine.Merged into from;
               may = inl (inl (inr reply));
               strict = λ right world f agrees. inr reply;
-              represents = record {
-                columns = r.columns ∙ sym u.columns;
-                query = r.query ∙ sym u.query;
-                replicas = λ other. ap (λ known. with_replica state.replicas into known other)
-                    ((λ i. union (unwrap_or (known_there state old into own r one i) nothing) (unwrap_or (known_there state old from theirs r two i) nothing)) ∙ sym learns)
-                    ∙ known_updated state old new into later r u other;
-                saved = saved_still state old new u.saved r;
-                limit = r.limit ∙ sym u.limit;
-              };
+              represents = represents_updated state old new into later _ r u
+                  ((λ i. union (unwrap_or (known_there state old into own r one i) nothing) (unwrap_or (known_there state old from theirs r two i) nothing)) ∙ sym learns);
               refused = refl;
               faulted = refl;
               fits = λ right world f agrees. fits_updated world old new into later u
@@ -815,13 +824,7 @@ module _ {honest : Bool} where
             said = machine.Loaded name known;
             may = inl (inl (inr reply));
             strict = λ right world f agrees. inr reply;
-            represents = record {
-              columns = r.columns ∙ sym u.columns;
-              query = r.query ∙ sym u.query;
-              replicas = λ other. ap (λ k. with_replica state.replicas name k other) (sym are.tells ∙ ap knowledge_of (sym (is are.held are.is))) ∙ known_updated state old new name later r u other;
-              saved = saved_still state old new u.saved r;
-              limit = r.limit ∙ sym u.limit;
-            };
+            represents = represents_updated state old new name later _ r u (sym are.tells ∙ ap knowledge_of (sym (is are.held are.is)));
             refused = refl;
             faulted = refl;
             fits = λ right world f agrees.

@@ -5,7 +5,7 @@ use Rattle.script_commands.specs.Commands as ask
 use Rattle.script_machine.proofs.Words.{WorksAtLimit, Store, Steps, Updates}
 use Rattle.replies.specs.declared.refusal.Refusal.TheVariants as why
 use Rattle.replies.specs.declared.reply.Reply.TheVariants as says
-use Rattle.script_machine.proofs.StoreLaws.{disagrees_or, feed_disagrees, feed_nowhere, feed_refused, feed_took, same_updated, store_replaced, updated}
+use Rattle.script_machine.proofs.StoreLaws.{disagrees_or, feed_disagrees, feed_nowhere, feed_refused, feed_took, same_updated, store_replaced, turns_it, updated}
 use Rattle.script_machine.proofs.session.Session.feed.Goals as goal
 use Rattle.script_machine.proofs.session.Session.feed.Goals.{in-Ok, in-Err}
 
@@ -13,10 +13,8 @@ pub returns-in_default-clause-answers : goal.returns-in_default-clause-answers
 returns-in_default-clause-answers g c =
     let request = ask.Feed c.args.name.now c.args.origin.now c.args.number.now c.args.told in
     let owned = take c.args.told c.args.records.now in
-    let new : Store = record { columns = c.self.inside.columns; query = c.self.inside.query; replicas = c.get_mut.follows.lender-at-none.entries; saved = c.self.inside.saved.entries; limit = c.self.inside.means.limit } in
     let old : Store = record { columns = c.self.inside.columns; query = c.self.inside.query; replicas = c.self.inside.replicas.entries; saved = c.self.inside.saved.entries; limit = c.self.inside.means.limit } in
-    subst (λ s. Steps (g.D.TapeDisk.honest c.args.disk.now) request owned s (says.Refused why.NoSuchName) new) c.self.view_is
-    (subst (λ m. Steps (g.D.TapeDisk.honest c.args.disk.now) request owned old (says.Refused why.NoSuchName) (record { columns = c.self.inside.columns; query = c.self.inside.query; replicas = m.entries; saved = c.self.inside.saved.entries; limit = c.self.inside.means.limit })) (sym c.get_mut.follows.holds-at-none)
+    turns_it c.self.view_is (subst (λ m. Steps (g.D.TapeDisk.honest c.args.disk.now) request owned old (says.Refused why.NoSuchName) (record { columns = c.self.inside.columns; query = c.self.inside.query; replicas = m.entries; saved = c.self.inside.saved.entries; limit = c.self.inside.means.limit })) (sym c.get_mut.follows.holds-at-none)
     (feed_nowhere old c.args.name.now c.args.origin.now c.args.number.now c.args.told owned (sym c.in_default.ensures.value)))
 
 pub invariant_of-self-in_err-delivered : goal.invariant_of-self-in_err-delivered
@@ -44,8 +42,7 @@ returns-clause-answers g c =
       | in-Ok w ↦
           let took = rw w.in-Ok.is at c.in_ok-delivered.ensures.took in
           rw w.result-is
-          (subst (λ s. Steps (g.D.TapeDisk.honest c.args.disk.now) request owned s (says.Delivered w.in-Ok.delivered) new) c.self.view_is
-          (feed_took old new c.args.name.now c.args.origin.now c.args.number.now c.args.told owned c.in-Some.replica.now c.deliver.new.replica w.in-Ok.delivered
+          (turns_it c.self.view_is (feed_took old new c.args.name.now c.args.origin.now c.args.number.now c.args.told owned c.in-Some.replica.now c.deliver.new.replica w.in-Ok.delivered
           c.self.invariant there took u))
       | in-Err w ↦
           let stays = rw w.in-Err.is at c.in_ok-delivered.ensures.same in
@@ -53,8 +50,7 @@ returns-clause-answers g c =
           let undamaged = rw w.in-Err.is at c.in_ok-delivered.ensures.undamaged in
           let is_none = rw w.in-Err.is at c.in_ok-delivered.ensures.why in
           rw w.result-is
-          (subst (λ s. Steps (g.D.TapeDisk.honest c.args.disk.now) request owned s (says.Refused w.in-Err.why) new) c.self.view_is
-          (elim (disagrees_or w.in-Err.why) [
+          (turns_it c.self.view_is (elim (disagrees_or w.in-Err.why) [
             | inl is ↦ subst (λ why'. Steps (g.D.TapeDisk.honest c.args.disk.now) request owned old (says.Refused why') new) (sym is.2)
                 (feed_disagrees old new c.args.name.now c.args.origin.now c.args.number.now c.args.told owned c.in-Some.replica.now
                 c.self.invariant there (same_updated old new c.args.name.now c.in-Some.replica.now (subst (Updates old new c.args.name.now) stays u) there) (other is.0 is.1 is.2) is.0 is.1)

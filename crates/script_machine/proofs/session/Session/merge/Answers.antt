@@ -1,11 +1,10 @@
 use Rattle.std.specs.Prelude.{◌≡◌, Some}
 use Rattle.std.proofs.Common.{◌∙◌, ap, sym, subst}
 use Rattle.std.specs.Option.{is_some}
-use Rattle.script_machine.proofs.Words.{Checked, Held, Fits, Store, Steps, Updates, replica_at}
+use Rattle.script_machine.proofs.Words.{Checked, Held, Fits, Store, Updates, replica_at}
 use Rattle.script_commands.specs.Commands as ask
 use Rattle.replies.specs.Joining.{JoinsHeld}
-use Rattle.replies.specs.declared.reply.Reply.TheVariants as says
-use Rattle.script_machine.proofs.StoreLaws.{merge_refused, merged, one_query, one_there, store_replaced, updated}
+use Rattle.script_machine.proofs.StoreLaws.{merge_refused, merged, one_query, one_there, store_replaced, turns_it, updated}
 use Rattle.script_machine.proofs.session.Session.merge.Goals as goal
 
 pub returns-in-Err-clause-answers : goal.returns-in-Err-clause-answers
@@ -31,8 +30,7 @@ returns-clause-answers g c = λ owned.
     let theirs : Held = found.1 in
     let joins : JoinsHeld (g.D.TapeDisk.honest c.args.disk.now) own theirs c.in-Ok.joined = subst (λ (h : Held). JoinsHeld (g.D.TapeDisk.honest c.args.disk.now) h theirs c.in-Ok.joined) (one_there found.0 own found.2 there) found.4 in
     let same : own.query ≡ theirs.query = one_query old c.args.into.now c.args.from.now own theirs c.self.invariant there found.3 in
-    subst (λ (s : Store). Steps (g.D.TapeDisk.honest c.args.disk.now) request owned s says.Merged new) c.self.view_is
-    (merged old new c.args.into.now c.args.from.now owned own theirs c.commit.new.self c.self.invariant there found.3
+    turns_it c.self.view_is (merged old new c.args.into.now c.args.from.now owned own theirs c.commit.new.self c.self.invariant there found.3
     (c.commit.ensures.told (g.D.TapeDisk.honest c.args.disk.now) theirs.parts joins.held joins.aside)
     (λ right world is fits fits_theirs. c.commit.ensures.fits (g.D.TapeDisk.honest c.args.disk.now) right theirs.parts joins.held joins.aside world is fits (subst (λ (q : Checked). Fits world (record { query = q; parts = theirs.parts })) (sym same) fits_theirs))
     u)

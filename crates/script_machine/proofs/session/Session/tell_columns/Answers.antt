@@ -1,11 +1,10 @@
 use Rattle.std.specs.Prelude.{◌≡◌, Some, false}
 use Rattle.std.proofs.Common.{◌∙◌, ap, sym, subst}
 use Rattle.std.specs.Option.{is_some}
-use Rattle.script_commands.specs.Commands as ask
-use Rattle.script_machine.proofs.Words.{is_tape_fault, Store, Steps}
+use Rattle.script_machine.proofs.Words.{is_tape_fault, Store}
 use Rattle.replies.specs.declared.reply.Reply.TheVariants as says
 use Rattle.replies.specs.RefusalLaws.{row_tells}
-use Rattle.script_machine.proofs.StoreLaws.{columns_there, no_schema, columns_told}
+use Rattle.script_machine.proofs.StoreLaws.{columns_there, columns_told, no_schema, turns_it}
 use Rattle.script_machine.proofs.session.Session.tell_columns.Goals as goal
 
 pub returns-then-is_some-clause-answers : goal.returns-then-is_some-clause-answers
@@ -14,9 +13,7 @@ returns-then-is_some-clause-answers c = λ honest owned. columns_there c.args.se
 
 pub returns-in-Ok-clause-answers : goal.returns-in-Ok-clause-answers
 returns-in-Ok-clause-answers c = λ honest owned.
-    let new : Store = record { columns = Some c.in-Ok.schema; query = c.self.inside.query; replicas = c.self.inside.replicas.entries; saved = c.self.inside.saved.entries; limit = c.self.inside.means.limit } in
-    subst (λ s. Steps honest (ask.Columns c.args.text.now) owned s (says.Columns c.width-count.result) new) c.self.view_is
-    (columns_told _ c.args.text.now owned c.in-Ok.schema c.width-count.result (sym c.is_some.ensures ∙ c.if-is_some.false) c.in-Ok.ensures.parsed c.width-count.ensures.width)
+    turns_it c.self.view_is (columns_told _ c.args.text.now owned c.in-Ok.schema c.width-count.result (sym c.is_some.ensures ∙ c.if-is_some.false) c.in-Ok.ensures.parsed c.width-count.ensures.width)
 
 pub returns-in-Err : goal.returns-in-Err
 returns-in-Err c = record {
