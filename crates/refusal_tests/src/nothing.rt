@@ -23,16 +23,15 @@ fn with_hoard<R, F: FnOnce(Global, &mut Hoard) -> R>(rt: HostRuntime, calls: F) 
     Ok(calls(rt.alloc(), &mut hoard))
 }
 
-/// Fails where such calls do not answer that all is right.
-fn expect_right<E: Debug + Drop, F: FnOnce(Global, &mut Hoard) -> Result<bool, E>>(
+/// Whether such calls answer that all is right.
+fn are_right<E: Debug + Drop, F: FnOnce(Global, &mut Hoard) -> Result<bool, E>>(
     rt: HostRuntime,
     calls: F,
-) -> Result<(), Fail>
+) -> Result<bool, Fail>
     requires { F.IsAlwaysCallable calls }
 {
     let is_right = with_hoard(rt, calls)?;
-    assert!(rt; is_right?);
-    Ok(())
+    Ok(is_right?)
 }
 
 /// The bytes of a chunk.
@@ -101,7 +100,9 @@ fn prunes(tree: &mut Tree, hoard: &mut Hoard) -> Result<bool, TreeError> {
 
 #[test]
 fn trees_are_pruned(rt: HostRuntime) -> Result<(), Fail> {
-    expect_right(rt, |alloc, hoard| prunes(&mut Tree::new(alloc), hoard))
+    let is_right = are_right(rt, |alloc, hoard| prunes(&mut Tree::new(alloc), hoard))?;
+    assert!(rt; is_right);
+    Ok(())
 }
 
 /// Whether a group is found, and all are given up, with no memory.
@@ -124,9 +125,11 @@ fn clears(alloc: Global, tree: &mut Tree, hoard: &mut Hoard) -> Result<bool, Tre
 
 #[test]
 fn tables_are_cleared(rt: HostRuntime) -> Result<(), Fail> {
-    expect_right(rt, |alloc, hoard| {
+    let is_right = are_right(rt, |alloc, hoard| {
         clears(alloc, &mut Tree::new(alloc), hoard)
-    })
+    })?;
+    assert!(rt; is_right);
+    Ok(())
 }
 
 /// Opens a tape and appends a record to it.
@@ -162,9 +165,11 @@ fn closes(alloc: Global, tapes: &mut Tapes, hoard: &mut Hoard) -> Result<bool, T
 
 #[test]
 fn tapes_are_closed(rt: HostRuntime) -> Result<(), Fail> {
-    expect_right(rt, |alloc, hoard| {
+    let is_right = are_right(rt, |alloc, hoard| {
         closes(alloc, &mut Tapes::new(alloc), hoard)
-    })
+    })?;
+    assert!(rt; is_right);
+    Ok(())
 }
 
 /// What a replica answers, with no memory, to a batch that it knows.
@@ -196,7 +201,9 @@ fn knows_of(alloc: Global, site: &Site, hoard: &mut Hoard) -> Result<bool, Refus
 #[test]
 fn known_batches_are_known(rt: HostRuntime) -> Result<(), Fail> {
     let site = Site::few(rt.alloc())?;
-    expect_right(rt, |alloc, hoard| knows_of(alloc, &site, hoard))
+    let is_right = are_right(rt, |alloc, hoard| knows_of(alloc, &site, hoard))?;
+    assert!(rt; is_right);
+    Ok(())
 }
 
 /// What is replied to a command that was refused, and to one that was not, with no memory.
