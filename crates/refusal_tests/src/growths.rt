@@ -1,35 +1,23 @@
 //! The same calls with all memory, for `bin/refuse_growths`, which refuses the growths of each one by one: whichever these are, the test passes.
 
-use crate::sites::{Setting, Site};
+use crate::sites::Site;
 use crate::trials::Trial;
 use hash_agg::{LEAST_LIMIT, USUAL_LIMIT};
 use replies::Refusal;
-use std::alloc::Global;
 use std::test::*;
 use test_rooms::Room;
 
-/// Whether a trial of which growths may be refused is right, with a limit.
-fn is_right_within(alloc: Global, site: &Site, limit: u64, trial: Trial) -> Result<bool, Refusal> {
-    let mut setting = Setting {
-        alloc,
-        site,
-        limit,
-        room: Room::Marked(alloc),
-    };
-    Ok(trial.run(&mut setting)?.is_right())
-}
-
-/// The same with the least limit and with the usual one.
-fn is_right_on(alloc: Global, site: &Site, trial: Trial) -> Result<bool, Refusal> {
-    let least = is_right_within(alloc, site, LEAST_LIMIT, trial)?;
-    let usual = is_right_within(alloc, site, USUAL_LIMIT, trial)?;
-    Ok(least && usual)
+/// Whether a trial of which growths may be refused is right, with the least limit and with the usual one.
+fn is_right_on(rt: HostRuntime, site: &Site, trial: Trial) -> Result<bool, Refusal> {
+    let least = trial.run(rt, site, LEAST_LIMIT, &mut Room::Marked(rt.alloc()))?;
+    let usual = trial.run(rt, site, USUAL_LIMIT, &mut Room::Marked(rt.alloc()))?;
+    Ok(least.is_right() && usual.is_right())
 }
 
 /// The same on a site of few rows.
 fn is_right(rt: HostRuntime, trial: Trial) -> Result<bool, Refusal> {
     let site = Site::few(rt.alloc())?;
-    let right = is_right_on(rt.alloc(), &site, trial);
+    let right = is_right_on(rt, &site, trial);
     drop(site);
     right
 }

@@ -11,28 +11,8 @@ use replies::{Refusal, Reply, put_reply};
 use script_io::Fused;
 use spill_tapes::{TapeError, TapeId, Tapes};
 use std::alloc::{AllocError, Global};
-use std::fmt::Debug;
 use std::test::*;
 use test_rooms::Hoard;
-
-/// What calls answer that are lent all memory of the process, to leave none.
-fn with_hoard<R, F: FnOnce(Global, &mut Hoard) -> R>(rt: HostRuntime, calls: F) -> Result<R, Fail>
-    requires { F.IsAlwaysCallable calls }
-{
-    let mut hoard = Hoard::new(&rt)?;
-    Ok(calls(rt.alloc(), &mut hoard))
-}
-
-/// Whether such calls answer that all is right.
-fn are_right<E: Debug + Drop, F: FnOnce(Global, &mut Hoard) -> Result<bool, E>>(
-    rt: HostRuntime,
-    calls: F,
-) -> Result<bool, Fail>
-    requires { F.IsAlwaysCallable calls }
-{
-    let is_right = with_hoard(rt, calls)?;
-    Ok(is_right?)
-}
 
 /// The bytes of a chunk.
 const CHUNK: &[u8] = b"8 bytes.";
@@ -78,7 +58,10 @@ fn contexts_told(alloc: Global, hoard: &mut Hoard) -> Result<[bool; 4], ContextE
 
 #[test]
 fn contexts_give_up_chunks(rt: HostRuntime) -> Result<(), Fail> {
-    assert!(rt; with_hoard(rt, contexts_told)? == Ok([true; 4]));
+    let mut hoard = Hoard::new(&rt)?;
+    let told = contexts_told(rt.alloc(), &mut hoard);
+    drop(hoard);
+    assert!(rt; told == Ok([true; 4]));
     Ok(())
 }
 
@@ -100,8 +83,12 @@ fn prunes(tree: &mut Tree, hoard: &mut Hoard) -> Result<bool, TreeError> {
 
 #[test]
 fn trees_are_pruned(rt: HostRuntime) -> Result<(), Fail> {
-    let is_right = are_right(rt, |alloc, hoard| prunes(&mut Tree::new(alloc), hoard))?;
-    assert!(rt; is_right);
+    let mut hoard = Hoard::new(&rt)?;
+    let mut tree = Tree::new(rt.alloc());
+    let told = prunes(&mut tree, &mut hoard);
+    drop(hoard);
+    drop(tree);
+    assert!(rt; told == Ok(true));
     Ok(())
 }
 
@@ -125,10 +112,12 @@ fn clears(alloc: Global, tree: &mut Tree, hoard: &mut Hoard) -> Result<bool, Tre
 
 #[test]
 fn tables_are_cleared(rt: HostRuntime) -> Result<(), Fail> {
-    let is_right = are_right(rt, |alloc, hoard| {
-        clears(alloc, &mut Tree::new(alloc), hoard)
-    })?;
-    assert!(rt; is_right);
+    let mut hoard = Hoard::new(&rt)?;
+    let mut tree = Tree::new(rt.alloc());
+    let told = clears(rt.alloc(), &mut tree, &mut hoard);
+    drop(hoard);
+    drop(tree);
+    assert!(rt; told == Ok(true));
     Ok(())
 }
 
@@ -165,10 +154,12 @@ fn closes(alloc: Global, tapes: &mut Tapes, hoard: &mut Hoard) -> Result<bool, T
 
 #[test]
 fn tapes_are_closed(rt: HostRuntime) -> Result<(), Fail> {
-    let is_right = are_right(rt, |alloc, hoard| {
-        closes(alloc, &mut Tapes::new(alloc), hoard)
-    })?;
-    assert!(rt; is_right);
+    let mut hoard = Hoard::new(&rt)?;
+    let mut tapes = Tapes::new(rt.alloc());
+    let told = closes(rt.alloc(), &mut tapes, &mut hoard);
+    drop(hoard);
+    drop(tapes);
+    assert!(rt; told == Ok(true));
     Ok(())
 }
 
@@ -201,8 +192,10 @@ fn knows_of(alloc: Global, site: &Site, hoard: &mut Hoard) -> Result<bool, Refus
 #[test]
 fn known_batches_are_known(rt: HostRuntime) -> Result<(), Fail> {
     let site = Site::few(rt.alloc())?;
-    let is_right = are_right(rt, |alloc, hoard| knows_of(alloc, &site, hoard))?;
-    assert!(rt; is_right);
+    let mut hoard = Hoard::new(&rt)?;
+    let told = knows_of(rt.alloc(), &site, &mut hoard);
+    drop(hoard);
+    assert!(rt; told == Ok(true));
     Ok(())
 }
 
@@ -222,7 +215,9 @@ fn replies(alloc: Global, hoard: &mut Hoard) -> Result<Vec<u8>, AllocError> {
 
 #[test]
 fn replies_go_out(rt: HostRuntime) -> Result<(), Fail> {
-    let written = with_hoard(rt, replies)?;
+    let mut hoard = Hoard::new(&rt)?;
+    let written = replies(rt.alloc(), &mut hoard);
+    drop(hoard);
     assert!(rt; written?.as_slice() == b"refused NoMemory\nsaved 180\n".as_slice());
     Ok(())
 }

@@ -1,11 +1,10 @@
 //! Calls in rooms of more and more bytes, until none is refused.
 
 use crate::met::{Met, met_if};
-use crate::sites::{Setting, Site};
+use crate::sites::Site;
 use crate::trials::Trial;
 use hash_agg::{LEAST_LIMIT, USUAL_LIMIT};
 use replies::Refusal;
-use std::alloc::Global;
 use std::test::*;
 use test_rooms::{Hoard, Room};
 use test_tables::expect;
@@ -20,7 +19,7 @@ const LARGE_STEP: usize = 512;
 
 /// Makes a trial in larger and larger rooms, the first of no byte, until it meets no refusal.
 fn try_rooms(
-    alloc: Global,
+    rt: HostRuntime,
     hoard: &mut Hoard,
     site: &Site,
     limit: u64,
@@ -28,14 +27,8 @@ fn try_rooms(
     trial: Trial,
 ) -> Result<Met, Refusal> {
     for count in 0..MOST_ROOMS {
-        let room = Room::Small(&mut *hoard, step.saturating_mul(count as usize));
-        let mut setting = Setting {
-            alloc,
-            site,
-            limit,
-            room,
-        };
-        match trial.run(&mut setting)? {
+        let mut room = Room::Small(&mut *hoard, step.saturating_mul(count as usize));
+        match trial.run(rt, site, limit, &mut room)? {
             Met::Refusal => {}
             Met::Nothing => return Ok(met_if(count > 0, Met::Refusal, Met::NoGrowth)),
             wrong => return Ok(wrong),
@@ -46,7 +39,7 @@ fn try_rooms(
 
 /// The same with each limit.
 fn try_limits(
-    alloc: Global,
+    rt: HostRuntime,
     hoard: &mut Hoard,
     site: &Site,
     limits: &[u64],
@@ -54,7 +47,7 @@ fn try_limits(
     trial: Trial,
 ) -> Result<Met, Refusal> {
     for limit in limits {
-        let met = try_rooms(alloc, hoard, site, *limit, step, trial)?;
+        let met = try_rooms(rt, hoard, site, *limit, step, trial)?;
         if met != Met::Refusal {
             return Ok(met);
         }
@@ -70,15 +63,9 @@ fn told(
     step: usize,
     trial: Trial,
 ) -> Result<String, Fail> {
-    let mut ample = Setting {
-        alloc: rt.alloc(),
-        site,
-        limit: LEAST_LIMIT,
-        room: Room::Open,
-    };
-    let ample = trial.run(&mut ample)?;
+    let ample = trial.run(rt, site, LEAST_LIMIT, &mut Room::Open)?;
     let mut hoard = Hoard::new(&rt)?;
-    let small = try_limits(rt.alloc(), &mut hoard, site, limits, step, trial);
+    let small = try_limits(rt, &mut hoard, site, limits, step, trial);
     drop(hoard);
     Ok(format!(in rt.alloc(); "{ample:?} {:?}", small?)?)
 }

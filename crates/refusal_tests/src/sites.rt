@@ -12,7 +12,6 @@ use having_filter::Query;
 use replica_merge::Replica;
 use replies::{Format, Refusal, origin_lines, table};
 use std::alloc::Global;
-use test_rooms::Room;
 use test_towns::{COLUMNS, TOWNS};
 
 /// A batch of some rows: its origin and its number.
@@ -151,13 +150,4 @@ impl Site {
         let batch = read_batch(alloc, schema, &self.next)?;
         Ok(batch)
     }
-}
-
-/// What a trial is made with: a site, a limit of the memory of tables, and where the call finds memory.
-#[derive(Drop)]
-pub(crate) struct Setting<'s, 'h> {
-    pub(crate) alloc: Global,
-    pub(crate) site: &'s Site,
-    pub(crate) limit: u64,
-    pub(crate) room: Room<'h>,
 }

@@ -3,8 +3,9 @@
 use crate::calls::{answer, deliver, keep, merge, read};
 use crate::met::Met;
 use crate::parts::{aggregate_rows, decode_file, encode_file, join_parts};
-use crate::sites::Setting;
+use crate::sites::Site;
 use replies::Refusal;
+use test_rooms::Room;
 
 /// A call that is made in a room, and again where it is refused.
 #[derive(Clone, Copy)]
@@ -30,18 +31,24 @@ pub(crate) enum Trial {
 }
 
 impl Trial {
-    /// Makes the trial.
-    pub(crate) fn run(self, at: &mut Setting<'_, '_>) -> Result<Met, Refusal> {
+    /// Makes the trial over a site, with a limit of the memory of its tables.
+    pub(crate) fn run(
+        self,
+        rt: HostRuntime,
+        site: &Site,
+        limit: u64,
+        room: &mut Room<'_>,
+    ) -> Result<Met, Refusal> {
         match self {
-            Trial::Deliver => deliver(at),
-            Trial::Merge => merge(at),
-            Trial::Answer => answer(at),
-            Trial::Save => keep(at),
-            Trial::Load => read(at),
-            Trial::Encode => encode_file(at),
-            Trial::Decode => decode_file(at),
-            Trial::Aggregate => aggregate_rows(at),
-            Trial::Join => join_parts(at),
+            Trial::Deliver => deliver(rt, site, limit, room),
+            Trial::Merge => merge(rt, site, limit, room),
+            Trial::Answer => answer(rt, site, room),
+            Trial::Save => keep(rt, site, room),
+            Trial::Load => read(rt, site, room),
+            Trial::Encode => encode_file(rt, site, room),
+            Trial::Decode => decode_file(rt, site, room),
+            Trial::Aggregate => aggregate_rows(rt, site, limit, room),
+            Trial::Join => join_parts(rt, site, limit, room),
         }
     }
 }
