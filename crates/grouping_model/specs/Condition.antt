@@ -89,10 +89,14 @@ holds_of At_most order = is_le order
 holds_of More order = is_gt order
 holds_of At_least order = is_ge order
 
--- a comparison: unknown where there is no order, which is where a side is null (PostgreSQL 17, 9.2)
-abbrev pub compared : Comparison → Option Ordering → Truth
-compared comparison None = Unknown
-compared comparison (Some order) = truth_of_bool (holds_of comparison order)
+-- a comparison by order: unknown where there is none, which is where a side is null (PostgreSQL 17, 9.2)
+abbrev pub by_order : Comparison → Option Ordering → Truth
+by_order comparison None = Unknown
+by_order comparison (Some order) = truth_of_bool (holds_of comparison order)
+
+-- a comparison of two values, which all go by the order (PostgreSQL 17, Table 9.1)
+abbrev pub compared : Comparison → Outcome → Outcome → Truth
+compared comparison x y = by_order comparison (outcome_cmp x y)
 
 -- an IS test: IS NULL and IS UNKNOWN are true of null alone, IS TRUE and IS FALSE are false of null (PostgreSQL 17, 9.2)
 abbrev pub passes : Test → Outcome → Bool
@@ -109,7 +113,7 @@ value_of leaf (Literal value) = Plain value
 value_of leaf (Not c) = as_outcome (truth_not (truth (value_of leaf c)))
 value_of leaf (And c d) = as_outcome (truth_and (truth (value_of leaf c)) (truth (value_of leaf d)))
 value_of leaf (Or c d) = as_outcome (truth_or (truth (value_of leaf c)) (truth (value_of leaf d)))
-value_of leaf (Compare comparison c d) = as_outcome (compared comparison (outcome_cmp (value_of leaf c) (value_of leaf d)))
+value_of leaf (Compare comparison c d) = as_outcome (compared comparison (value_of leaf c) (value_of leaf d))
 value_of leaf (Is test c) = Plain (Boolean (passes test (value_of leaf c)))
 value_of leaf (Is_not test c) = Plain (Boolean (not (passes test (value_of leaf c))))
 

@@ -17,7 +17,7 @@ ghost use Rattle.grouping_model.specs.Combining.{combine, transition};
 ghost use Rattle.grouping_model.specs.World.{World, Batch, Knowledge, batch_cmp, knowing, nothing, knows, learn, union, IsUnbroken, prefix, early, origins, count_up, batch_rows, origin_rows};
 ghost use Rattle.std.specs.Cmp.{IsTotalOrder};
 ghost use Rattle.std.specs.declared.cmp.Ordering.TheVariants.{Less};
-ghost use Rattle.grouping_model.specs.Condition.{Truth, Unknown, Comparison, truth_not, truth_and, truth_or, outcome_cmp, compared, truth, as_outcome, is_met};
+ghost use Rattle.grouping_model.specs.Condition.{Truth, Unknown, Comparison, truth_not, truth_and, truth_or, outcome_cmp, by_order, truth, as_outcome, is_met};
 ghost use Rattle.grouping_model.specs.Answer.{answer, answer_over};
 ghost use Rattle.grouping_model.specs.Order.{Term, comes_before, ordered};
 ghost use Rattle.grouping_model.specs.Datum.{Datum, Kind, HasKind, HasKinds, datum_cmp, Row, row_cmp, same_row, Null, Boolean, Text};
@@ -126,16 +126,16 @@ pub fn ordering()
     ensures same { (x y : Row) → IsTrue (same_row x y) ↔ (x ≡ y) }
 {}
 
-/// Three-valued logic: AND and OR are each other's mirror under NOT, and a comparison with null is unknown.
+/// Three-valued logic: AND and OR are each other's mirror under NOT, and a comparison by order with null is unknown.
 pub fn three_values()
     ensures and_commutes { (s t : Truth) → truth_and s t ≡ truth_and t s }
     ensures not_and { (s t : Truth) → truth_not (truth_and s t)
         ≡ truth_or (truth_not s) (truth_not t) }
     ensures not_not { (s : Truth) → truth_not (truth_not s) ≡ s }
     ensures null_left { (comparison : Comparison) (x : Outcome) →
-        compared comparison (outcome_cmp (Plain Null) x) ≡ Unknown }
+        by_order comparison (outcome_cmp (Plain Null) x) ≡ Unknown }
     ensures null_right { (comparison : Comparison) (x : Outcome) →
-        compared comparison (outcome_cmp x (Plain Null)) ≡ Unknown }
+        by_order comparison (outcome_cmp x (Plain Null)) ≡ Unknown }
     ensures kept { (t : Truth) → truth (as_outcome t) ≡ t }
 {}
 

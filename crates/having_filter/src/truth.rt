@@ -93,7 +93,7 @@ pub(crate) fn compare(
     y: ResultValue<'_>,
 ) -> Option<bool>
     ensures { truth_of result ≡
-        compared (comparison_of comparison) (outcome_cmp (outcome_of x.entry) (outcome_of y.entry)) }
+        compared (comparison_of comparison) (outcome_of x.entry) (outcome_of y.entry) }
 {
     match order(x, y) {
         Some(order) => Some(comparison.holds(order)),

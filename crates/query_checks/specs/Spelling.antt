@@ -47,18 +47,23 @@ abbrev pub unary_level : Unary_operator → ℕ
 unary_level Negation = 3
 unary_level (Testing test negated) = 4
 
+-- what no operator makes binds the most
+abbrev pub operand_level : ℕ
+operand_level = 6
+
 abbrev pub level : {C : Type 0} → Form C → ℕ
 level (Unary operator x) = unary_level operator
 level (Binary operator x y) = binary_level operator
-level other = 6
+level other = operand_level
 
 -- how tightly the operands of an operator must bind to stand without parentheses, the left one and the right one: AND and
--- OR group to the left, and a comparison takes no condition of two operands
+-- OR group to the left, and a comparison takes nothing on its left that binds as it does, and on its right no operator at all
 abbrev pub left_level : Binary_operator → ℕ
 left_level (Comparing comparison) = binary_level (Comparing comparison) + 1
 left_level operator = binary_level operator
 
 abbrev pub right_level : Binary_operator → ℕ
+right_level (Comparing comparison) = operand_level
 right_level operator = binary_level operator + 1
 
 -- an operand: in parentheses where it binds less tightly than its place asks

@@ -157,7 +157,7 @@ fn push_condition(text: &mut String, condition: &Cond<String>) -> Result<(), All
         }
         Cond::Compare(comparison, c, d) => {
             push_operand(text, comparison.level() + 1, c)?;
-            push_behind(text, comparison.text(), comparison.level() + 1, d)
+            push_behind(text, comparison.text(), 6, d)
         }
         Cond::Is {
             test,

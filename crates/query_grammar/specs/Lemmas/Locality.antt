@@ -197,7 +197,7 @@ pub record Inners (d : Bool) (one two : List Lexeme) (most : ℕ) (f g : Inner) 
   pub right : InnerMeans f
   pub right_too : InnerMeans g
 
-prims_agree : (d : Bool) (one two : List Lexeme) (most : ℕ) (f g : Inner) → Inners d one two most f g → (room wide : ℕ) (fits : Rooms d room wide) → Agree d one two (suc most) (prim_at f room) (prim_at g wide)
+pub prims_agree : (d : Bool) (one two : List Lexeme) (most : ℕ) (f g : Inner) → Inners d one two most f g → (room wide : ℕ) (fits : Rooms d room wide) → Agree d one two (suc most) (prim_at f room) (prim_at g wide)
 prims_agree d one two most f g a room wide fits = record {
   alike = prim_alike d one two a.tails most f g a.agree room wide fits;
   stays = stays_of _ (prim_at f room) (prim_means f a.right room);

@@ -37,7 +37,7 @@ Tested_part limit room = λ b ts x. IsTested (allowed b limit) (allowed b room) 
 abbrev pub Compared_part : ℕ → ℕ → Part Named
 Compared_part limit room = λ b ts x. IsCompared (allowed b limit) (allowed b room) ts x
 
-abbrev Operand_part : ℕ → ℕ → Part Named
+abbrev pub Operand_part : ℕ → ℕ → Part Named
 Operand_part limit room = λ b ts x. IsOperand (allowed b limit) (allowed b room) ts x
 
 abbrev pub Call_part : ℕ → Part Named
