@@ -8,7 +8,7 @@ use Rattle.std.proofs.Math.Nat.{le_trans, suc-ne-zero, add_comm, suc-mul, add-le
 use Rattle.grouping_model.specs.Aggregates.{Function, Partial}
 use Rattle.grouping_model.specs.Query.{Aggregate}
 use Rattle.agg_protocol.specs.States as states
-use Rattle.agg_protocol.specs.States.{IsState, Shape, A_sum, bytes_of, widest_is_sum, shape_of}
+use Rattle.agg_protocol.specs.States.{IsState, Shape, bytes_of, widest_is_sum, shape_of}
 use Rattle.agg_protocol.specs.DenotingLaws.{width_known, within, state_rows}
 use Rattle.agg_protocol.specs.declared.kind.AggKind.{AggKind}
 use Rattle.agg_protocol.specs.Kinds.{function_of, functions_of, kind_for, kind_for_names, kind_shape, kind_width, row_width}

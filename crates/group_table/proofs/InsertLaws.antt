@@ -1,5 +1,5 @@
 -- A group is taken, step by step.
-use Rattle.std.specs.Prelude.{◌≡◌, refl, ℕ, zero, suc, ◌+◌, ◌/◌, ◌≤◌, List, [], ◌∷◌, ◌++◌, Option, Some, None, option_map, map, slice_get, is_some, true, length, get_or}
+use Rattle.std.specs.Prelude.{◌≡◌, refl, ℕ, ◌+◌, ◌/◌, ◌≤◌, List, [], ◌∷◌, ◌++◌, Option, Some, None, option_map, slice_get}
 use Rattle.std.proofs.Common.{sym, ◌∙◌, ap, subst, arith, rules}
 use Rattle.group_table.proofs.Words.{ChunkName, growth_of, held_by, TreeState, context_at, held_below, Context, TableState, group_in, groups, HasNo, IsSameBut, array_growth, group_growth, IsSetWith, HasSpace, IsArrayOf, HasArray, IsPlaced, IsTableIn, OnlyIn, HasNext, IsNext, with_next, with_slot, with_spare, Slot}
 use Rattle.group_table.specs.Standing.{KeepsOthers}

@@ -1,8 +1,7 @@
 -- A chunk for the next array is taken.
 use Rattle.std.specs.Prelude.{◌≡◌, ◌≢◌, refl, ℕ, suc, ◌+◌, ◌*◌, ◌/◌, ◌<◌, ◌≤◌, max, nat_le, nat_lt, Bool, true, false, if◌then◌else◌, List, [], Option, Some, None, length, get_or, slice_range, is_some, unwrap_or, IsTrue}
-use Rattle.std.proofs.Common.{inl, inr, sym, ◌∙◌, ap, subst, arith, rules}
+use Rattle.std.proofs.Common.{sym, ◌∙◌, ap, subst, arith}
 use Rattle.std.proofs.lemmas.Bool.{leb-true, false_from_ne_true}
-use Rattle.std.proofs.lemmas.List.{get_or-take, get_or-drop, get_or_past, length-take}
 use Rattle.block_memory.specs.Cells.{zeros}
 use Rattle.group_table.proofs.Words.{total, ChunkName, is_live, Keeps, over_most, SetState, set_room, set_growth, set_taken, chunks_of, blocks_of, has_chunk, chunk_bytes, with_chunk, room_in, growth_of, held_by, TreeState, context_at, with_context, Context, AllocSet, number_at, bucket_in, bucket_at, TableState, buckets_in, buckets_for, most_buckets, array_growth, IsSetWith, IsFirst, IsBesideFirst, HasArray, HasSpace, IsBump, IsSlabOf, AreGroups, IsPlaced, IsStanding, IsTableIn, IsArrayIn, OnlyIn, IsSpare, count_of, MOST}
 use Rattle.chunk_contexts.specs.Chunks.{chunk_of}

@@ -1,5 +1,5 @@
 -- Options that are empty, and what is known of a result.
-use Rattle.std.specs.Prelude.{◌≡◌, refl, Bool, true, false, T, Option, Some, None, is_some, Result, Ok, Err, IfOk, OnOk, OnErr}
+use Rattle.std.specs.Prelude.{◌≡◌, refl, false, T, Option, Some, None, is_some, Result, Ok, Err, IfOk, OnOk, OnErr}
 use Rattle.std.proofs.Common.{subst}
 
 -- an option that has nothing

@@ -8,7 +8,7 @@ use Rattle.grouping_model.specs.Datum.{Kind}
 use Rattle.packed_rows.specs.Columns.{kinds}
 use Rattle.packed_rows.specs.PackingOrderLaws.{less}
 use Rattle.query_checks.specs.Checks.{Checked}
-use Rattle.origin_prefix.specs.Parts.{Batches, Part, IsEarly, IsPartOf, behind}
+use Rattle.origin_prefix.specs.Parts.{Batches, Part, IsEarly, IsPartOf}
 use Rattle.origin_prefix.specs.Lemmas.ByNumber.{numbers}
 
 above_next : (ks : List Kind) (prefix : ℕ) (batches : Batches) → AllByRecursion (IsEarly ks prefix) batches → AllByRecursion (λ m. nat_cmp (prefix + 1) m ≡ Less) (numbers batches)

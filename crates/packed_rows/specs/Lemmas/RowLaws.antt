@@ -6,7 +6,6 @@ use Rattle.packed_rows.specs.Field.{Reads, ReadsRow}
 use Rattle.std.proofs.lemmas.List.Concat.{flat_map-append}
 use Rattle.packed_rows.specs.Packing.{value_packing, packing}
 use Rattle.std.proofs.lemmas.List.{take_more, take_all}
-use Rattle.packed_rows.specs.declared.value.ValueKind.TheVariants as kind
 
 -- the first fields stand for values, and these are the values' bytes
 abbrev pub PackedSoFar : List Kind → List (List ℕ) → ℕ → List ℕ → Type 0

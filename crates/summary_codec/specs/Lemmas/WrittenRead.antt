@@ -10,7 +10,7 @@ use Rattle.std.specs.List.Sorted.{IsStrictlySortedBy}
 use Rattle.std.specs.Ordering.{nat_cmp}
 use Rattle.std.specs.Cmp.Lexicographic.{slice_cmp}
 use Rattle.grouping_model.specs.Aggregates.{Function, Partial}
-use Rattle.summary_codec.specs.Lemmas.Words.{Kind, Row, HasKinds, Group, Query, LAST_ORIGIN, MOST_COLUMNS, packing, packings, Column, kinds, printed, shape_of, width_of, IsCheckedQuery, by_names, key_kinds, Checked, meaning, spelling, Accepts, Entry, Rises, packed_keys, AreGroups, Part, IsEarly, IsPartOf, Parts, IsHeldPart, AreHeldParts, sized_bytes, batch_bytes, part_bytes, body_bytes, file_in, IsNext, IsPacking, AreStateBytes, states_width, MayFollow, row, batch, batches, contents, text, schema, query, parts, heading, rest, opened, body, IsSummaryIn, opening, last_number, most_batch_rows, IsBatchWithin, IsWithin, AreWithin, Version}
+use Rattle.summary_codec.specs.Lemmas.Words.{Kind, Row, HasKinds, Group, Query, LAST_ORIGIN, MOST_COLUMNS, packing, packings, Column, kinds, printed, shape_of, width_of, IsCheckedQuery, by_names, key_kinds, Checked, meaning, spelling, Accepts, Entry, Rises, packed_keys, AreGroups, Part, IsEarly, IsPartOf, Parts, IsHeldPart, AreHeldParts, sized_bytes, batch_bytes, part_bytes, body_bytes, file_in, IsNext, IsPacking, AreStateBytes, states_width, MayFollow, row, batch, batches, contents, text, schema, query, parts, heading, rest, opened, body, IsSummaryIn, last_number, most_batch_rows, IsBatchWithin, IsWithin, AreWithin, Version}
 use Rattle.packed_rows.specs.Lemmas.PrintedColumns.{printed_again}
 use Rattle.agg_protocol.specs.DenotingLaws.{width_known}
 use Rattle.agg_protocol.specs.declared.kind.AggKind.{AggKind}

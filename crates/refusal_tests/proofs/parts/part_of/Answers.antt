@@ -1,7 +1,7 @@
 use Rattle.std.specs.Prelude.{◌≡◌, None, Some, IfSome}
 use Rattle.std.specs.Option.{option_copied}
 use Rattle.std.proofs.Common.{sym}
-use Rattle.origin_prefix.specs.Parts.{Part, IsPartOf}
+use Rattle.origin_prefix.specs.Parts.{IsPartOf}
 use Rattle.replica_merge.specs.Replicas.{part_at}
 use Rattle.replica_merge.specs.Lemmas.ToldLaws.{held_part}
 use Rattle.refusal_tests.proofs.parts.part_of.Goals as goal

@@ -1,8 +1,6 @@
 use Rattle.std.specs.Prelude.{Ok}
 use Rattle.std.proofs.Common.{refl, ap, subst, ◌∙◌}
 use Rattle.packed_rows.specs.Columns.{printed}
-use Rattle.query_checks.specs.Spelling.{spelling}
-use Rattle.having_filter.specs.Kept.{by_names}
 use Rattle.summary_codec.specs.Reading.{text}
 use Rattle.summary_codec.specs.Lemmas.WrittenRead.{heading_again}
 use Rattle.summary_codec.proofs.reading.takes_heading.Goals as goal

@@ -1,4 +1,4 @@
-use Rattle.std.proofs.Common.{◌≡◌, ◌+◌, ◌-◌, ◌<◌, true, false, None, length, get_or, sym, ap, ◌∙◌, subst, arith}
+use Rattle.std.proofs.Common.{◌≡◌, ◌+◌, ◌-◌, ◌<◌, false, None, length, get_or, sym, ap, ◌∙◌, subst, arith}
 use Rattle.chunk_contexts.proofs.Words.{◌==◌, Layout, without, put_at, Place, live, link_bytes}
 use Rattle.chunk_contexts.proofs.Laws.{cond-true, cond-false, eq-eqb, ne_eqb, get_or_read}
 use Rattle.chunk_contexts.specs.Generation.{in_block}

@@ -1,7 +1,7 @@
 use Rattle.std.specs.Prelude.{◌≡◌, refl, ◌∷◌, ◌≤◌, [], length}
 use Rattle.std.proofs.Common.{sym, ◌∙◌, subst}
 use Rattle.std.proofs.lemmas.Result.{IfErr-weaker}
-use Rattle.hash_agg.proofs.Words.{Record, NoMemory, Query, partials, functions, AreCombined, Entries, Are, query_of, group_record}
+use Rattle.hash_agg.proofs.Words.{Record, NoMemory, Query, partials, functions, AreCombined, Entries, query_of, group_record}
 use Rattle.hash_agg.proofs.AddedLaws.{added_here, there_added, there_damaged, new_added, left_added, refused_still, refused_here}
 use Rattle.hash_agg.proofs.ReturnLaws.{same_table, same_rest}
 use Rattle.hash_agg.proofs.StepLaws.{key_brief, key_short, group_short, same_wide, entry_told, one_group, is_group_record}
