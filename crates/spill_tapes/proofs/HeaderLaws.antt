@@ -59,6 +59,13 @@ pub can_stand : (last : ℕ → ℕ → Type 0) (t : TapeState) (h : Header) (rs
 can_stand last t h rs had = grind (arith, nat_tests, common_steps)
 
 -- without its buffer a tape has the same records, if it has none
+ended_by_count : (done : Bool) (t : TapeState) → (ended_by done t).records ≡ t.records
+ended_by_count true t = refl
+ended_by_count false t = refl
+
+pub ended_count : (t : TapeState) → (ended t).records ≡ t.records
+ended_count t = ended_by_count (t.records == 0) t
+
 ended_none : (last : ℕ → ℕ → Type 0) (t : TapeState) (rs : List Record) → length rs ≡ 0 → AreAhead last t rs → AreAhead last (ended_by true t) rs
 ended_none last t [] none had = record {
   good = tt;

@@ -150,10 +150,16 @@ abbrev pub Gives : (List Record → Type 0) → List Record → List ℕ → Opt
 Gives IsRest rs bytes None = (rs ≡ []) × IsRest []
 Gives IsRest rs bytes (Some told) = (rest : List Record) × (rs ≡ record { hash = told.0; tag = told.1; bytes = bytes } ∷ rest) × IsRest rest
 
--- what the call told that read the next record of a tape: the first of those ahead, if the disk is honest; and over any disk a tag and
--- bytes that a record can have
+-- a tape that is read ends where no record is left, and a record that was found is left no more
+abbrev pub IsCounted : {A : Type 0} → (before after : ℕ) → Option A → Type 0
+IsCounted before after None = before ≡ 0
+IsCounted before after (Some found) = before ≡ after + 1
+
+-- what the call told that read the next record of a tape: the first of those ahead, if the disk is honest; and over any disk that none is
+-- left, or a tag and bytes that a record can have
 pub record IsGiven (honest : Bool) (last : ℕ → ℕ → Type 0) (before : TapeState) (last' : ℕ → ℕ → Type 0) (after : TapeState) (bytes : List ℕ) (found : Option (ℕ × ℕ)) : Type 0 where
   pub good : IsGood after
   pub gives : IsTrue honest → (rs : List Record) → AreAhead last before rs → Gives (AreAhead last' after) rs bytes found
+  pub counted : IsCounted before.records after.records found
   pub none : IfNone found (bytes ≡ [])
   pub framed : IfSome found (λ told. (told.1 < 2) × (length bytes ≤ LONGEST_RECORD))

@@ -41,6 +41,10 @@ AreOpenBefore t place = (earlier : ℕ) → earlier < place → phase_of t (reco
 abbrev pub written_len : TapesState → TapeId → ℕ
 written_len t id = tape_len (tape_at t id)
 
+-- how many records were put on a tape that is written, or are still to be read
+abbrev pub record_count : TapesState → TapeId → ℕ
+record_count t id = (tape_at t id).records
+
 -- over a disk whose last bytes are these, an open tape is this list of records: all that were written to it, or all that are
 -- still to be read
 abbrev pub IsTape : (ℕ → ℕ → Type 0) → TapesState → TapeId → List Record → Type 0
@@ -50,6 +54,7 @@ IsTape last t id rs = Has last (tape_at t id) rs
 pub record KeepsOthers (last last' : ℕ → ℕ → Type 0) (before after : TapesState) (tape : TapeId) : Type 0 where
   pub phases : (id : TapeId) → id ≢ tape → phase_of after id ≡ phase_of before id
   pub lens : (id : TapeId) → id ≢ tape → written_len after id ≡ written_len before id
+  pub counts : (id : TapeId) → id ≢ tape → record_count after id ≡ record_count before id
   pub records : (id : TapeId) → id ≢ tape → (rs : List Record) → IsTape last before id rs → IsTape last' after id rs
 
 -- why no tape is opened, by whether the tapes were dead; why a call is refused that writes; and one that reads

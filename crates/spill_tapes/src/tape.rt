@@ -282,6 +282,7 @@ impl Tape {
         requires some { 0 < self.old.records }
         requires last { self.old.records ≡ 1 → header.len ≡ self.old.left }
         ensures part { ReadsPart D.TapeDisk pool.old self.old disk.old result pool.new self.new disk.new }
+        ensures records { OnOk result (self.old.records ≡ self.new.records + 1) }
         ensures len { OnOk result (length bytes.new.items ≡ header.len) }
         ensures gives { OnOk result (IsTrue (D.honest disk.old) → (rs : List Record) → IsAfterHeader (D.last disk.old) self.old header rs → Gives (AreAhead (D.last disk.new) self.new) rs bytes.new.items (Some (header.hash, header.tag))) }
     {

@@ -5,8 +5,8 @@ ghost use Rattle.tape_disks.specs.Disk.{Leaves, OnlyReads};
 ghost use Rattle.spill_tapes.specs.Errors.{tape_faults};
 ghost use Rattle.spill_tapes.specs.Pages.{UsesAgain, pages_for};
 ghost use Rattle.spill_tapes.specs.Records.{Record, tape_bytes};
-ghost use Rattle.spill_tapes.specs.Tape.{Gives, new_tape, no_tape};
-ghost use Rattle.spill_tapes.specs.Tapes.{tape_at, phase_of, is_open, is_written, is_read, written_len, AreOpenBefore, IsTape, KeepsOthers, DiesIfRefused, IsOpenRefusal, IsRefusal, IsReadRefusal, FreesPages, HasNoPageMore, TapesState};
+ghost use Rattle.spill_tapes.specs.Tape.{Gives, IsCounted, new_tape, no_tape};
+ghost use Rattle.spill_tapes.specs.Tapes.{tape_at, phase_of, is_open, is_written, is_read, written_len, record_count, AreOpenBefore, IsTape, KeepsOthers, DiesIfRefused, IsOpenRefusal, IsRefusal, IsReadRefusal, FreesPages, HasNoPageMore, TapesState};
 ghost use Rattle.spill_tapes.specs.declared.error.TapeError.TheVariants.{TapeDamaged, TapesDead};
 ghost use Rattle.spill_tapes.specs.declared.tape.Phase.TheVariants.{Closed, Written, Read};
 ghost use Rattle.spill_tapes.specs.declared.tape_id.TapeId.{TapeId};
@@ -251,6 +251,7 @@ impl Tapes {
         ensures phases { (id : TapeId) → phase_of self.new id ≡ phase_of self.old id }
         ensures gives { IfOk result (λ found. IsTrue (D.honest disk.old) → (rs : List Record) → IsTape (D.last disk.old) self.old tape rs → Gives (IsTape (D.last disk.new) self.new tape) rs bytes.new.items found) }
         ensures framed { IfOk result (λ found. IfSome found (λ told. (told.1 < 2) × (length bytes.new.items ≤ LONGEST_RECORD))) }
+        ensures counted { IfOk result (IsCounted (record_count self.old tape) (record_count self.new tape)) }
         ensures none { IfOk result (λ found. IfNone found (bytes.new.items ≡ [])) }
         ensures nothing { OnErr result (bytes.new.items ≡ []) }
         ensures others { KeepsOthers (D.last disk.old) (D.last disk.new) self.old self.new tape }

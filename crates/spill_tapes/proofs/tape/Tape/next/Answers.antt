@@ -2,7 +2,7 @@ use Rattle.std.proofs.Common.{◌<◌, ◌≤◌, sym, ap, subst, ◌∙◌, ari
 use Rattle.std.specs.Prelude.{IsTrue, Some}
 use Rattle.std.proofs.lemmas.Bool.{true≢false}
 use Rattle.spill_tapes.specs.Tape.{TapeState, IsGood, IsGoodIn}
-use Rattle.spill_tapes.proofs.HeaderLaws.{left_front, can_stand, stands, ended_as, ended_gives}
+use Rattle.spill_tapes.proofs.HeaderLaws.{left_front, can_stand, stands, ended_as, ended_count, ended_gives}
 use Rattle.spill_tapes.proofs.tape.Tape.next.Goals as goal
 
 pub returns-then-self-clause-undamaged : goal.returns-then-self-clause-undamaged
@@ -26,6 +26,7 @@ returns-clause-given g c =
     record {
       good = subst IsGood (sym end) (ended_as t phase (subst (λ p. IsGoodIn p t) (sym phase) two.part.good)).2;
       gives = λ honest rs had. ended_gives (g.D.TapeDisk.last c.next_bytes.new.disk) t c.end_reading.new.self rs c.next_bytes.new.bytes.items (Some (header.hash, header.tag)) end (two.gives (subst IsTrue (sym one.part.disk.honesty) honest) rs (one.header honest rs had));
+      counted = omega (arith, one.records, two.records, ap (λ (x : TapeState). x.records) end, ended_count t, ap (λ (x : TapeState). x.records) c.self.view_is);
       none = tt;
       framed = (is.0, omega (arith, two.len, is.1));
     }
