@@ -9,7 +9,7 @@ ghost use Rattle.having_filter.specs.Meaning.{meaning};
 ghost use Rattle.hash_agg.specs.Counting.{AreCounted, setting_by};
 ghost use Rattle.origin_prefix.specs.Parts.{Disagrees, aggregations_on};
 ghost use Rattle.replica_merge.specs.Counting.{MergeIsCounted};
-ghost use Rattle.replica_merge.specs.Replicas.{part_of, told, Fits, DeliversAt};
+ghost use Rattle.replica_merge.specs.Replicas.{part_of, told, Fits, DisagreeSomewhere, DeliversAt};
 ghost use Rattle.tape_disks.specs.Calls.{failed};
 ghost use Rattle.tape_disks.specs.Disk.{Leaves};
 ghost use Rattle.replies.specs.declared.refusal.Refusal.TheVariants.{OriginDisagrees, TapeDamaged};
@@ -95,6 +95,7 @@ pub fn join<H: KeyHash + Copy, D: TapeDisk>(
         own.now.parts theirs.now.parts
         work.old (D.writes disk.old) work.new (D.writes disk.new)) }
     ensures uncounted { OnErr result (work.new ≡ work.old) }
+    ensures agreed { OnOk result (¬ (DisagreeSomewhere own.now.parts theirs.now.parts)) }
     ensures why { IfErr result (IsApart own.now theirs.now) }
     // Replicas that fit one world never disagree.
     ensures agree { IfErr result (λ why. (of : ℕ) (at : Option ℕ) → why ≡ OriginDisagrees of at → (world : World) →

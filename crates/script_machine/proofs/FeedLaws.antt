@@ -1,13 +1,13 @@
 -- The batch that is read of the records of a feed, and what a replica made of it took.
-use Rattle.std.specs.Prelude.{◌≡◌, ◌≤◌, ℕ, List, length, Result, Ok, IfOk}
-use Rattle.std.proofs.Common.{subst}
+use Rattle.std.specs.Prelude.{◌≡◌, ◌≤◌, ℕ, List, length, Option, Some, Result, Ok, IfOk}
+use Rattle.std.proofs.Common.{subst, sym}
 use Rattle.std.proofs.lemmas.Result.{IfOk-at_ok}
-use Rattle.script_machine.proofs.Words.{Row, MOST_ROWS, Column, kinds, ReadsRows, packings, BatchError, meaning, Held, part_of, Record, IsRead, setting_at, no_work, FeedWorked}
+use Rattle.script_machine.proofs.Words.{Row, MOST_ROWS, Column, kinds, ReadsRows, packings, BatchError, meaning, Held, part_of, Record, IsRead, setting_at, no_work, FeedAlike, FeedApart, FeedWorked}
 use Rattle.batch_reader.specs.Head.{ReadsOrigin, ReadsBatchNumber}
 use Rattle.batch_reader.specs.declared.batch.Batch.{Batch}
 use Rattle.hash_agg.specs.Counting.{AreCounted}
 use Rattle.hash_agg.specs.declared.work.Work.{Work}
-use Rattle.origin_prefix.specs.Parts.{aggregations_on}
+use Rattle.origin_prefix.specs.Parts.{Disagrees, aggregations_on}
 use Rattle.replies.specs.BatchLaws.{fed_of, read_is_fed}
 
 -- what reading records tells, by columns that are a replica's, is that the batch was read of them
@@ -44,3 +44,22 @@ feed_worked held limit origin number told owned read begun done writes written i
             (subst (λ old. AreCounted query setting (aggregations_on part read.number read.rows) old writes done written) none counted),
       );
     }
+
+-- it disagrees with what the replica holds, or doesn't, as what was read does
+pub feed_apart : (held : Held) (origin number : List ℕ) (told : ℕ) (owned : List Record) (read : Batch) (of : ℕ) (at : Option ℕ) → IsRead (kinds held.query.columns) origin number told owned read
+    → (of ≡ read.origin) × (at ≡ Some read.number) × Disagrees (part_of held.parts read.origin) read.number read.rows → FeedApart held origin number told owned of at
+feed_apart held origin number told owned read of at is apart = record {
+  fed = fed_of read is.rows;
+  is_batch = read_is_fed (kinds held.query.columns) origin number told owned read is;
+  of_origin = apart.0;
+  at_number = apart.1;
+  disagrees = subst (λ packed. Disagrees (part_of held.parts read.origin) read.number packed) is.packed apart.2;
+}
+
+pub feed_alike : (held : Held) (origin number : List ℕ) (told : ℕ) (owned : List Record) (read : Batch) → IsRead (kinds held.query.columns) origin number told owned read
+    → ¬ (Disagrees (part_of held.parts read.origin) read.number read.rows) → FeedAlike held origin number told owned
+feed_alike held origin number told owned read is agreed = record {
+  fed = fed_of read is.rows;
+  is_batch = read_is_fed (kinds held.query.columns) origin number told owned read is;
+  alike = λ apart. agreed (subst (λ packed. Disagrees (part_of held.parts read.origin) read.number packed) (sym is.packed) apart);
+}

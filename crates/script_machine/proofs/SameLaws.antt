@@ -1,5 +1,5 @@
 -- Replicas that know the same are answered by the same text, and saved as the same file.
-use Rattle.std.specs.Prelude.{◌≡◌, ◌+◌, ◌≤◌, List, [], ◌∷◌, ℕ, refl, map, length, IsTrue, unwrap_or, Some, codes, decimal}
+use Rattle.std.specs.Prelude.{◌≡◌, List, [], ◌∷◌, ℕ, refl, map, length, IsTrue, unwrap_or, Some, codes, decimal}
 use Rattle.std.proofs.Common.{sym, ap, inl, inr, arith}
 use Rattle.grouping_model.specs.Grouping.{part}
 use Rattle.script_machine.proofs.Words.{World, Knowledge, knows, prefix, early, count_up, origins, origin_rows, batch_rows, Checked, packings, meaning, line, KnowTheSame, State, answer_reply, known_reply, save_reply}

@@ -11,7 +11,7 @@ use Rattle.std.specs.Str.{bytes_eq}
 use Rattle.std.specs.HashMap.{HashMap, UpdatesBy}
 use Rattle.std.proofs.lemmas.Slice.Eq.{bytes_eq-Decides}
 use Rattle.std.proofs.lemmas.Bool.{true≢false, false_from_ne_true}
-use Rattle.script_machine.proofs.Words.{World, IsWorld, Knowledge, nothing, learn, union, Column, kinds, IsSchemaText, printed, Checked, meaning, Accepts, known_list, reply_of, Parts, Held, told, Fits, SameQuery, MergeTells, Record, Fed, IsBatch, IsNoBatch, IsNoQuery, Takes, IsOfBatch, IsOtherBatch, State, ColumnsReply, QueryReply, limit_reply, replica_reply, FeedReply, known_reply, answer_reply, merge_reply, save_reply, load_reply, Replies, IsReply, FeedAgrees, uses_tapes, with_replica, line, known_text, answer_text, said_text, Store, IsStore, IsFileOf, AreSaved, IsFitting, Represents, FitsWorld, Answers, Steps, JoinRefused, JoinsNames, Updates, Files, replica_at, saved_at, knowledge_of, limit_out_of_range, columns_refusal, merge_refusal, Refusal}
+use Rattle.script_machine.proofs.Words.{World, IsWorld, Knowledge, nothing, learn, union, Column, kinds, IsSchemaText, printed, Checked, meaning, Accepts, known_list, reply_of, Parts, Held, told, Fits, SameQuery, MergeTells, Record, Fed, IsBatch, IsNoBatch, IsNoQuery, Takes, IsOfBatch, IsOtherBatch, State, ColumnsReply, QueryReply, limit_reply, replica_reply, FeedReply, known_reply, answer_reply, merge_reply, save_reply, load_reply, Replies, IsReply, FeedAgrees, uses_tapes, with_replica, line, known_text, answer_text, said_text, FeedApart, IsHeldAt, TellsDisagreement, Store, IsStore, IsFileOf, AreSaved, IsFitting, Represents, FitsWorld, Answers, Steps, JoinRefused, JoinsNames, Updates, Files, replica_at, saved_at, knowledge_of, limit_out_of_range, columns_refusal, merge_refusal, Refusal}
 use Rattle.grouping_model.specs.Answer.{answer}
 use Rattle.grouping_model.specs.Aggregates.{Outcome}
 use Rattle.query_checks.specs.Spelling.{spelling}
@@ -276,6 +276,18 @@ fed_of_world world state store name origin number told_rows owned held is there 
 pub disagrees_or : (refusal : Refusal) → ((of : ℕ) × (at : Option ℕ) × (refusal ≡ why.OriginDisagrees of at)) ⊎ ((of : ℕ) (at : Option ℕ) → refusal ≢ why.OriginDisagrees of at)
 disagrees_or (why.OriginDisagrees of at) = inl (of, at, refl)
 disagrees_or refusal = inr (λ of at e. cc)
+
+-- what a refusal tells of disagreement
+pub feed_tells : (store : Store) (name origin number : List ℕ) (told : ℕ) (owned : List Record) (refusal : Refusal)
+    → ((of : ℕ) (at : Option ℕ) → refusal ≡ why.OriginDisagrees of at → IsHeldAt store name (λ held. FeedApart held origin number told owned of at))
+    → TellsDisagreement store (ask.Feed name origin number told) owned (says.Refused refusal)
+feed_tells store name origin number told owned (why.OriginDisagrees of at) apart = apart of at refl
+feed_tells store name origin number told owned refusal apart = tt
+
+pub merge_tells : (store : Store) (into from : List ℕ) (owned : List Record) (refusal : Refusal)
+    → IsHeldAt store into (λ own. IsHeldAt store from (λ theirs. IsApart own theirs refusal)) → TellsDisagreement store (ask.Merge into from) owned (says.Refused refusal)
+merge_tells store into from owned (why.OriginDisagrees of at) apart = apart
+merge_tells store into from owned refusal apart = tt
 
 -- ---- merging
 

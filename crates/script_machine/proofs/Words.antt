@@ -19,6 +19,7 @@ pub use Rattle.script_io.specs.Records.{Record}
 pub use Rattle.tape_disks.specs.Disk.{Leaves}
 unfoldable pub use Rattle.script_machine.specs.Agreement.{AreAmong}
 pub use Rattle.script_machine.specs.Agreement.{ColumnsOf, FeedsAmong, IsOfColumns, KnowTheSame, OneBatchEach, after_all, world_of}
+pub use Rattle.script_machine.specs.Disagreements.{FeedAlike, FeedApart, IsHeldAt, TellsDisagreement}
 pub use Rattle.script_machine.specs.Limits.{FeedWorked, WorksAtLimit, no_work, setting_at}
 unfoldable pub use Rattle.script_machine.specs.Machine.{Run, StrictRun}
 unfoldable pub use Rattle.script_machine.specs.Machine.{Agrees}

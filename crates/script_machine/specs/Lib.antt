@@ -4,5 +4,6 @@ pub mod Output
 pub mod Heads
 pub mod Views
 pub mod Limits
+pub mod Disagreements
 pub mod Agreement
 pub mod Coding

@@ -20,6 +20,7 @@ ghost use Rattle.replies.specs.Refusals.{refusal_faults};
 ghost use Rattle.replies.specs.Text.{faults_in, is_tape_fault};
 ghost use Rattle.replies.specs.declared.reply.Reply.TheVariants as says;
 ghost use Rattle.replies.specs.declared.refusal.Refusal.TheVariants.{NoMemory, OriginDisagrees, TapeDamaged};
+ghost use Rattle.script_machine.specs.Disagreements.{FeedAlike, FeedApart, TellsDisagreement};
 ghost use Rattle.script_machine.specs.Limits.{FeedWorked, WorksAtLimit};
 ghost use Rattle.script_machine.specs.Views.{Store, IsStore, empty, Steps, JoinsNames};
 ghost use Rattle.tape_disks.specs.Calls.{failed};
@@ -104,6 +105,10 @@ fn deliver<D: TapeDisk>(
         records.old) why)) }
     ensures other { IfOk result (λ done. IfErr done (λ why. (of : ℕ) (at : Option ℕ) → why ≡ OriginDisagrees of at →
         IsOtherBatch origin.now number.now told (take told records.old) replica.old)) }
+    ensures apart { IfOk result (λ done. IfErr done (λ why. (of : ℕ) (at : Option ℕ) → why ≡ OriginDisagrees of at →
+        FeedApart replica.old origin.now number.now told (take told records.old) of at)) }
+    ensures alike { IfOk result (λ done. OnOk done
+        (FeedAlike replica.old origin.now number.now told (take told records.old))) }
     ensures undamaged { IfOk result (λ done. IfErr done (λ why. IsTrue (D.honest disk.old)
         → why ≢ TapeDamaged)) }
     ensures limit { IfOk result (λ done. OnOk done (IsTrue (D.honest disk.old) →
@@ -299,6 +304,7 @@ impl Session {
         ensures limit { IfOk result (λ reply. IsTrue (D.honest disk.old) →
             WorksAtLimit self.old (ask.Feed name.now origin.now number.now told) (take told records.old) reply
             (D.writes disk.old) (D.writes disk.new)) }
+        ensures tells { IfOk result (TellsDisagreement self.old (ask.Feed name.now origin.now number.now told) (take told records.old)) }
         ensures left { OnOk result (records.new ≡ drop told records.old) }
         ensures disk { IfOk result (λ reply. Leaves D.TapeDisk (faults_in reply) disk.old disk.new) }
         ensures stopped { OnErr result (Leaves D.TapeDisk 0 disk.old disk.new) }
@@ -349,6 +355,10 @@ impl Session {
         ensures joins { JoinsNames (D.honest disk.old) self.now into.now from.now result }
         ensures limit { OnOk result (IsTrue (D.honest disk.old) → (owned : List Record) →
             WorksAtLimit self.now (ask.Merge into.now from.now) owned says.Merged (D.writes disk.old) (D.writes disk.new)) }
+        ensures tells { IfErr result (λ why. (owned : List Record) →
+            TellsDisagreement self.now (ask.Merge into.now from.now) owned (says.Refused why)) }
+        ensures agreed { OnOk result ((owned : List Record) →
+            TellsDisagreement self.now (ask.Merge into.now from.now) owned says.Merged) }
         ensures undamaged { IfErr result (λ why. IsTrue (D.honest disk.old) → why ≢ TapeDamaged) }
         ensures disk { Leaves D.TapeDisk (failed refusal_faults result) disk.old disk.new }
     {
@@ -368,6 +378,7 @@ impl Session {
             Steps (D.honest disk.old) (ask.Merge into.now from.now) owned self.old result self.new }
         ensures limit { IsTrue (D.honest disk.old) → (owned : List Record) →
             WorksAtLimit self.old (ask.Merge into.now from.now) owned result (D.writes disk.old) (D.writes disk.new) }
+        ensures tells { (owned : List Record) → TellsDisagreement self.old (ask.Merge into.now from.now) owned result }
         ensures disk { Leaves D.TapeDisk (faults_in result) disk.old disk.new }
     {
         let joined = match self.join(into, from, disk) {
@@ -438,6 +449,9 @@ impl Session {
             WorksAtLimit self.old (request_of (fields_of command.now.head))
             (take (owned_by (fields_of command.now.head)) records.old) reply
             (D.writes disk.old) (D.writes disk.new)) }
+        // Disagreement is told where what the replicas hold disagrees, and there alone.
+        ensures tells { IfOk result (TellsDisagreement self.old (request_of (fields_of command.now.head))
+            (take (owned_by (fields_of command.now.head)) records.old)) }
         ensures left { OnOk result (records.new
             ≡ drop (owned_by (fields_of command.now.head)) records.old) }
         ensures disk { IfOk result (λ reply. Leaves D.TapeDisk (faults_in reply) disk.old disk.new) }

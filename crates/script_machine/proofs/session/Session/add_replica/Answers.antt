@@ -1,4 +1,4 @@
-use Rattle.std.specs.Prelude.{Some, []}
+use Rattle.std.specs.Prelude.{[]}
 use Rattle.std.proofs.Common.{◌∙◌, sym}
 use Rattle.script_commands.specs.Commands as ask
 use Rattle.script_machine.proofs.Words.{Held, Store}

@@ -3,7 +3,7 @@ use Rattle.std.proofs.Common.{◌∙◌, ap, sym, subst}
 use Rattle.std.proofs.lemmas.Result.{err_from_is_err_and}
 use Rattle.csv.specs.Records.{fields_of}
 use Rattle.script_commands.specs.Commands as ask
-use Rattle.script_machine.proofs.Words.{owned_by, request_of, Leaves, WorksAtLimit, is_tape_fault, faults_in, Steps}
+use Rattle.script_machine.proofs.Words.{owned_by, request_of, Leaves, TellsDisagreement, WorksAtLimit, is_tape_fault, faults_in, Steps}
 use Rattle.script_commands.specs.Views.{request_view}
 use Rattle.script_commands.specs.declared.request.Request.{Request}
 use Rattle.script_commands.specs.Lemmas.CommandLaws.{owned_told}
@@ -124,4 +124,32 @@ returns-clause-limit g c = λ honest.
       | in-Save w ↦ rw (w.reply-is, w.disk-is) (subst (λ r. WorksAtLimit c.args.self.now r owned w.save-reply.result writes writes) (asks _ w.in-Save.is) refl)
       | in-Load w ↦ rw (w.reply-is, w.disk-is) (subst (λ r. WorksAtLimit c.args.self.now r owned w.load-reply.result writes writes) (asks _ w.in-Load.is) refl)
       | in-Unknown w ↦ rw (w.reply-is, w.disk-is) (subst (λ r. WorksAtLimit c.args.self.now r owned (says.Refused why.BadCommand) writes writes) (asks _ w.in-Unknown.is) refl)
+    ]
+
+pub returns-in-Feed-clause-tells : goal.returns-in-Feed-clause-tells
+returns-in-Feed-clause-tells g c =
+    let head = fields_of c.args.command.now.head in
+    let asks = sym c.request.ensures ∙ ap request_view c.in-Feed.is in
+    let told = owned_told head _ _ _ _ asks in
+    let owned = λ (n : ℕ). take n c.args.records.now in
+    let tells = λ (r : ask.Request) (n : ℕ). IfOk c.feed.result (TellsDisagreement c.args.self.now r (owned n)) in
+    subst (λ r. tells r (owned_by head)) (sym asks) (subst (tells (ask.Feed c.in-Feed.name.now c.in-Feed.origin.now c.in-Feed.number.now c.in-Feed.told)) (sym told) c.feed.ensures.tells)
+
+pub returns-clause-tells : goal.returns-clause-tells
+returns-clause-tells g c =
+    let head = fields_of c.args.command.now.head in
+    let owned = take (owned_by head) c.args.records.now in
+    let asks : (r : Request) → c.request.result ≡ r → request_view r ≡ request_of head = λ r is. sym (ap request_view is) ∙ c.request.ensures in
+    let tells = λ (r : ask.Request) (reply : Reply). TellsDisagreement c.args.self.now r owned reply in
+    elim c.match-request.branch [
+      | in-Columns w ↦ rw w.reply-is (subst (λ r. tells r w.tell_columns-reply.result) (asks _ w.in-Columns.is) tt)
+      | in-Query w ↦ rw w.reply-is (subst (λ r. tells r w.tell_query-reply.result) (asks _ w.in-Query.is) tt)
+      | in-Limit w ↦ rw w.reply-is (subst (λ r. tells r w.tell_limit-reply.result) (asks _ w.in-Limit.is) tt)
+      | in-Replica w ↦ rw w.reply-is (subst (λ r. tells r w.add_replica-reply.result) (asks _ w.in-Replica.is) tt)
+      | in-Known w ↦ rw w.reply-is (subst (λ r. tells r w.known-reply.result) (asks _ w.in-Known.is) tt)
+      | in-Answer w ↦ rw w.reply-is (subst (λ r. tells r w.answer-reply.result) (asks _ w.in-Answer.is) tt)
+      | in-Merge w ↦ rw w.reply-is (subst (λ r. tells r w.merge-reply.result) (asks _ w.in-Merge.is) (w.merge-reply.ensures.tells owned))
+      | in-Save w ↦ rw w.reply-is (subst (λ r. tells r w.save-reply.result) (asks _ w.in-Save.is) tt)
+      | in-Load w ↦ rw w.reply-is (subst (λ r. tells r w.load-reply.result) (asks _ w.in-Load.is) tt)
+      | in-Unknown w ↦ rw w.reply-is (subst (λ r. tells r (says.Refused why.BadCommand)) (asks _ w.in-Unknown.is) tt)
     ]

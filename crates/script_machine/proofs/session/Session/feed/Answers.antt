@@ -1,11 +1,11 @@
-use Rattle.std.specs.Prelude.{Some, take}
-use Rattle.std.proofs.Common.{◌∙◌, ap, sym, subst, inl, inr}
+use Rattle.std.specs.Prelude.{take}
+use Rattle.std.proofs.Common.{ap, sym, subst, inl, inr}
 use Rattle.std.specs.Option.{is_some}
 use Rattle.script_commands.specs.Commands as ask
-use Rattle.script_machine.proofs.Words.{WorksAtLimit, Store, Steps, Updates}
+use Rattle.script_machine.proofs.Words.{WorksAtLimit, TellsDisagreement, Store, Steps, Updates}
 use Rattle.replies.specs.declared.refusal.Refusal.TheVariants as why
 use Rattle.replies.specs.declared.reply.Reply.TheVariants as says
-use Rattle.script_machine.proofs.StoreLaws.{disagrees_or, feed_disagrees, feed_nowhere, feed_refused, feed_took, same_updated, store_replaced, turns_it, updated}
+use Rattle.script_machine.proofs.StoreLaws.{disagrees_or, feed_disagrees, feed_nowhere, feed_refused, feed_tells, feed_took, same_updated, store_replaced, turns_it, updated}
 use Rattle.script_machine.proofs.session.Session.feed.Goals as goal
 use Rattle.script_machine.proofs.session.Session.feed.Goals.{in-Ok, in-Err}
 
@@ -80,4 +80,21 @@ returns-clause-limit g c =
           (λ honest. subst (λ (s : Store). WorksAtLimit s request owned (says.Delivered w.in-Ok.delivered) writes written) c.self.view_is
           (c.in-Some.replica.now, sym c.in-Some.ensures.value, worked honest))
       | in-Err w ↦ rw w.result-is (λ honest. tt)
+    ]
+
+pub returns-clause-tells : goal.returns-clause-tells
+returns-clause-tells g c =
+    let request = ask.Feed c.args.name.now c.args.origin.now c.args.number.now c.args.told in
+    let owned = take c.args.told c.args.records.now in
+    let there = sym c.in-Some.ensures.value in
+    let old : Store = record { columns = c.self.inside.columns; query = c.self.inside.query; replicas = c.self.inside.replicas.entries; saved = c.self.inside.saved.entries; limit = c.self.inside.means.limit } in
+    elim c.match-branch-3.branch [
+      | in-Ok w ↦
+          let alike = rw w.in-Ok.is at c.in_ok-delivered.ensures.alike in
+          rw w.result-is (subst (λ (s : Store). TellsDisagreement s request owned (says.Delivered w.in-Ok.delivered)) c.self.view_is (c.in-Some.replica.now, there, alike))
+      | in-Err w ↦
+          let apart = rw w.in-Err.is at c.in_ok-delivered.ensures.apart in
+          rw w.result-is
+          (subst (λ (s : Store). TellsDisagreement s request owned (says.Refused w.in-Err.why)) c.self.view_is
+          (feed_tells old c.args.name.now c.args.origin.now c.args.number.now c.args.told owned w.in-Err.why (λ of at is. (c.in-Some.replica.now, there, apart of at is))))
     ]

@@ -1,11 +1,11 @@
 use Rattle.std.proofs.Common.{◌∙◌, ap, sym, subst}
-use Rattle.std.proofs.lemmas.Result.{on_ok_weaker}
+use Rattle.std.proofs.lemmas.Result.{IfErr-weaker, on_ok_weaker}
 use Rattle.std.specs.Option.{option_copied}
-use Rattle.script_machine.proofs.Words.{meaning, WorksAtLimit, setting_at, Store, JoinsNames}
+use Rattle.script_machine.proofs.Words.{meaning, WorksAtLimit, TellsDisagreement, setting_at, Store, JoinsNames}
 use Rattle.replica_merge.specs.Counting.{MergeIsCounted}
 use Rattle.script_commands.specs.Commands as ask
 use Rattle.replies.specs.declared.reply.Reply.TheVariants as says
-use Rattle.script_machine.proofs.StoreLaws.{joins_names}
+use Rattle.script_machine.proofs.StoreLaws.{joins_names, merge_tells}
 use Rattle.script_machine.proofs.session.Session.join.Goals as goal
 
 pub returns-clause-joins : goal.returns-clause-joins
@@ -33,3 +33,25 @@ returns-clause-limit g c =
       ),
     ))
     c.join.ensures.counted
+
+pub returns-clause-tells : goal.returns-clause-tells
+returns-clause-tells g c =
+    let store : Store = record { columns = c.self.inside.columns; query = c.self.inside.query; replicas = c.self.inside.replicas.entries; saved = c.self.inside.saved.entries; limit = c.self.inside.means.limit } in
+    IfErr-weaker c.join.result _ _
+    (λ refusal apart owned. subst (λ (s : Store). TellsDisagreement s (ask.Merge c.args.into.now c.args.from.now) owned (says.Refused refusal)) c.self.view_is
+    (merge_tells store c.args.into.now c.args.from.now owned refusal (
+      c.in-Some.own.now,
+      sym c.get.ensures.value ∙ ap option_copied c.in-Some.is,
+      (c.in-Some-get.theirs.now, sym c.get-2.ensures.value ∙ ap option_copied c.in-Some-get.is, apart),
+    )))
+    c.join.ensures.why
+
+pub returns-clause-agreed : goal.returns-clause-agreed
+returns-clause-agreed g c =
+    on_ok_weaker c.join.result
+    (λ agreed owned. subst (λ (s : Store). TellsDisagreement s (ask.Merge c.args.into.now c.args.from.now) owned says.Merged) c.self.view_is (
+      c.in-Some.own.now,
+      sym c.get.ensures.value ∙ ap option_copied c.in-Some.is,
+      (c.in-Some-get.theirs.now, sym c.get-2.ensures.value ∙ ap option_copied c.in-Some-get.is, agreed),
+    ))
+    c.join.ensures.agreed

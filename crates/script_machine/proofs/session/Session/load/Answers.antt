@@ -1,4 +1,4 @@
-use Rattle.std.specs.Prelude.{Some, refl}
+use Rattle.std.specs.Prelude.{refl}
 use Rattle.std.proofs.Common.{sym}
 use Rattle.summary_codec.specs.declared.version.Version.TheVariants.{Second}
 use Rattle.script_machine.proofs.Words.{Held, Store}

@@ -1,5 +1,5 @@
 use Rattle.std.specs.Prelude.{◌≡◌, Some}
-use Rattle.std.proofs.Common.{◌∙◌, ap, sym, subst}
+use Rattle.std.proofs.Common.{ap, sym, subst}
 use Rattle.std.specs.Option.{is_some}
 use Rattle.script_machine.proofs.Words.{Checked, Held, Fits, Store, Updates, replica_at}
 use Rattle.script_commands.specs.Commands as ask
@@ -37,3 +37,9 @@ returns-clause-answers g c = λ owned.
 
 pub returns-clause-limit : goal.returns-clause-limit
 returns-clause-limit g c = c.in-Ok.ensures.limit
+
+pub returns-in-Err-clause-tells : goal.returns-in-Err-clause-tells
+returns-in-Err-clause-tells g c = c.in-Err.ensures.tells
+
+pub returns-clause-tells : goal.returns-clause-tells
+returns-clause-tells g c = c.in-Ok.ensures.agreed

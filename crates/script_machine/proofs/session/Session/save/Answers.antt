@@ -1,4 +1,4 @@
-use Rattle.std.specs.Prelude.{◌≡◌, ℕ, List, Some, length, refl}
+use Rattle.std.specs.Prelude.{◌≡◌, ℕ, List, length, refl}
 use Rattle.std.proofs.Common.{◌∙◌, rules, ap, sym, subst}
 use Rattle.summary_codec.specs.Reading.{IsSaved}
 use Rattle.script_machine.proofs.Words.{Held, Store}

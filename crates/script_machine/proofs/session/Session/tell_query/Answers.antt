@@ -1,4 +1,3 @@
-use Rattle.std.specs.Prelude.{Some}
 use Rattle.std.proofs.Common.{◌∙◌, sym}
 use Rattle.script_machine.proofs.StoreLaws.{leaves_it, query_refused, query_there, query_told, query_too_early, store_asked, turns_it}
 use Rattle.script_machine.proofs.session.Session.tell_query.Goals as goal

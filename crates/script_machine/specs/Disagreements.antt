@@ -1,0 +1,42 @@
+-- When the feeds and merges of a script are refused for disagreement: only where what the named replicas hold says so. All of this is our own.
+use Rattle.std.specs.Prelude.{ℕ, ◌≡◌, List, Option, Some}
+use Rattle.packed_rows.specs.Columns.{kinds}
+use Rattle.batch_reader.specs.Rows.{packings}
+use Rattle.origin_prefix.specs.Parts.{Disagrees}
+use Rattle.replica_merge.specs.Replicas.{DisagreeSomewhere, Held, part_of}
+use Rattle.script_io.specs.Records.{Record}
+use Rattle.script_commands.specs.Commands.{Request, Feed, Merge}
+use Rattle.replies.specs.Batches.{Fed, IsBatch}
+use Rattle.replies.specs.Joining.{IsApart}
+use Rattle.replies.specs.declared.refusal.Refusal.TheVariants.{OriginDisagrees}
+use Rattle.replies.specs.declared.reply.Reply.{Reply}
+use Rattle.replies.specs.declared.reply.Reply.TheVariants as says
+use Rattle.script_machine.specs.Views.{Store, replica_at}
+
+-- a feed reads as a batch of this origin and number, which the replica holds early with other rows
+pub record FeedApart (held : Held) (origin number : List ℕ) (told : ℕ) (owned : List Record) (of : ℕ) (at : Option ℕ) : Type 0 where
+  pub fed : Fed
+  pub is_batch : IsBatch (kinds held.query.columns) origin number told owned fed
+  pub of_origin : of ≡ fed.origin
+  pub at_number : at ≡ Some fed.number
+  pub disagrees : Disagrees (part_of held.parts fed.origin) fed.number (packings fed.rows)
+
+-- a feed reads as a batch that the replica doesn't hold with other rows
+pub record FeedAlike (held : Held) (origin number : List ℕ) (told : ℕ) (owned : List Record) : Type 0 where
+  pub fed : Fed
+  pub is_batch : IsBatch (kinds held.query.columns) origin number told owned fed
+  pub alike : ¬ (Disagrees (part_of held.parts fed.origin) fed.number (packings fed.rows))
+
+-- a replica of this name is there, and so is what it holds
+abbrev pub IsHeldAt : Store → List ℕ → (Held → Type 0) → Type 0
+IsHeldAt store name holds = (held : Held) × (replica_at store name ≡ Some held) × holds held
+
+-- what a reply tells of disagreement: a feed is refused for it where the batch disagrees, and taken where it doesn't; a merge is refused for
+-- it where what the two replicas hold disagrees, at the first origin that does, and done where it doesn't
+abbrev pub TellsDisagreement : Store → Request → List Record → Reply → Type 0
+TellsDisagreement old (Feed name origin number told) owned (says.Refused (OriginDisagrees of at)) = IsHeldAt old name (λ held. FeedApart held origin number told owned of at)
+TellsDisagreement old (Feed name origin number told) owned (says.Delivered delivered) = IsHeldAt old name (λ held. FeedAlike held origin number told owned)
+TellsDisagreement old (Merge into from) owned (says.Refused (OriginDisagrees of at)) =
+    IsHeldAt old into (λ own. IsHeldAt old from (λ theirs. IsApart own theirs (OriginDisagrees of at)))
+TellsDisagreement old (Merge into from) owned says.Merged = IsHeldAt old into (λ own. IsHeldAt old from (λ theirs. ¬ (DisagreeSomewhere own.parts theirs.parts)))
+TellsDisagreement old request owned reply = Unit {0}
