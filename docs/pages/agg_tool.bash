@@ -1,4 +1,4 @@
-# Completion of agg_tool for bash. Made by bin/make_pages of the program's help: not to be edited.
+# Completion of agg_tool for bash. Made by bin/make_pages: not to be edited.
 # shellcheck shell=bash disable=SC2207
 _agg_tool() {
     local word=${COMP_WORDS[COMP_CWORD]} before=${COMP_WORDS[COMP_CWORD - 1]} options=

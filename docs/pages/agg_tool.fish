@@ -1,4 +1,4 @@
-# Completion of agg_tool for fish. Made by bin/make_pages of the program's help: not to be edited.
+# Completion of agg_tool for fish. Made by bin/make_pages: not to be edited.
 complete -c agg_tool -n __fish_use_subcommand -f
 complete -c agg_tool -n __fish_use_subcommand -l version -d 'Print version'
 complete -c agg_tool -l help -d 'Print help'
