@@ -1,7 +1,7 @@
 //! A table in a tree of its own, lent to what a test asks of it.
 ghost use Rattle.std.specs.Prelude.{◌≤◌, length};
 
-use context_tree::{Tree, TreeError};
+use context_tree::{Kind, Tree, TreeError};
 use group_table::{Fnv1a, GroupTable, KeyHash};
 use std::alloc::{AllocError, Global};
 use std::marker::Model;
@@ -36,6 +36,16 @@ impl<H: KeyHash + Drop> Groups<H> {
     pub(crate) fn new(alloc: Global, hash: H) -> Result<Groups<H>, TreeError> {
         let mut tree = Tree::new(alloc);
         let root = tree.root();
+        let table = GroupTable::new(alloc, &mut tree, root, WIDTH, hash)?;
+        Ok(Groups { tree, table })
+    }
+
+    /// The same beside another child of the root, which has a chunk.
+    pub(crate) fn beside_a_chunk(alloc: Global, hash: H) -> Result<Groups<H>, TreeError> {
+        let mut tree = Tree::new(alloc);
+        let root = tree.root();
+        let other = tree.create(root, Kind::AllocSet)?;
+        tree.alloc(other, b"a chunk")?;
         let table = GroupTable::new(alloc, &mut tree, root, WIDTH, hash)?;
         Ok(Groups { tree, table })
     }

@@ -1,7 +1,7 @@
 //! A table by itself.
 
 use crate::groups::{Groups, WIDTH, has_numbers, key, of_groups, put_numbers, state};
-use context_tree::{ContextId, Tree, TreeError};
+use context_tree::{ContextId, Kind, Tree, TreeError};
 use group_table::{Fnv1a, GroupTable, KeyHash};
 use std::alloc::{AllocError, Global};
 use std::test::Fail;
@@ -256,6 +256,31 @@ fn a_group_needs_what_is_counted(rt: HostRuntime) -> Result<(), Fail> {
     )
 }
 
+/// Tells what is held with groups of numbers, and behind a clearing.
+fn tell_filled(groups: &mut Groups<Fnv1a>, told: &mut Told) -> Result<(), AllocError> {
+    told.tell(put_numbers(groups, 2000)?)?;
+    told.tell(groups.held())?;
+    groups.clear();
+    told.tell(groups.held())
+}
+
+/// What is told of a table beside a chunk.
+fn of_groups_beside(rt: HostRuntime) -> Result<String, TreeError> {
+    let mut groups = Groups::beside_a_chunk(rt.alloc(), Fnv1a)?;
+    let mut told = Told::new(rt.alloc());
+    let outcome = tell_filled(&mut groups, &mut told);
+    drop(groups);
+    outcome?;
+    Ok(told.into_text())
+}
+
+/// No array that was doubled stays held, whatever else is held below the parent: here a block of 8,192 bytes.
+#[test]
+fn old_arrays_are_given_up_beside_a_chunk(rt: HostRuntime) -> Result<(), Fail> {
+    expect_told(of_groups(rt, tell_filled), "true Some(196616) Some(16384) ")?;
+    expect_told(of_groups_beside(rt), "true Some(204808) Some(24576) ")
+}
+
 /// Puts the group of a number, again if memory is refused for it: whether it is a new one, and the others were those from before
 /// after the refusal.
 fn put_again(groups: &mut Groups<Fnv1a>, number: u32) -> Result<bool, AllocError> {
@@ -318,4 +343,19 @@ fn made(alloc: Global, first: u64) -> (Option<TreeError>, u32) {
 fn a_table_takes_three_stamps(rt: HostRuntime) {
     assert!(rt; made(rt.alloc(), u64::MAX - 2) == (Some(TreeError::StampsSpent), 0));
     assert!(rt; made(rt.alloc(), u64::MAX - 3) == (None, 3));
+}
+
+/// The stamp of the context that is made next behind a table.
+fn next_stamp(alloc: Global) -> Result<u64, TreeError> {
+    let mut tree = Tree::new(alloc);
+    let root = tree.root();
+    let table = GroupTable::new(alloc, &mut tree, root, WIDTH, Fnv1a)?;
+    let next = tree.create(root, Kind::Bump)?;
+    drop(table);
+    Ok(next.stamp)
+}
+
+#[test]
+fn a_table_takes_no_fourth_stamp(rt: HostRuntime) {
+    assert!(rt; next_stamp(rt.alloc()).ok() == Some(4));
 }
