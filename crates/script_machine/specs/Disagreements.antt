@@ -1,4 +1,4 @@
--- When the feeds and merges of a script are refused for disagreement: only where what the named replicas hold says so. All of this is our own.
+-- What is told of disagreement by the feeds and merges of a script. All of this is our own.
 use Rattle.std.specs.Prelude.{ℕ, ◌≡◌, List, Option, Some}
 use Rattle.packed_rows.specs.Columns.{kinds}
 use Rattle.batch_reader.specs.Rows.{packings}
@@ -31,8 +31,8 @@ pub record FeedAlike (held : Held) (origin number : List ℕ) (told : ℕ) (owne
 abbrev pub IsHeldAt : Store → List ℕ → (Held → Type 0) → Type 0
 IsHeldAt store name holds = (held : Held) × (replica_at store name ≡ Some held) × holds held
 
--- what a reply tells of disagreement: a feed is refused for it where the batch disagrees, and taken where it doesn't; a merge is refused for
--- it where what the two replicas hold disagrees, at the first origin that does, and done where it doesn't
+-- what a reply tells of disagreement: a feed is refused for it only where the batch disagrees, and taken only where it doesn't; a merge is
+-- refused for it only where the two replicas disagree, at the first origin where they do, and done only where they don't
 abbrev pub TellsDisagreement : Store → Request → List Record → Reply → Type 0
 TellsDisagreement old (Feed name origin number told) owned (says.Refused (OriginDisagrees of at)) = IsHeldAt old name (λ held. FeedApart held origin number told owned of at)
 TellsDisagreement old (Feed name origin number told) owned (says.Delivered delivered) = IsHeldAt old name (λ held. FeedAlike held origin number told owned)

@@ -449,7 +449,7 @@ impl Session {
             WorksAtLimit self.old (request_of (fields_of command.now.head))
             (take (owned_by (fields_of command.now.head)) records.old) reply
             (D.writes disk.old) (D.writes disk.new)) }
-        // Disagreement is told where what the replicas hold disagrees, and there alone.
+        // What disagrees is never taken, and disagreement is told of nothing else.
         ensures tells { IfOk result (TellsDisagreement self.old (request_of (fields_of command.now.head))
             (take (owned_by (fields_of command.now.head)) records.old)) }
         ensures left { OnOk result (records.new

@@ -256,29 +256,22 @@ fn a_group_needs_what_is_counted(rt: HostRuntime) -> Result<(), Fail> {
     )
 }
 
-/// Tells what is held with groups of numbers, and behind a clearing.
-fn tell_filled(groups: &mut Groups<Fnv1a>, told: &mut Told) -> Result<(), AllocError> {
-    told.tell(put_numbers(groups, 2000)?)?;
-    told.tell(groups.held())?;
-    groups.clear();
-    told.tell(groups.held())
-}
-
-/// What is told of a table beside a chunk.
-fn of_groups_beside(rt: HostRuntime) -> Result<String, TreeError> {
-    let mut groups = Groups::beside_a_chunk(rt.alloc(), Fnv1a)?;
-    let mut told = Told::new(rt.alloc());
-    let outcome = tell_filled(&mut groups, &mut told);
+/// What is held with the groups of 2,000 numbers.
+fn held_by_many(made: Result<Groups<Fnv1a>, TreeError>) -> Result<Option<u128>, TreeError> {
+    let mut groups = made?;
+    let put = put_numbers(&mut groups, 2000);
+    let held = groups.held();
     drop(groups);
-    outcome?;
-    Ok(told.into_text())
+    Ok(if put? { held } else { None })
 }
 
 /// No array that was doubled stays held, whatever else is held below the parent: here a block of 8,192 bytes.
 #[test]
-fn old_arrays_are_given_up_beside_a_chunk(rt: HostRuntime) -> Result<(), Fail> {
-    expect_told(of_groups(rt, tell_filled), "true Some(196616) Some(16384) ")?;
-    expect_told(of_groups_beside(rt), "true Some(204808) Some(24576) ")
+fn old_arrays_are_given_up_beside_a_chunk(rt: HostRuntime) {
+    let alone = held_by_many(Groups::new(rt.alloc(), Fnv1a));
+    assert!(rt; alone == Ok(Some(196616)));
+    let beside = held_by_many(Groups::beside_a_chunk(rt.alloc(), Fnv1a));
+    assert!(rt; beside == Ok(Some(204808)));
 }
 
 /// Puts the group of a number, again if memory is refused for it: whether it is a new one, and the others were those from before
