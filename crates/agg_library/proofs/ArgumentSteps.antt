@@ -20,7 +20,9 @@ outcome_some zero z some = absurd (omega arith)
 outcome_some (suc n) z some = refl
 
 -- the state after a row whose value reaches the aggregate
-pub advanced : (f : Function) (m : ℕ) (p q : Partial) (reach : Option Value) (v : Value) (new : List ℕ) → reach ≡ Some v → q ≡ transition f p (datum_of v) → rows_of (transition f p (datum_of v)) ≤ m → Denotes most_rows (shape_of f) new q → Denotes m (shape_of f) new (partial_after f p reach)
+pub advanced : (f : Function) (m : ℕ) (p q : Partial) (reach : Option Value) (v : Value) (new : List ℕ) → reach ≡ Some v → q
+    ≡ transition f p (datum_of v) → rows_of (transition f p (datum_of v)) ≤ m → Denotes most_rows (shape_of f) new q
+    → Denotes m (shape_of f) new (partial_after f p reach)
 advanced f m p q reach v new reached moved few written =
     let moves : q ≡ partial_after f p reach = moved ∙ ap (partial_after f p) (sym reached) in
     let within_m : rows_of q ≤ m = subst (λ r. rows_of r ≤ m) (sym moved) few in

@@ -1,5 +1,6 @@
 -- Rows of states, part by part.
-use Rattle.std.proofs.Common.{◌≡◌, refl, ℕ, zero, suc, ◌+◌, Some, ◌≤◌, ◌<◌, slice_get, slice_set, append_assoc, List, [], ◌∷◌, ◌++◌, length, take, drop, sym, ap, subst, ◌∙◌, arith}
+use Rattle.std.proofs.Common.{◌≡◌, refl, ℕ, zero, suc, ◌+◌, Some, ◌≤◌, ◌<◌, slice_get, slice_set, append_assoc, List, [], ◌∷◌, ◌++◌, length}
+use Rattle.std.proofs.Common.{take, drop, sym, ap, subst, ◌∙◌, arith}
 use Rattle.std.proofs.Math.Seq.{take-append_seam, drop-append_seam, take-add}
 use Rattle.std.proofs.lemmas.List.{drop-drop, length-take}
 use Rattle.std.proofs.lemmas.List.Sums.{sum_by-cons}
@@ -18,18 +19,24 @@ pub denotes_end : (m : ℕ) (kinds : List AggKind) (row : List ℕ) → kinds �
 denotes_end m kinds row e none = subst (λ ks. DenotesAll m ks row []) (sym e) none
 
 -- a first part and the rest
-pub denotes_cons : (m : ℕ) (kind : AggKind) (kinds ks : List AggKind) (row front back : List ℕ) (p : Partial) (ps : List Partial) → kinds ≡ kind ∷ ks → front ≡ take (kind_width kind) row → back ≡ drop (kind_width kind) row
+pub denotes_cons : (m : ℕ) (kind : AggKind) (kinds ks : List AggKind) (row front back : List ℕ) (p : Partial) (ps : List Partial) → kinds
+    ≡ kind ∷ ks → front ≡ take (kind_width kind) row → back ≡ drop (kind_width kind) row
     → states.Denotes m (kind_shape kind) front p → DenotesAll m ks back ps → DenotesAll m kinds row (p ∷ ps)
 denotes_cons m kind kinds ks row front back p ps e ef eb d ds =
-    subst (λ k. DenotesAll m k row (p ∷ ps)) (sym e) (subst (λ b. states.Denotes m (kind_shape kind) b p) ef d, subst (λ b. DenotesAll m ks b ps) eb ds)
+    subst (λ k. DenotesAll m k row (p ∷ ps)) (sym e) (
+      subst (λ b. states.Denotes m (kind_shape kind) b p) ef d,
+      subst (λ b. DenotesAll m ks b ps) eb ds,
+    )
 
 -- of no states there are no bytes
-pub denotes_nothing : (m : ℕ) (kinds : List AggKind) (row : List ℕ) → kinds ≡ [] → (ps : List Partial) → DenotesAll m kinds row ps → row ≡ []
+pub denotes_nothing : (m : ℕ) (kinds : List AggKind) (row : List ℕ) → kinds ≡ [] → (ps : List Partial) → DenotesAll m kinds row ps → row
+    ≡ []
 denotes_nothing m kinds row e [] d = subst (λ ks. DenotesAll m ks row []) e d
 denotes_nothing m kinds row e (p ∷ ps) d = absurd (subst (λ ks. DenotesAll m ks row (p ∷ ps)) e d)
 
 -- what is denoted has a first part and a rest
-pub denotes_split : (m : ℕ) (kind : AggKind) (kinds ks : List AggKind) (row front back : List ℕ) → kinds ≡ kind ∷ ks → front ≡ take (kind_width kind) row → back ≡ drop (kind_width kind) row → (ps : List Partial) → DenotesAll m kinds row ps
+pub denotes_split : (m : ℕ) (kind : AggKind) (kinds ks : List AggKind) (row front back : List ℕ) → kinds ≡ kind ∷ ks → front
+    ≡ take (kind_width kind) row → back ≡ drop (kind_width kind) row → (ps : List Partial) → DenotesAll m kinds row ps
     → (p : Partial) × (rest : List Partial) × states.Denotes m (kind_shape kind) front p × DenotesAll m ks back rest
 denotes_split m kind kinds ks row front back e ef eb [] d = absurd (subst (λ k. DenotesAll m k row []) e d)
 denotes_split m kind kinds ks row front back e ef eb (p ∷ ps) d =
@@ -37,17 +44,22 @@ denotes_split m kind kinds ks row front back e ef eb (p ∷ ps) d =
     (p, ps, subst (λ b. states.Denotes m (kind_shape kind) b p) (sym ef) parts.0, subst (λ b. DenotesAll m ks b ps) (sym eb) parts.1)
 
 -- a row that is too short denotes nothing
-pub short_row : (m : ℕ) (kind : AggKind) (kinds ks : List AggKind) (row : List ℕ) → kinds ≡ kind ∷ ks → length row < kind_width kind → (ps : List Partial) → DenotesAll m kinds row ps → ⊥
+pub short_row : (m : ℕ) (kind : AggKind) (kinds ks : List AggKind) (row : List ℕ) → kinds ≡ kind ∷ ks → length row < kind_width kind
+    → (ps : List Partial) → DenotesAll m kinds row ps → ⊥
 short_row m kind kinds ks row e short ps d =
     let parts = denotes_split m kind kinds ks row (take (kind_width kind) row) (drop (kind_width kind) row) e refl refl ps d in
     let wide = width_known m (kind_shape kind) (take (kind_width kind) row) parts.0 parts.2 in
     omega (arith, length-take (kind_width kind) row)
 
 -- the same of two rows, where no state of both counts too many rows
-pub both_split : (m : ℕ) (kind : AggKind) (kinds ks : List AggKind) (into into_front into_back from from_front from_back : List ℕ) → kinds ≡ kind ∷ ks
-    → into_front ≡ take (kind_width kind) into → into_back ≡ drop (kind_width kind) into → from_front ≡ take (kind_width kind) from → from_back ≡ drop (kind_width kind) from
-    → (ps qs : List Partial) → DenotesAll m kinds into ps → DenotesAll m kinds from qs → AllWithin m (combine_all (functions_of kinds) ps qs)
-    → (p q : Partial) × (ps qs : List Partial) × states.Denotes m (kind_shape kind) into_front p × states.Denotes m (kind_shape kind) from_front q × (rows_of (combine (function_of kind) p q) ≤ m)
+pub both_split : (m : ℕ) (kind : AggKind) (kinds ks : List AggKind) (into into_front into_back from from_front from_back : List ℕ) → kinds
+    ≡ kind ∷ ks
+    → into_front ≡ take (kind_width kind) into → into_back ≡ drop (kind_width kind) into → from_front ≡ take (kind_width kind) from
+    → from_back ≡ drop (kind_width kind) from
+    → (ps qs : List Partial) → DenotesAll m kinds into ps → DenotesAll m kinds from qs
+    → AllWithin m (combine_all (functions_of kinds) ps qs)
+    → (p q : Partial) × (ps qs : List Partial) × states.Denotes m (kind_shape kind) into_front p
+    × states.Denotes m (kind_shape kind) from_front q × (rows_of (combine (function_of kind) p q) ≤ m)
     × DenotesAll m ks into_back ps × DenotesAll m ks from_back qs × AllWithin m (combine_all (functions_of ks) ps qs)
 both_split m kind kinds ks into a b from x y e ea eb ex ey [] qs d ds few = absurd (subst (λ k. DenotesAll m k into []) e d)
 both_split m kind kinds ks into a b from x y e ea eb ex ey (p ∷ ps) [] d ds few = absurd (subst (λ k. DenotesAll m k from []) e ds)
@@ -68,17 +80,22 @@ both_split m kind kinds ks into a b from x y e ea eb ex ey (p ∷ ps) (q ∷ qs)
     )
 
 -- the same of a first part and a rest that were written
-pub combined_cons : (m : ℕ) (kind : AggKind) (kinds ks : List AggKind) (front back : List ℕ) (p q : Partial) (ps qs : List Partial) → kinds ≡ kind ∷ ks
-    → states.Denotes m (kind_shape kind) front (combine (function_of kind) p q) → DenotesAll m ks back (combine_all (functions_of ks) ps qs) → DenotesAll m kinds (front ++ back) (combine_all (functions_of kinds) (p ∷ ps) (q ∷ qs))
+pub combined_cons : (m : ℕ) (kind : AggKind) (kinds ks : List AggKind) (front back : List ℕ) (p q : Partial) (ps qs : List Partial) → kinds
+    ≡ kind ∷ ks
+    → states.Denotes m (kind_shape kind) front (combine (function_of kind) p q) → DenotesAll m ks back (combine_all (functions_of ks) ps qs)
+    → DenotesAll m kinds (front ++ back) (combine_all (functions_of kinds) (p ∷ ps) (q ∷ qs))
 combined_cons m kind kinds ks front back p q ps qs e d ds =
     let wide : length front ≡ kind_width kind = width_known m (kind_shape kind) front (combine (function_of kind) p q) d in
     subst (λ k. DenotesAll m k (front ++ back) (combine_all (functions_of k) (p ∷ ps) (q ∷ qs))) (sym e)
-    (denotes_cons m kind (kind ∷ ks) ks (front ++ back) front back (combine (function_of kind) p q) (combine_all (functions_of ks) ps qs) refl
-    (sym (take-append_seam front back) ∙ ap (λ n. take n (front ++ back)) wide) (sym (drop-append_seam front back) ∙ ap (λ n. drop n (front ++ back)) wide) d ds)
+    (denotes_cons m kind (kind ∷ ks) ks (front ++ back) front back (combine (function_of kind) p q) (combine_all (functions_of ks) ps qs)
+    refl
+    (sym (take-append_seam front back) ∙ ap (λ n. take n (front ++ back)) wide) (sym (drop-append_seam front back)
+    ∙ ap (λ n. drop n (front ++ back)) wide) d ds)
 
 -- a list with no members
 -- nothing combined is nothing
-pub combined_end : (m : ℕ) (kinds : List AggKind) (row : List ℕ) → kinds ≡ [] → row ≡ [] → DenotesAll m kinds row (combine_all (functions_of kinds) [] [])
+pub combined_end : (m : ℕ) (kinds : List AggKind) (row : List ℕ) → kinds ≡ [] → row ≡ []
+    → DenotesAll m kinds row (combine_all (functions_of kinds) [] [])
 combined_end m kinds row e none = subst (λ ks. DenotesAll m ks row (combine_all (functions_of ks) [] [])) (sym e) none
 
 -- the place of a part behind a first one
@@ -89,7 +106,8 @@ behind : (k : AggKind) (ks : List AggKind) (row : List ℕ) → drop (row_width 
 behind k ks row = drop-drop (row_width ks) (kind_width k) row ∙ ap (λ n. drop n row) (sym (place_behind k ks))
 
 -- the part at a place denotes the partial result there
-pub part_read : (m : ℕ) (kinds : List AggKind) (row : List ℕ) (ps : List Partial) (i : ℕ) (kind : AggKind) (p : Partial) → DenotesAll m kinds row ps → slice_get kinds i ≡ Some kind → slice_get ps i ≡ Some p
+pub part_read : (m : ℕ) (kinds : List AggKind) (row : List ℕ) (ps : List Partial) (i : ℕ) (kind : AggKind) (p : Partial)
+    → DenotesAll m kinds row ps → slice_get kinds i ≡ Some kind → slice_get ps i ≡ Some p
     → states.Denotes m (kind_shape kind) (take (kind_width kind) (drop (row_width (take i kinds)) row)) p
 part_read m [] row ps zero kind p d k e = cc
 part_read m [] row ps (suc i) kind p d k e = cc
@@ -98,10 +116,12 @@ part_read m (k0 ∷ ks) row (p0 ∷ ps) zero kind p d k e =
     subst (λ q. states.Denotes m (kind_shape kind) (take (kind_width kind) row) q) (same_Some p0 p e)
     (subst (λ j. states.Denotes m (kind_shape j) (take (kind_width j) row) p0) (same_Some k0 kind k) d.0)
 part_read m (k0 ∷ ks) row (p0 ∷ ps) (suc i) kind p d k e =
-    subst (λ b. states.Denotes m (kind_shape kind) (take (kind_width kind) b) p) (behind k0 (take i ks) row) (part_read m ks (drop (kind_width k0) row) ps i kind p d.1 k e)
+    subst (λ b. states.Denotes m (kind_shape kind) (take (kind_width kind) b) p) (behind k0 (take i ks) row)
+    (part_read m ks (drop (kind_width k0) row) ps i kind p d.1 k e)
 
 -- a row with a part written anew
-pub part_written : (m : ℕ) (kinds : List AggKind) (row : List ℕ) (ps : List Partial) (i : ℕ) (kind : AggKind) (part : List ℕ) (q : Partial) → DenotesAll m kinds row ps → slice_get kinds i ≡ Some kind → states.Denotes m (kind_shape kind) part q
+pub part_written : (m : ℕ) (kinds : List AggKind) (row : List ℕ) (ps : List Partial) (i : ℕ) (kind : AggKind) (part : List ℕ) (q : Partial)
+    → DenotesAll m kinds row ps → slice_get kinds i ≡ Some kind → states.Denotes m (kind_shape kind) part q
     → DenotesAll m kinds (with_part kinds row i kind part) (slice_set ps i q)
 part_written m [] row ps zero kind part q d k e = cc
 part_written m [] row ps (suc i) kind part q d k e = cc
@@ -111,16 +131,19 @@ part_written m (k0 ∷ ks) row (p0 ∷ ps) zero kind part q d k e =
     let wide : length part ≡ kind_width kind = width_known m (kind_shape kind) part q e in
     denotes_cons m kind (k0 ∷ ks) ks (part ++ drop (kind_width kind) row) part (drop (kind_width k0) row) q ps (ap (λ j. j ∷ ks) same)
     (sym (take-append_seam part (drop (kind_width kind) row)) ∙ ap (λ n. take n (part ++ drop (kind_width kind) row)) wide)
-    (ap (λ j. drop (kind_width j) row) same ∙ sym (drop-append_seam part (drop (kind_width kind) row)) ∙ ap (λ n. drop n (part ++ drop (kind_width kind) row)) wide) e d.1
+    (ap (λ j. drop (kind_width j) row) same ∙ sym (drop-append_seam part (drop (kind_width kind) row))
+    ∙ ap (λ n. drop n (part ++ drop (kind_width kind) row)) wide) e d.1
 part_written m (k0 ∷ ks) row (p0 ∷ ps) (suc i) kind part q d k e =
     let front = take (kind_width k0) row in
     let back = drop (kind_width k0) row in
     let wide : length front ≡ kind_width k0 = width_known m (kind_shape k0) front p0 d.0 in
     let rest = with_part ks back i kind part in
     let split : with_part (k0 ∷ ks) row (suc i) kind part ≡ front ++ rest =
-    ap (λ a. a ++ (part ++ drop (kind_width kind) (drop (row_width (k0 ∷ take i ks)) row))) (ap (λ n. take n row) (place_behind k0 (take i ks)) ∙ take-add (kind_width k0) (row_width (take i ks)) row)
+    ap (λ a. a ++ (part ++ drop (kind_width kind) (drop (row_width (k0 ∷ take i ks)) row)))
+    (ap (λ n. take n row) (place_behind k0 (take i ks)) ∙ take-add (kind_width k0) (row_width (take i ks)) row)
     ∙ append_assoc front (take (row_width (take i ks)) back) (part ++ drop (kind_width kind) (drop (row_width (k0 ∷ take i ks)) row))
     ∙ ap (λ b. front ++ (take (row_width (take i ks)) back ++ (part ++ drop (kind_width kind) b))) (sym (behind k0 (take i ks) row)) in
     subst (λ b. DenotesAll m (k0 ∷ ks) b (p0 ∷ slice_set ps i q)) (sym split)
-    (denotes_cons m k0 (k0 ∷ ks) ks (front ++ rest) front rest p0 (slice_set ps i q) refl (sym (take-append_seam front rest) ∙ ap (λ n. take n (front ++ rest)) wide)
+    (denotes_cons m k0 (k0 ∷ ks) ks (front ++ rest) front rest p0 (slice_set ps i q) refl (sym (take-append_seam front rest)
+    ∙ ap (λ n. take n (front ++ rest)) wide)
     (sym (drop-append_seam front rest) ∙ ap (λ n. drop n (front ++ rest)) wide) d.0 (part_written m ks back ps i kind part q d.1 k e))

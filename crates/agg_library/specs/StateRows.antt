@@ -13,7 +13,8 @@ use Rattle.agg_protocol.specs.Kinds.{function_of, kind_shape, kind_width, row_wi
 -- the bytes denote these partial results, one of each kind, that count at most so many rows each (own)
 abbrev pub DenotesAll : ℕ → List AggKind → List ℕ → List Partial → Type 0
 DenotesAll most [] bytes [] = bytes ≡ []
-DenotesAll most (kind ∷ kinds) bytes (p ∷ ps) = states.Denotes most (kind_shape kind) (take (kind_width kind) bytes) p × DenotesAll most kinds (drop (kind_width kind) bytes) ps
+DenotesAll most (kind ∷ kinds) bytes (p ∷ ps) = states.Denotes most (kind_shape kind) (take (kind_width kind) bytes) p
+    × DenotesAll most kinds (drop (kind_width kind) bytes) ps
 DenotesAll most kinds bytes partials = ⊥
 
 -- what is known before any row (own)
@@ -37,7 +38,8 @@ part_at kinds row i kind = take (kind_width kind) (drop (row_width (take i kinds
 
 -- the row with the part at a place written anew (own)
 abbrev pub with_part : List AggKind → List ℕ → ℕ → AggKind → List ℕ → List ℕ
-with_part kinds row i kind part = take (row_width (take i kinds)) row ++ (part ++ drop (kind_width kind) (drop (row_width (take i kinds)) row))
+with_part kinds row i kind part = take (row_width (take i kinds)) row
+    ++ (part ++ drop (kind_width kind) (drop (row_width (take i kinds)) row))
 
 -- the states of partial results, one after the other (own)
 abbrev pub state_bytes : List Partial → List ℕ

@@ -10,9 +10,9 @@ use agg_protocol::BadState;
 use byteorder::{BigEndian, ByteOrder};
 
 /// The most rows that a state can count: 2^62 - 1.
-pub const MOST_COUNTED: u64 = (1 << 62) - 1;
+pub const MAX_COUNTED: u64 = (1 << 62) - 1;
 
-/// Reads a count. It is `BadState` if it is above `MOST_COUNTED`.
+/// Reads a count. It is `BadState` if it is above `MAX_COUNTED`.
 pub fn read_count(bytes: &[u8]) -> Result<u64, BadState>
     ensures ok { IfOk result (λ n. Denotes most_rows A_count bytes.now (Counted n)) }
     ensures err { OnErr result ((p : Partial) → ¬ (Denotes most_rows A_count bytes.now p)) }
@@ -21,7 +21,7 @@ pub fn read_count(bytes: &[u8]) -> Result<u64, BadState>
         return Err(BadState);
     }
     let count = BigEndian::read_u64(bytes);
-    if count > MOST_COUNTED {
+    if count > MAX_COUNTED {
         return Err(BadState);
     }
     Ok(count)
@@ -35,7 +35,7 @@ pub fn write_count(count: u64, bytes: &mut [u8])
     BigEndian::write_u64(bytes, count);
 }
 
-/// Reads how many numbers were added, and their total. They are `BadState` if there are more than `MOST_COUNTED`, or if so
+/// Reads how many numbers were added, and their total. They are `BadState` if there are more than `MAX_COUNTED`, or if so
 /// many numbers of 64 bits cannot have that total.
 pub fn read_total(bytes: &[u8]) -> Result<(u64, i128), BadState>
     ensures ok { IfOk result (λ t. Denotes most_rows A_sum bytes.now (Summed t.0 t.1)) }
@@ -46,7 +46,7 @@ pub fn read_total(bytes: &[u8]) -> Result<(u64, i128), BadState>
     }
     let how_many = BigEndian::read_u64(bytes);
     let total = BigEndian::read_i128(&bytes[8..]);
-    if how_many > MOST_COUNTED {
+    if how_many > MAX_COUNTED {
         return Err(BadState);
     }
     if !is_total(how_many, total) {

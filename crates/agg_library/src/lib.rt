@@ -12,7 +12,7 @@ mod state_row;
 mod sums;
 mod truths;
 
-pub use crate::codec::MOST_COUNTED;
+pub use crate::codec::MAX_COUNTED;
 pub use crate::counting::{CountRows, CountValues};
 pub use crate::numbers::{BitAnd, BitOr, BitXor, Max, Min};
 pub use crate::state_row::{StateRow, parts_of_rows};

@@ -1,4 +1,5 @@
--- Laws: the number in some bytes, highest first, spells these bytes; and what bytes that denote a state look like; nothing here is a definition.
+-- Laws: the number in some bytes, highest first, spells these bytes; and what bytes that denote a state look like; nothing here is a
+-- definition.
 use Rattle.std.proofs.Common.{◌≡◌, ℕ, ◌^◌, ◌<◌, List, ◌++◌, ap, ◌∙◌}
 use Rattle.std.specs.Int.{bytes_high_first}
 use Rattle.byteorder.specs.Endian.{big_from}

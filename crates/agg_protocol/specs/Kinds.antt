@@ -9,7 +9,8 @@ use Rattle.agg_protocol.specs.Signatures.{function_number}
 use Rattle.agg_protocol.specs.declared.kind.AggKind.{AggKind}
 use Rattle.agg_protocol.specs.declared.kind.Argument.{Argument}
 use Rattle.agg_protocol.specs.declared.kind.Argument.TheVariants as argument
-use Rattle.agg_protocol.specs.declared.kind.AggKind.TheVariants.{CountRows, Count, Sum, Min, Max, BitAnd, BitOr, BitXor, BoolAnd, BoolOr, Every}
+use Rattle.agg_protocol.specs.declared.kind.AggKind.TheVariants.{CountRows, Count, Sum, Min, Max, BitAnd, BitOr, BitXor, BoolAnd, BoolOr}
+use Rattle.agg_protocol.specs.declared.kind.AggKind.TheVariants.{Every}
 
 -- the function that a kind names (PostgreSQL 17, 9.21 Aggregate Functions)
 abbrev pub function_of : AggKind → Function

@@ -1,6 +1,7 @@
 -- The states of the aggregate functions: which partial results they denote, and the bytes of each
 -- (PostgreSQL 17, CREATE AGGREGATE: stype and serialfunc; which bytes those are is our own).
-use Rattle.std.specs.Prelude.{◌≡◌, refl, ℕ, ◌-◌, ◌*◌, ◌^◌, ◌≤◌, true, false, List, [], ◌∷◌, ◌++◌, ℤ, pos, neg_ℤ, ◌≤ℤ◌, FitsSigned, Some, None}
+use Rattle.std.specs.Prelude.{◌≡◌, refl, ℕ, ◌-◌, ◌*◌, ◌^◌, ◌≤◌, true, false, List, [], ◌∷◌, ◌++◌, ℤ, pos, neg_ℤ, ◌≤ℤ◌, FitsSigned, Some}
+use Rattle.std.specs.Prelude.{None}
 use Rattle.std.proofs.Common.{leb-true}
 use Rattle.std.specs.Int.{w64, w128, cast_unsigned, bytes_high_first}
 use Rattle.grouping_model.specs.Aggregates.{Partial, Counted, Summed, Number, Truth_value}

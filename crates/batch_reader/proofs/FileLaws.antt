@@ -1,5 +1,6 @@
 -- The head of a batch file, and the records after it.
-use Rattle.std.proofs.Common.{◌≡◌, ◌≢◌, ℕ, List, [], ◌∷◌, length, get_or, take, drop, Option, Some, None, is_some, true, MatchOption, option_map, refl, sym, ap, subst, arith, ◌∙◌}
+use Rattle.std.proofs.Common.{◌≡◌, ◌≢◌, ℕ, List, [], ◌∷◌, length, get_or, take, drop, Option, Some, None, is_some, true, MatchOption}
+use Rattle.std.proofs.Common.{option_map, refl, sym, ap, subst, arith, ◌∙◌}
 use Rattle.std.proofs.lemmas.List.{length-drop, take_all}
 use Rattle.std.proofs.lemmas.Bool.{false≢true}
 use Rattle.csv.specs.Records.{fields_of}
@@ -55,22 +56,31 @@ file_of records rest first head is tells = ap batch_file is ∙ ap (option_map (
 pub no_records : (kinds : List Kind) (records : List Record) → records ≡ [] → FileFault kinds (batch_file records) BadBatchHead
 no_records kinds records none = subst (λ (read : List Record). FileFault kinds (batch_file read) BadBatchHead) (sym none) tt
 
-pub no_head : (kinds : List Kind) (records rest : List Record) (first : Record) → records ≡ first ∷ rest → None ≡ file_head first → FileFault kinds (batch_file records) BadBatchHead
-no_head kinds records rest first is none = subst (λ (file : Option BatchFile). FileFault kinds file BadBatchHead) (sym (ap batch_file is ∙ ap (option_map (λ h. record { head = h; records = rest })) (sym none))) tt
+pub no_head : (kinds : List Kind) (records rest : List Record) (first : Record) → records ≡ first ∷ rest → None ≡ file_head first
+    → FileFault kinds (batch_file records) BadBatchHead
+no_head kinds records rest first is none = subst (λ (file : Option BatchFile). FileFault kinds file BadBatchHead)
+    (sym (ap batch_file is ∙ ap (option_map (λ h. record { head = h; records = rest })) (sym none))) tt
 
-of_head : (kinds : List Kind) (file : BatchFile) (error : BatchError) → HeadFault file.head.origin file.head.number file.head.told error → FileFault kinds (Some file) error
+of_head : (kinds : List Kind) (file : BatchFile) (error : BatchError) → HeadFault file.head.origin file.head.number file.head.told error
+    → FileFault kinds (Some file) error
 of_head kinds file NoMemory fault = tt
 of_head kinds file BadBatchHead fault = fault
 of_head kinds file TooManyRows fault = fault
 of_head kinds file error fault = absurd fault
 
-pub head_refused : (kinds : List Kind) (read : Option BatchFile) (file : BatchFile) (error : BatchError) → read ≡ Some file → HeadFault file.head.origin file.head.number file.head.told error → FileFault kinds read error
-head_refused kinds read file error is fault = subst (λ (read : Option BatchFile). FileFault kinds read error) (sym is) (of_head kinds file error fault)
+pub head_refused : (kinds : List Kind) (read : Option BatchFile) (file : BatchFile) (error : BatchError) → read ≡ Some file
+    → HeadFault file.head.origin file.head.number file.head.told error → FileFault kinds read error
+head_refused kinds read file error is fault = subst (λ (read : Option BatchFile). FileFault kinds read error) (sym is)
+    (of_head kinds file error fault)
 
-of_rows : (kinds : List Kind) (file : BatchFile) (error : BatchError) → BuildFault kinds file.head.origin file.head.number file.head.told file.records error → FileFault kinds (Some file) error
+of_rows : (kinds : List Kind) (file : BatchFile) (error : BatchError) → BuildFault kinds file.head.origin file.head.number file.head.told
+    file.records error → FileFault kinds (Some file) error
 of_rows kinds file NoMemory fault = tt
 of_rows kinds file error fault = fault
 
-pub rows_refused : (kinds : List Kind) (read : Option BatchFile) (file : BatchFile) (error : BatchError) → read ≡ Some file → HeadReads file.head.origin file.head.number
-    → ((origin number : List ℕ) → HeadReads origin number → BuildFault kinds origin number file.head.told file.records error) → FileFault kinds read error
-rows_refused kinds read file error is reads fault = subst (λ (read : Option BatchFile). FileFault kinds read error) (sym is) (of_rows kinds file error (fault file.head.origin file.head.number reads))
+pub rows_refused : (kinds : List Kind) (read : Option BatchFile) (file : BatchFile) (error : BatchError) → read ≡ Some file
+    → HeadReads file.head.origin file.head.number
+    → ((origin number : List ℕ) → HeadReads origin number → BuildFault kinds origin number file.head.told file.records error)
+    → FileFault kinds read error
+rows_refused kinds read file error is reads fault = subst (λ (read : Option BatchFile). FileFault kinds read error) (sym is)
+    (of_rows kinds file error (fault file.head.origin file.head.number reads))

@@ -18,7 +18,8 @@ pub record FileHead : Type 0 where
 -- what four fields tell as the head of a batch file
 abbrev pub told_by : List ℕ → List ℕ → List ℕ → List ℕ → Option FileHead
 told_by word origin number rows =
-    if bytes_eq word (codes "batch") then option_map (λ told. record { origin = origin; number = number; told = told }) (row_count rows) else None
+    if bytes_eq word (codes "batch") then option_map (λ told. record { origin = origin; number = number; told = told }) (row_count rows)
+    else None
 
 -- what a record tells as the head of a batch file
 unfoldable pub file_head : Record → Option FileHead

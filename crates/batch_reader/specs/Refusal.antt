@@ -1,6 +1,6 @@
 -- When a batch is refused, and by which refusal. All of this is our own.
 use Rattle.std.specs.Prelude.{◌≡◌, ◌≢◌, ℕ, ◌<◌, ◌≤◌, List, length, take, slice_index_or, []}
-use Rattle.grouping_model.specs.declared.limits.TheConstants.{MOST_ROWS}
+use Rattle.grouping_model.specs.declared.limits.TheConstants.{MAX_ROWS}
 use Rattle.grouping_model.specs.Datum.{Kind, Row}
 use Rattle.packed_rows.specs.Field.{IsLeftmostBad}
 use Rattle.batch_reader.specs.Head.{ReadsOrigin, ReadsBatchNumber}
@@ -36,7 +36,7 @@ pub record HeadReads (origin number : List ℕ) : Type 0 where
 -- the error of a batch that its head tells
 abbrev pub HeadFault : List ℕ → List ℕ → ℕ → BatchError → Type 0
 HeadFault origin number told BadBatchHead = ¬ (HeadReads origin number)
-HeadFault origin number told TooManyRows = HeadReads origin number × (MOST_ROWS < told)
+HeadFault origin number told TooManyRows = HeadReads origin number × (MAX_ROWS < told)
 HeadFault origin number told error = ⊥
 
 -- the error of a batch, unless memory ran out, in this order
@@ -44,5 +44,6 @@ abbrev pub BuildFault : List Kind → List ℕ → List ℕ → ℕ → List (Li
 BuildFault kinds origin number told records NoMemory = Unit {0}
 BuildFault kinds origin number told records BadBatchHead = HeadFault origin number told BadBatchHead
 BuildFault kinds origin number told records TooManyRows = HeadFault origin number told TooManyRows
-BuildFault kinds origin number told records RowCount = HeadReads origin number × (told ≤ MOST_ROWS) × (length records ≢ told)
-BuildFault kinds origin number told records error = HeadReads origin number × (told ≤ MOST_ROWS) × (length records ≡ told) × FirstFault kinds records error
+BuildFault kinds origin number told records RowCount = HeadReads origin number × (told ≤ MAX_ROWS) × (length records ≢ told)
+BuildFault kinds origin number told records error = HeadReads origin number × (told ≤ MAX_ROWS) × (length records ≡ told)
+    × FirstFault kinds records error

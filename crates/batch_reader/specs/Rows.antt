@@ -2,7 +2,7 @@
 use Rattle.std.specs.Prelude.{◌≡◌, ℕ, ◌≤◌, List, [], ◌∷◌, map, length, All}
 use Rattle.csv.specs.Records.{fields_of}
 use Rattle.csv.specs.declared.record.ByteRecord.{ByteRecord}
-use Rattle.grouping_model.specs.declared.limits.TheConstants.{MOST_ROWS}
+use Rattle.grouping_model.specs.declared.limits.TheConstants.{MAX_ROWS}
 use Rattle.grouping_model.specs.Datum.{Kind, Row, HasKinds}
 use Rattle.packed_rows.specs.Field.{ReadsRow}
 use Rattle.packed_rows.specs.Packing.{packing}
@@ -23,7 +23,7 @@ ReadsRows kinds records rows = ⊥
 
 -- the packed rows of a batch: at most as many as it may have, each the packing of a row of columns of these kinds
 pub record ArePackedRows (kinds : List Kind) (packed : List (List ℕ)) : Type 0 where
-  pub few : length packed ≤ MOST_ROWS
+  pub few : length packed ≤ MAX_ROWS
   pub rows : List Row
   pub of_kinds : All (HasKinds kinds) rows
   pub packings_are : packed ≡ packings rows

@@ -3,7 +3,7 @@
 ghost use Rattle.std.specs.Prelude.{◌≡◌, ◌≤◌, List, [], drop, length, take, IfOk, IfErr, MatchResult};
 ghost use Rattle.grouping_model.specs.Datum.{Row};
 ghost use Rattle.packed_rows.specs.Columns.{kinds};
-ghost use Rattle.grouping_model.specs.declared.limits.TheConstants.{MOST_ROWS};
+ghost use Rattle.grouping_model.specs.declared.limits.TheConstants.{MAX_ROWS};
 ghost use Rattle.batch_reader.specs.Head.{ReadsOrigin, ReadsBatchNumber};
 ghost use Rattle.batch_reader.specs.Rows.{ReadsRows, packings, records_of};
 ghost use Rattle.batch_reader.specs.Refusal.{BuildFault};
@@ -39,7 +39,7 @@ pub fn build_batch(
 ) -> Result<Batch, BatchError>
     ensures origin { IfOk result (λ batch. ReadsOrigin origin.now batch.origin) }
     ensures number { IfOk result (λ batch. ReadsBatchNumber number.now batch.number) }
-    ensures few { IfOk result (λ batch. length batch.rows ≤ MOST_ROWS) }
+    ensures few { IfOk result (λ batch. length batch.rows ≤ MAX_ROWS) }
     ensures told { IfOk result (λ batch. length batch.rows ≡ told) }
     ensures rows { IfOk result (λ batch. (rows : List Row)
         × ReadsRows (kinds schema.now) (records_of records.now) rows
@@ -78,7 +78,7 @@ pub fn read_rows(
         ReadsOrigin origin.now batch.origin)) }
     ensures number { IfOk result (λ built. IfOk built (λ batch.
         ReadsBatchNumber number.now batch.number)) }
-    ensures few { IfOk result (λ built. IfOk built (λ batch. length batch.rows ≤ MOST_ROWS)) }
+    ensures few { IfOk result (λ built. IfOk built (λ batch. length batch.rows ≤ MAX_ROWS)) }
     ensures told { IfOk result (λ built. IfOk built (λ batch. length batch.rows ≡ told)) }
     ensures rows { IfOk result (λ built. IfOk built (λ batch. (rows : List Row)
         × ReadsRows (kinds schema.now) (take told records.old) rows

@@ -3,7 +3,7 @@
 ghost use Rattle.std.specs.Prelude.{◌≡◌, ◌≤◌, ℕ, List, length, option_map, IfOk, IfErr, IsSomeAnd};
 ghost use Rattle.csv.specs.Records.{fields_of};
 ghost use Rattle.grouping_model.specs.Datum.{Row};
-ghost use Rattle.grouping_model.specs.declared.limits.TheConstants.{MOST_ROWS};
+ghost use Rattle.grouping_model.specs.declared.limits.TheConstants.{MAX_ROWS};
 ghost use Rattle.packed_rows.specs.Columns.{kinds};
 ghost use Rattle.batch_reader.specs.Head.{ReadsOrigin, ReadsBatchNumber};
 ghost use Rattle.batch_reader.specs.Rows.{ReadsRows, packings};
@@ -69,7 +69,7 @@ fn pack_left(
     told: u32,
     records: &mut Records<'_>,
 ) -> Result<PackedRows, BatchError>
-    requires { told ≤ MOST_ROWS }
+    requires { told ≤ MAX_ROWS }
     ensures packed { IfOk result (λ packed. (rows : List Row)
         × ReadsRows (kinds schema.now) records.old rows × (packed ≡ packings rows)) }
     ensures told { IfOk result (λ packed. length packed ≡ told) }
@@ -93,7 +93,7 @@ pub fn read_batch(alloc: Global, schema: &Schema, file: &[u8]) -> Result<Batch, 
         ReadsOrigin read.head.origin batch.origin)) }
     ensures number { IfOk result (λ batch. IsSomeAnd (read_file file.now) (λ read.
         ReadsBatchNumber read.head.number batch.number)) }
-    ensures few { IfOk result (λ batch. length batch.rows ≤ MOST_ROWS) }
+    ensures few { IfOk result (λ batch. length batch.rows ≤ MAX_ROWS) }
     ensures told { IfOk result (λ batch. IsSomeAnd (read_file file.now) (λ read.
         length batch.rows ≡ read.head.told)) }
     ensures rows { IfOk result (λ batch. IsSomeAnd (read_file file.now) (λ read. (rows : List Row)

@@ -6,11 +6,11 @@ ghost use Rattle.batch_reader.specs.Head.{ReadsOrigin, ReadsBatchNumber};
 ghost use Rattle.batch_reader.specs.Refusal.{HeadFault};
 
 use crate::error::BatchError;
-use grouping_model::limits::{LAST_NUMBER, LAST_ORIGIN, MOST_ROWS};
+use grouping_model::limits::{LAST_NUMBER, LAST_ORIGIN, MAX_ROWS};
 use script_io::read_digits;
 
 /// The most digits of an origin or a number, leading zeros included.
-const MOST_DIGITS: usize = 10;
+const MAX_DIGITS: usize = 10;
 
 /// The least number of a batch.
 const FIRST_NUMBER: u64 = 1;
@@ -20,7 +20,7 @@ fn read_number(field: &[u8], least: u64, most: u64) -> Option<u64>
     ensures found { IfSome result (λ n. (number_of 10 field.now ≡ Some n) × (least ≤ n) × (n ≤ most)) }
     ensures none { IfNone result ((n : ℕ) → number_of 10 field.now ≡ Some n → least ≤ n → n ≤ most → ⊥) }
 {
-    let number = read_digits(field, MOST_DIGITS)?;
+    let number = read_digits(field, MAX_DIGITS)?;
     if number < least || number > most {
         return None;
     }
@@ -53,7 +53,7 @@ pub(crate) fn checked_head(
 ) -> Result<(u16, u32), BatchError>
     ensures origin { IfOk result (λ head. ReadsOrigin origin.now head.0) }
     ensures number { IfOk result (λ head. ReadsBatchNumber number.now head.1) }
-    ensures few { OnOk result (told ≤ MOST_ROWS) }
+    ensures few { OnOk result (told ≤ MAX_ROWS) }
     ensures refused { IfErr result (HeadFault origin.now number.now told) }
 {
     let Some(origin) = read_origin(origin) else {
@@ -62,7 +62,7 @@ pub(crate) fn checked_head(
     let Some(number) = read_batch_number(number) else {
         return Err(BatchError::BadBatchHead);
     };
-    if told > MOST_ROWS {
+    if told > MAX_ROWS {
         return Err(BatchError::TooManyRows);
     }
     Ok((origin, number))

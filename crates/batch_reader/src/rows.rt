@@ -3,7 +3,7 @@
 ghost use Rattle.std.specs.Prelude.{◌≡◌, ◌≤◌, ℕ, List, [], ◌∷◌, ◌++◌, drop, length, take, IfErr, IfOk, MatchResult, OnErr, OnOk};
 ghost use Rattle.csv.specs.Records.{fields_of};
 ghost use Rattle.grouping_model.specs.Datum.{Row};
-ghost use Rattle.grouping_model.specs.declared.limits.TheConstants.{MOST_ROWS};
+ghost use Rattle.grouping_model.specs.declared.limits.TheConstants.{MAX_ROWS};
 ghost use Rattle.packed_rows.specs.Columns.{kinds};
 ghost use Rattle.packed_rows.specs.Field.{ReadsRow};
 ghost use Rattle.packed_rows.specs.Packing.{packing};
@@ -90,7 +90,7 @@ pub(crate) fn pack_next(
     told: u32,
     records: &mut Records<'_>,
 ) -> Result<Result<PackedRows, BatchError>, AllocError>
-    requires { told ≤ MOST_ROWS }
+    requires { told ≤ MAX_ROWS }
     ensures packed { IfOk result (λ built. IfOk built (λ packed. (rows : List Row)
         × ReadsRows (kinds schema.now) (take told records.old) rows × (packed ≡ packings rows))) }
     ensures told { IfOk result (λ built. IfOk built (λ packed. length packed ≡ told)) }

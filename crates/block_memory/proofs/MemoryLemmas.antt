@@ -1,5 +1,6 @@
 -- The memory of a block, cut into parts and put together again. Assumes `Logic`.
-use Rattle.std.proofs.Common.{◌≡◌, ℕ, zero, suc, ◌+◌, ◌^◌, ◌<◌, ◌≤◌, List, [], ◌∷◌, ◌++◌, Option, Some, None, length, take, drop, map, replicate, get_or, set, refl, sym, ap, ◌∙◌, arith, w8, drop-cons}
+use Rattle.std.proofs.Common.{◌≡◌, ℕ, zero, suc, ◌+◌, ◌^◌, ◌<◌, ◌≤◌, List, [], ◌∷◌, ◌++◌, Option, Some, None, length, take, drop, map}
+use Rattle.std.proofs.Common.{replicate, get_or, set, refl, sym, ap, ◌∙◌, arith, w8, drop-cons}
 use Rattle.std.proofs.lemmas.List.{take-append-drop, length-take-le, length-map, set_split}
 use seplogic.Ra.Ura.{Ura}
 use base.Fraction.{full_share}
@@ -62,7 +63,8 @@ module _ {M : Type 1} {𝓤 : Ura M} (𝓛 : Logic 𝓤) (b : ℕ) where
   -- whatever a cell owns is room for a byte
   pub cell_room : (c : Option ℕ) (o : ℕ) → ⟦ cell_owns c b o ⟧ ⊢ ⟦ froom byte b o ⟧
   cell_room None o = id⊢ 𝓤 _
-  cell_room (Some x) o = via 𝓤 ⟦ fat full_share byte b o (vint w8 x) ⟧ (uint_out 𝓛 full_share w8 x b o) (𝓛.laws.at_room byte b o (vint w8 x))
+  cell_room (Some x) o = via 𝓤 ⟦ fat full_share byte b o (vint w8 x) ⟧ (uint_out 𝓛 full_share w8 x b o)
+      (𝓛.laws.at_room byte b o (vint w8 x))
 
   pub cells_room : (cs : Cells) (o : ℕ) → ⟦ cells_own cs b o ⟧ ⊢ ⟦ froom (block_of (length cs)) b o ⟧
   cells_room [] o = 𝓛.laws.room_nil byte b o
@@ -111,13 +113,15 @@ module _ {M : Type 1} {𝓤 : Ura M} (𝓛 : Logic 𝓤) (b : ℕ) where
     pub take_cell : ⟦ cells_own cs b o ⟧ ⊢ ⟦ cells_own before b o ⟧ ∗ (⟦ froom byte b (at + o) ⟧ ∗ ⟦ cells_own after b (at + o + 1) ⟧)
     take_cell =
         let c : Option ℕ = get_or cs at None in
-        let parts : cs ≡ before ++ c ∷ after = sym (take-append-drop at cs) ∙ ap (λ (t : Cells). take at cs ++ t) (drop-cons cs at None inside) in
+        let parts : cs ≡ before ++ c ∷ after = sym (take-append-drop at cs)
+        ∙ ap (λ (t : Cells). take at cs ++ t) (drop-cons cs at None inside) in
         qed 𝓛 (‵ (cells_own cs b o) ∷ []) ∵ rewrite ! 0 (λ (t : Cells). ‵ (cells_own t b o)) parts refl $
         use1 𝓛 (‵ (cells_own before b o) ⊛ ‵ (cells_own (c ∷ after) b (o + length before))) (cut cell_owns before (c ∷ after) o) $ split ! $
         move ! (1 ∷ []) $ rewrite ! 0 (λ (k : ℕ). ‵ (cells_own (c ∷ after) b k)) place refl $ fsplit ! $
         use1 𝓛 (‵ (froom byte b (at + o))) (cell_room c (at + o)) $ move ! (2 ∷ 0 ∷ []) $ done !
 
-    pub put_cell : (x : ℕ) → ⟦ cells_own before b o ⟧ ∗ (⟦ fat full_share byte b (at + o) (vint w8 x) ⟧ ∗ ⟦ cells_own after b (at + o + 1) ⟧) ⊢ ⟦ cells_own (set cs at (Some x)) b o ⟧
+    pub put_cell : (x : ℕ) → ⟦ cells_own before b o ⟧ ∗ (⟦ fat full_share byte b (at + o) (vint w8 x) ⟧ ∗ ⟦ cells_own after b (at + o
+        + 1) ⟧) ⊢ ⟦ cells_own (set cs at (Some x)) b o ⟧
     put_cell x =
         qed 𝓛 (‵ (cells_own before b o) ∷ ‵ (fat full_share byte b (at + o) (vint w8 x)) ∷ ‵ (cells_own after b (at + o + 1)) ∷ []) ∵
         move ! (1 ∷ 2 ∷ []) $ use1 𝓛 (‵ (cell_owns (Some x) b (at + o))) (uint_in 𝓛 full_share w8 x b (at + o)) $ fjoin ! $
@@ -147,16 +151,21 @@ module _ {M : Type 1} {𝓤 : Ura M} (𝓛 : Logic 𝓤) (b : ℕ) where
       with_ws = ap (λ (n : ℕ). front ++ (map Some ws ++ drop (at + n) cs)) (sym same) ∙ sym (with_bytes_is cs at ws room)
 
     module _ (F : Option ℕ → ℕ → ℕ → Fml) where
-      pub run_out : ⟦ each_cell F cs b o ⟧ ⊢ ⟦ each_cell F (map Some xs) b (at + o) ⟧ ∗ (⟦ each_cell F front b o ⟧ ∗ ⟦ each_cell F back b (at + o + length xs) ⟧)
+      pub run_out : ⟦ each_cell F cs b o ⟧ ⊢ ⟦ each_cell F (map Some xs) b (at
+          + o) ⟧ ∗ (⟦ each_cell F front b o ⟧ ∗ ⟦ each_cell F back b (at + o + length xs) ⟧)
       run_out =
           let parts : cs ≡ front ++ (map Some xs ++ back) = sym (with_bytes_same cs at xs h) ∙ with_bytes_is cs at xs h.within in
           qed 𝓛 (‵ (each_cell F cs b o) ∷ []) ∵ rewrite ! 0 (λ (t : Cells). ‵ (each_cell F t b o)) parts refl $
-          use1 𝓛 (‵ (each_cell F front b o) ⊛ ‵ (each_cell F (map Some xs ++ back) b (o + length front))) (cut F front (map Some xs ++ back) o) $ split ! $
+          use1 𝓛 (‵ (each_cell F front b o) ⊛ ‵ (each_cell F (map Some xs ++ back) b (o + length front)))
+          (cut F front (map Some xs ++ back) o) $ split ! $
           move ! (1 ∷ []) $ rewrite ! 0 (λ (k : ℕ). ‵ (each_cell F (map Some xs ++ back) b k)) (front_end xs refl) refl $
-          use1 𝓛 (‵ (each_cell F (map Some xs) b (at + o)) ⊛ ‵ (each_cell F back b (at + o + length (map Some xs)))) (cut F (map Some xs) back (at + o)) $ split ! $
+          use1 𝓛 (‵ (each_cell F (map Some xs) b (at + o)) ⊛ ‵ (each_cell F back b (at + o + length (map Some xs))))
+          (cut F (map Some xs) back (at + o)) $ split ! $
           rewrite ! 1 (λ (k : ℕ). ‵ (each_cell F back b k)) (run_end xs refl) refl $ move ! (0 ∷ 2 ∷ 1 ∷ []) $ done !
 
-      pub run_in : (ws : List ℕ) → length ws ≡ length xs → ⟦ each_cell F (map Some ws) b (at + o) ⟧ ∗ (⟦ each_cell F front b o ⟧ ∗ ⟦ each_cell F back b (at + o + length xs) ⟧) ⊢ ⟦ each_cell F (with_bytes cs at ws) b o ⟧
+      pub run_in : (ws : List ℕ) → length ws ≡ length xs
+          → ⟦ each_cell F (map Some ws) b (at + o) ⟧ ∗ (⟦ each_cell F front b o ⟧ ∗ ⟦ each_cell F back b (at + o + length xs) ⟧) ⊢ ⟦
+          each_cell F (with_bytes cs at ws) b o ⟧
       run_in ws same =
           qed 𝓛 (‵ (each_cell F (map Some ws) b (at + o)) ∷ ‵ (each_cell F front b o) ∷ ‵ (each_cell F back b (at + o + length xs)) ∷ []) ∵
           rewrite ! 2 (λ (k : ℕ). ‵ (each_cell F back b k)) (sym (run_end ws same)) refl $ move ! (0 ∷ 2 ∷ []) $

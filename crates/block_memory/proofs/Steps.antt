@@ -14,7 +14,8 @@ pub use types.Kit.{split, split3, join, fsplit, fsplit3, fjoin, fpick, fpack, fe
 pub use types.Kit.{suffices, frame, group}
 pub use types.Run.{enter, of_opd, lit, unit_lit, bin, init, stop, no_more, and_then, assigns_last, first, switches, blocks, exec, returns}
 pub use types.Part.{agg}
-pub use types.ByLocal.{is, alloc_all, pass_all, free_all, look_at, take_at, give_at, get, get_in, get_tag, through, sets, sets_last, lands_as, lands_last, env}
+pub use types.ByLocal.{is, alloc_all, pass_all, free_all, look_at, take_at, give_at, get, get_in, get_tag, through, sets, sets_last}
+pub use types.ByLocal.{lands_as, lands_last, env}
 pub use denote.Builtin.{u8, usize, unit}
 pub use denote.Exit.{yes, no}
 pub use denote.Laws.{shows}

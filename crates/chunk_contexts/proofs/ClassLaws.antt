@@ -1,7 +1,8 @@
 -- Classes and their rooms.
 use Rattle.std.proofs.Common.{◌≡◌, ℕ, ◌<◌, ◌≤◌, get_or, inl, inr, sym, arith, true, List, [], ◌∷◌, suc, length, ap, ◌∙◌, refl, ◌-◌}
 use Rattle.chunk_contexts.proofs.Words.{nat_le, ◌==◌, is_in}
-use Rattle.chunk_contexts.proofs.Laws.{le-leb, lt-leb, agree_below_at, eqb-true, cases_Bool, cond-false, false≢true, nat_tests, common_steps}
+use Rattle.chunk_contexts.proofs.Laws.{le-leb, lt-leb, agree_below_at, eqb-true, cases_Bool, cond-false, false≢true, nat_tests}
+use Rattle.chunk_contexts.proofs.Laws.{common_steps}
 use Rattle.std.proofs.lemmas.List.Sums.{position_or_len_is}
 use Rattle.chunk_contexts.specs.Rooms.{rooms, rooms_down, class_of, room_of}
 
@@ -13,7 +14,8 @@ room-is i = λ _. get_or rooms i 0
 pub class_found : (i n : ℕ) → n ≤ room_of i → i < 11 → ((k : ℕ) → k < i → room_of k < n) → i ≡ class_of n
 unfolding class_of rooms room_of
 class_found i n here low before =
-    sym (position_or_len_is (λ room. nat_le n room) rooms i 0 (omega (arith, low)) (λ k less. lt-leb n (get_or rooms k 0) (before k less)) (λ _. le-leb n (get_or rooms i 0) here))
+    sym (position_or_len_is (λ room. nat_le n room) rooms i 0 (omega (arith, low)) (λ k less. lt-leb n (get_or rooms k 0) (before k less))
+    (λ _. le-leb n (get_or rooms i 0) here))
 
 pub room_last : room_of 10 ≡ 8192
 unfolding room_of rooms
@@ -32,7 +34,8 @@ pub in-at : (n : ℕ) (xs : List ℕ) → is_in n xs ≡ true → (i : ℕ) × (
 in-at n [] is = absurd (false≢true is)
 in-at n (x ∷ xs) is = elim (cases_Bool (x == n)) [
   | inl same ↦ (0, omega arith, eqb-true x n same)
-  | inr other ↦ let rest = in-at n xs (sym (cond-false (x == n) true (is_in n xs) other) ∙ is) in (suc rest.0, omega (arith, rest.1), rest.2)
+  | inr other ↦ let rest = in-at n xs (sym (cond-false (x == n) true (is_in n xs) other)
+      ∙ is) in (suc rest.0, omega (arith, rest.1), rest.2)
 ]
 
 pub class-of_room : (room : ℕ) → is_in room rooms ≡ true → (class_of room < 11) × (room_of (class_of room) ≡ room)
@@ -51,7 +54,8 @@ in-small room is = grind (arith, nat_tests, common_steps)
 -- the rooms downward
 pub room-down : (i : ℕ) → i < 11 → get_or rooms_down i 0 ≡ room_of (10 - i)
 unfolding rooms_down rooms room_of
-room-down i low = eqb-true (get_or rooms_down i 0) (room_of (10 - i)) (agree_below_at (λ k. get_or rooms_down k 0 == room_of (10 - k)) (λ _. true) 11 i refl low)
+room-down i low = eqb-true (get_or rooms_down i 0) (room_of (10 - i)) (agree_below_at (λ k. get_or rooms_down k 0 == room_of (10 - k))
+    (λ _. true) 11 i refl low)
 
 pub length-down : length rooms_down ≡ 11
 unfolding rooms_down

@@ -1,11 +1,14 @@
 -- What a context takes of blocks, and why it refuses a request.
-use Rattle.std.proofs.Common.{◌≡◌, ℕ, zero, suc, Bool, List, [], ◌∷◌, length, get_or, cond, set, refl, ◌≤◌, false, sym, subst, arith, Option, Some, None, true, Result, Ok, Err}
-use Rattle.chunk_contexts.proofs.Words.{unwrap_or, replicate, nat_le, IsErrAnd, IfErr, total, only, room_of, class_of, rounded, IsRefused, ContextError, LARGEST}
+use Rattle.std.proofs.Common.{◌≡◌, ℕ, zero, suc, Bool, List, [], ◌∷◌, length, get_or, cond, set, refl, ◌≤◌, false, sym, subst, arith}
+use Rattle.std.proofs.Common.{Option, Some, None, true, Result, Ok, Err}
+use Rattle.chunk_contexts.proofs.Words.{unwrap_or, replicate, nat_le, IsErrAnd, IfErr, total, only, room_of, class_of, rounded, IsRefused}
+use Rattle.chunk_contexts.proofs.Words.{ContextError, LARGEST}
 use Rattle.chunk_contexts.proofs.Laws.{le-leb, cond-true, total-set_none}
 use Rattle.chunk_contexts.specs.Set.{set_room}
 
 -- why a request is refused
-pub refused-some : {X : Type 0} (result : Result X ContextError) (o : Option ContextError) (growth : ℕ) (f : ContextError) → IsErrAnd result (λ e. e ≡ f) → o ≡ Some f → IfErr result (IsRefused o growth)
+pub refused-some : {X : Type 0} (result : Result X ContextError) (o : Option ContextError) (growth : ℕ) (f : ContextError)
+    → IsErrAnd result (λ e. e ≡ f) → o ≡ Some f → IfErr result (IsRefused o growth)
 refused-some (Ok x) o growth f is over = tt
 refused-some (Err e) o growth f is over = subst (λ (o : Option ContextError). IsRefused o growth e) (sym over) is
 

@@ -1,26 +1,31 @@
 -- What the free lists of a layout are after a chunk is made, written, freed or taken again, whatever the lists go by.
 use Rattle.std.proofs.Common.{◌≡◌, ◌≢◌, ℕ, true, false, List, [], ◌∷◌, ◌++◌, Some, take, sym, ap, ◌∙◌, subst, arith}
-use Rattle.chunk_contexts.proofs.Words.{◌==◌, Every, Layout, Piece, is_at, has, piece_at, no_piece, without, put_at, with_piece, Place, live, first_free, Elsewhere, AreLinked, link_bytes, IsLinkable, IsLink}
-use Rattle.chunk_contexts.proofs.Laws.{cond-true, true≢false, eq-eqb, every_filter, pairwise_filter, first_has, first_passes, same-place, without-none, has_not-without, common_steps, nat_tests}
-use Rattle.chunk_contexts.proofs.FreeLaws.{IsLiveAt, live-found, Popped, popped, without-elsewhere, first_free-kept, linked-kept, live-without, live-first, live-none}
+use Rattle.chunk_contexts.proofs.Words.{◌==◌, Every, Layout, ChunkContents, is_at, has, piece_at, no_piece, without, put_at, with_piece}
+use Rattle.chunk_contexts.proofs.Words.{Place, live, first_free, Elsewhere, AreLinked, link_bytes, IsLinkable, IsLink}
+use Rattle.chunk_contexts.proofs.Laws.{cond-true, true≢false, eq-eqb, every_filter, pairwise_filter, first_has, first_passes, same-place}
+use Rattle.chunk_contexts.proofs.Laws.{without-none, has_not-without, common_steps, nat_tests}
+use Rattle.chunk_contexts.proofs.FreeLaws.{IsLiveAt, live-found, Popped, popped, without-elsewhere, first_free-kept, linked-kept}
+use Rattle.chunk_contexts.proofs.FreeLaws.{live-without, live-first, live-none}
 
-pub link-first : (key : Place → ℕ → ℕ) (k : ℕ) (ps : List Piece) → Every (λ (p : Piece). IsLinkable p.place) ps → IsLink (first_free key k ps)
+pub link-first : (key : Place → ℕ → ℕ) (k : ℕ) (ps : List ChunkContents) → Every (λ (p : ChunkContents). IsLinkable p.place) ps
+    → IsLink (first_free key k ps)
 link-first key k [] every = tt
 link-first key k (p ∷ ps) every = grind (arith, nat_tests, common_steps, link-first key k ps every.1)
 
 module _ (key : Place → ℕ → ℕ) (l : Layout) (are : AreLinked key l) where
-  abbrev ps : List Piece
+  abbrev ps : List ChunkContents
   ps = l.pieces
 
   pub linkable : (place : Place) → has ps place ≡ true → IsLinkable place
-  linkable place there = subst IsLinkable (same-place (piece_at ps place).place place (first_passes (is_at place) no_piece ps there)) (first_has (λ (p : Piece). IsLinkable p.place) (is_at place) no_piece ps there are.ranges)
+  linkable place there = subst IsLinkable (same-place (piece_at ps place).place place (first_passes (is_at place) no_piece ps there))
+      (first_has (λ (p : ChunkContents). IsLinkable p.place) (is_at place) no_piece ps there are.ranges)
 
   -- the bytes of a live chunk are written
   module _ (place : Place) (there : has (live ps) place ≡ true) (kept : ℕ) (bytes : List ℕ) where
     is : IsLiveAt ps place
     is = live-found ps place are.places there
 
-    abbrev p : Piece
+    abbrev p : ChunkContents
     p = record { place = place; room = (piece_at ps place).room; is_live = true; bytes = take kept (piece_at ps place).bytes ++ bytes }
 
     pub links-put : AreLinked key (put_at l place kept bytes true)
@@ -35,7 +40,7 @@ module _ (key : Place → ℕ → ℕ) (l : Layout) (are : AreLinked key l) wher
     first-put k = first_free-kept key k ps place is.only
 
   -- a live chunk is made where none was
-  module _ (p : Piece) (lives : p.is_live ≡ true) (none : has ps p.place ≡ false) (links : IsLinkable p.place) where
+  module _ (p : ChunkContents) (lives : p.is_live ≡ true) (none : has ps p.place ≡ false) (links : IsLinkable p.place) where
     pub links-new : AreLinked key (with_piece l p)
     links-new = grind (arith, nat_tests, common_steps, without-elsewhere p ps, without-none ps p.place none)
 
@@ -43,7 +48,7 @@ module _ (key : Place → ℕ → ℕ) (l : Layout) (are : AreLinked key l) wher
     first-new k = grind (arith, nat_tests, common_steps, without-none ps p.place none)
 
     pub live-new : live (with_piece l p).pieces ≡ p ∷ live ps
-    live-new = live-first p (without ps p.place) lives ∙ ap (λ (t : List Piece). p ∷ live t) (without-none ps p.place none)
+    live-new = live-first p (without ps p.place) lives ∙ ap (λ (t : List ChunkContents). p ∷ live t) (without-none ps p.place none)
 
   -- the first free chunk of a list is taken
   module _ (k : ℕ) (place : Place) (first : first_free key k ps ≡ Some place) where
@@ -56,16 +61,21 @@ module _ (key : Place → ℕ → ℕ) (l : Layout) (are : AreLinked key l) wher
     pub links-reused : AreLinked key (put_at l place 0 [] true)
     links-reused = record {
       head = are.head;
-      places = (without-elsewhere (record { place = place; room = (piece_at ps place).room; is_live = true; bytes = [] }) ps, pairwise_filter Elsewhere _ ps are.places);
+      places = (
+        without-elsewhere (record { place = place; room = (piece_at ps place).room; is_live = true; bytes = [] }) ps,
+        pairwise_filter Elsewhere _ ps are.places,
+      );
       ranges = (linkable place was.there, every_filter _ _ ps are.ranges);
       linked = (λ dead. absurd (true≢false dead), was.linked);
     }
 
-    pub live-reused : live (put_at l place 0 [] true).pieces ≡ (record { place = place; room = (piece_at ps place).room; is_live = true; bytes = [] }) ∷ live ps
+    pub live-reused : live (put_at l place 0 [] true).pieces
+        ≡ (record { place = place; room = (piece_at ps place).room; is_live = true; bytes = [] }) ∷ live ps
     live-reused = λ i. (record { place = place; room = (piece_at ps place).room; is_live = true; bytes = [] }) ∷ was.lives i
 
     pub fresh-reused : has (live ps) place ≡ false
-    fresh-reused = ap (λ (t : List Piece). has t place) (sym was.lives) ∙ live-none (without ps place) place (has_not-without ps place)
+    fresh-reused = ap (λ (t : List ChunkContents). has t place) (sym was.lives)
+        ∙ live-none (without ps place) place (has_not-without ps place)
 
   -- a live chunk is freed
   module _ (place : Place) (there : has (live ps) place ≡ true) (k : ℕ) (listed : key place (piece_at ps place).room ≡ k) where
@@ -75,7 +85,7 @@ module _ (key : Place → ℕ → ℕ) (l : Layout) (are : AreLinked key l) wher
     abbrev freed : Layout
     freed = put_at l place 0 (link_bytes (first_free key k ps)) false
 
-    abbrev q : Piece
+    abbrev q : ChunkContents
     q = record { place = place; room = (piece_at ps place).room; is_live = false; bytes = link_bytes (first_free key k ps) }
 
     pub first-freed : first_free key k freed.pieces ≡ Some place
@@ -89,7 +99,11 @@ module _ (key : Place → ℕ → ℕ) (l : Layout) (are : AreLinked key l) wher
       head = are.head;
       places = (without-elsewhere q ps, pairwise_filter Elsewhere _ ps are.places);
       ranges = (linkable place was_live.there, every_filter _ _ ps are.ranges);
-      linked = (λ dead. ap link_bytes (ap (λ (r : ℕ). first_free key r ps) (sym listed) ∙ sym (first_free-kept key (key place q.room) ps place was_live.only)), linked-kept key ps place was_live.only are.linked);
+      linked = (
+        λ dead. ap link_bytes (ap (λ (r : ℕ). first_free key r ps) (sym listed)
+            ∙ sym (first_free-kept key (key place q.room) ps place was_live.only)),
+        linked-kept key ps place was_live.only are.linked,
+      );
     }
 
     pub live-released : live freed.pieces ≡ without (live ps) place

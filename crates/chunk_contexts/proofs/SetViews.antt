@@ -1,7 +1,11 @@
 -- What the state of an `AllocSet` says of its fields at a live chunk, and what it is after they changed.
-use Rattle.std.proofs.Common.{◌≡◌, ℕ, ◌+◌, ◌-◌, ◌<◌, ◌≤◌, inl, inr, true, false, List, ◌∷◌, ◌++◌, Option, None, length, get_or, set, take, refl, sym, ap, ◌∙◌, subst, arith}
-use Rattle.chunk_contexts.proofs.Words.{IsTrue, is_some, nat_lt, Layout, Piece, has, is_at, piece_at, place_of, no_piece, without, outside, put_at, resized, total, with_block, Place, ChunkName, Every, live, is_live, bytes_of, rooms, by_room, is_in, free_rooms, first_free, AreLists, link_bytes, LARGEST}
-use Rattle.chunk_contexts.proofs.Laws.{lt-ltb, le-ltb, cond-true, cond-false, first_has, first_passes, same-place, total-with_block, common_steps, nat_tests}
+use Rattle.std.proofs.Common.{◌≡◌, ℕ, ◌+◌, ◌-◌, ◌<◌, ◌≤◌, inl, inr, true, false, List, ◌∷◌, ◌++◌, Option, None, length, get_or, set, take}
+use Rattle.std.proofs.Common.{refl, sym, ap, ◌∙◌, subst, arith}
+use Rattle.chunk_contexts.proofs.Words.{IsTrue, is_some, nat_lt, Layout, ChunkContents, has, is_at, piece_at, place_of, no_piece, without}
+use Rattle.chunk_contexts.proofs.Words.{outside, put_at, resized, total, with_block, Place, ChunkName, Every, live, is_live, bytes_of}
+use Rattle.chunk_contexts.proofs.Words.{rooms, by_room, is_in, free_rooms, first_free, AreLists, link_bytes, LARGEST}
+use Rattle.chunk_contexts.proofs.Laws.{lt-ltb, le-ltb, cond-true, cond-false, first_has, first_passes, same-place, total-with_block}
+use Rattle.chunk_contexts.proofs.Laws.{common_steps, nat_tests}
 use Rattle.chunk_contexts.specs.Set.{SetState, set_put, set_freed}
 use Rattle.chunk_contexts.specs.SetFields.{set_of, IsSetPiece, AreFields}
 use Rattle.chunk_contexts.specs.declared.free_lists.FreeLists.{FreeLists}
@@ -15,7 +19,7 @@ module _ (x : Inside) (ok : AreFields x) (s : SetState) (e : set_of x ≡ s) (pl
   abbrev l : Layout
   l = x.lists.layout
 
-  abbrev ps : List Piece
+  abbrev ps : List ChunkContents
   ps = l.pieces
 
   here : has (live ps) place ≡ true
@@ -54,15 +58,29 @@ module _ (x : Inside) (ok : AreFields x) (s : SetState) (e : set_of x ≡ s) (pl
     y = record { lists = record { layout = m; heads = x.lists.heads }; active = x.active; next = x.next; first = x.first }
 
     pub fields-put : AreFields y
-    fields-put = grind (arith, nat_tests, set-put l x.lists.heads x.active x.first ok.set place was.there kept bytes true x.lists.heads (inl refl) (lists-put l x.lists.heads ok.set.lists place here kept bytes))
+    fields-put = grind (
+      arith,
+      nat_tests,
+      set-put l x.lists.heads x.active x.first ok.set place was.there kept bytes true x.lists.heads
+          (inl refl) (lists-put l x.lists.heads ok.set.lists place here kept bytes),
+    )
 
     pub state-put : set_of y ≡ set_put s place (take kept (piece_at s.chunks place).bytes ++ bytes)
     state-put =
         let chunks = ap (λ (z : Layout). live z.pieces) is ∙ live-put l x.lists.heads ok.set.lists place here kept bytes in
         let free = ap (λ (z : Layout). free_rooms z.pieces) is ∙ rooms-put l x.lists.heads ok.set.lists place here kept bytes in
-        (λ i. record { chunks = chunks i; blocks = (is i).blocks; free = free i; left = x.active.size - x.active.used; next = x.next; first = x.first })
+        (λ i. record {
+          chunks = chunks i;
+          blocks = (is i).blocks;
+          free = free i;
+          left = x.active.size - x.active.used;
+          next = x.next;
+          first
+              = x.first;
+        })
         ∙ (λ i. record {
-          chunks = (record { place = place; room = (was.same i).room; is_live = true; bytes = take kept (was.same i).bytes ++ bytes }) ∷ without (live ps) place;
+          chunks = (record { place = place; room = (was.same i).room; is_live = true; bytes = take kept (was.same i).bytes ++ bytes })
+              ∷ without (live ps) place;
           blocks = l.blocks;
           free = free_rooms ps;
           left = x.active.size - x.active.used;
@@ -73,23 +91,43 @@ module _ (x : Inside) (ok : AreFields x) (s : SetState) (e : set_of x ≡ s) (pl
 
   -- a chunk of a class is freed
   module _ (low : (piece_at ps place).room ≤ LARGEST) (room : ℕ) (size : (piece_at ps place).room ≡ room) (known : is_in room rooms ≡ true)
-      (n : FreeLists) (is : n.layout ≡ put_at l place 0 (link_bytes (first_free by_room room ps)) false) (lists : AreLists n.layout n.heads) where
+      (n : FreeLists) (is : n.layout ≡ put_at l place 0 (link_bytes (first_free by_room room ps)) false)
+      (lists : AreLists n.layout n.heads) where
     pub fields-released : AreFields (record { lists = n; active = x.active; next = x.next; first = x.first })
-    fields-released = grind (arith, nat_tests, common_steps, set-put l x.lists.heads x.active x.first ok.set place was.there 0 (link_bytes (first_free by_room room ps)) false n.heads (inr low))
+    fields-released = grind (
+      arith,
+      nat_tests,
+      common_steps,
+      set-put l x.lists.heads x.active x.first ok.set place was.there 0
+          (link_bytes (first_free by_room room ps)) false n.heads (inr low),
+    )
 
     pub state-released : set_of (record { lists = n; active = x.active; next = x.next; first = x.first }) ≡ set_freed s place
     state-released =
         let chunks = ap (λ (z : Layout). live z.pieces) is ∙ live-released l x.lists.heads ok.set.lists place here room size known in
         let free = ap (λ (z : Layout). free_rooms z.pieces) is ∙ rooms-released l x.lists.heads ok.set.lists place here room size known in
-        let same : (piece_at (live ps) place).room ≡ room = ap (λ (q : Piece). q.room) (sym was.same) ∙ size in
-        let small : nat_lt LARGEST (piece_at (live ps) place).room ≡ false = le-ltb LARGEST (piece_at (live ps) place).room (omega (arith, same, size, low)) in
-        let free' : free_rooms n.layout.pieces ≡ (piece_at (live ps) place).room ∷ free_rooms ps = free ∙ ap (λ (r : ℕ). r ∷ free_rooms ps) (sym same) in
-        let blocks = ap (λ (z : Layout). z.blocks) is ∙ sym (cond-false (nat_lt LARGEST (piece_at (live ps) place).room) (set l.blocks place.block None) l.blocks small) in
-        (λ i. record { chunks = chunks i; blocks = blocks i; free = (free' ∙ sym (cond-false (nat_lt LARGEST (piece_at (live ps) place).room) (free_rooms ps) ((piece_at (live ps) place).room ∷ free_rooms ps) small)) i; left = x.active.size - x.active.used; next = x.next; first = x.first })
+        let same : (piece_at (live ps) place).room ≡ room = ap (λ (q : ChunkContents). q.room) (sym was.same) ∙ size in
+        let small : nat_lt LARGEST (piece_at (live ps) place).room
+        ≡ false = le-ltb LARGEST (piece_at (live ps) place).room (omega (arith, same, size, low)) in
+        let free' : free_rooms n.layout.pieces ≡ (piece_at (live ps) place).room ∷ free_rooms ps = free
+        ∙ ap (λ (r : ℕ). r ∷ free_rooms ps) (sym same) in
+        let blocks = ap (λ (z : Layout). z.blocks) is
+        ∙ sym (cond-false (nat_lt LARGEST (piece_at (live ps) place).room) (set l.blocks place.block None) l.blocks small) in
+        (λ i. record {
+          chunks = chunks i;
+          blocks = blocks i;
+          free = (free'
+              ∙ sym (cond-false (nat_lt LARGEST (piece_at (live ps) place).room) (free_rooms ps) ((piece_at (live ps) place).room
+              ∷ free_rooms ps) small)) i;
+          left = x.active.size - x.active.used;
+          next = x.next;
+          first = x.first;
+        })
         ∙ ap (λ (z : SetState). set_freed z place) e
 
   -- a larger chunk is freed
-  module _ (big : LARGEST < (piece_at ps place).room) (m : Layout) (is : m ≡ record { head = l.head; blocks = set l.blocks place.block None; pieces = outside ps place.block }) where
+  module _ (big : LARGEST < (piece_at ps place).room) (m : Layout) (is : m
+      ≡ record { head = l.head; blocks = set l.blocks place.block None; pieces = outside ps place.block }) where
     abbrev w : Inside
     w = record { lists = record { layout = m; heads = x.lists.heads }; active = x.active; next = x.next; first = x.first }
 
@@ -101,26 +139,51 @@ module _ (x : Inside) (ok : AreFields x) (s : SetState) (e : set_of x ≡ s) (pl
         let rest = outside-is l x.lists.heads x.active x.first ok.set place was.there was big in
         let chunks = ap (λ (z : Layout). live z.pieces) is ∙ ap live rest ∙ live-without ps place in
         let free = ap (λ (z : Layout). free_rooms z.pieces) is ∙ ap free_rooms rest ∙ free_rooms-kept ps place was.only in
-        let room = ap (λ (q : Piece). q.room) was.same in
-        let large : nat_lt LARGEST (piece_at (live ps) place).room ≡ true = lt-ltb LARGEST (piece_at (live ps) place).room (omega (arith, room, big)) in
-        let blocks = ap (λ (z : Layout). z.blocks) is ∙ sym (cond-true (nat_lt LARGEST (piece_at (live ps) place).room) (set l.blocks place.block None) l.blocks large) in
-        (λ i. record { chunks = chunks i; blocks = blocks i; free = (free ∙ sym (cond-true (nat_lt LARGEST (piece_at (live ps) place).room) (free_rooms ps) ((piece_at (live ps) place).room ∷ free_rooms ps) large)) i; left = x.active.size - x.active.used; next = x.next; first = x.first })
+        let room = ap (λ (q : ChunkContents). q.room) was.same in
+        let large : nat_lt LARGEST (piece_at (live ps) place).room
+        ≡ true = lt-ltb LARGEST (piece_at (live ps) place).room (omega (arith, room, big)) in
+        let blocks = ap (λ (z : Layout). z.blocks) is
+        ∙ sym (cond-true (nat_lt LARGEST (piece_at (live ps) place).room) (set l.blocks place.block None) l.blocks large) in
+        (λ i. record {
+          chunks = chunks i;
+          blocks = blocks i;
+          free = (free
+              ∙ sym (cond-true (nat_lt LARGEST (piece_at (live ps) place).room) (free_rooms ps) ((piece_at (live ps) place).room
+              ∷ free_rooms ps) large)) i;
+          left = x.active.size - x.active.used;
+          next = x.next;
+          first = x.first;
+        })
         ∙ ap (λ (z : SetState). set_freed z place) e
 
 -- the bytes of one chunk, made shorter or longer, are put into another, or into the same
-module _ (x : Inside) (ok : AreFields x) (s : SetState) (e : set_of x ≡ s) (from : Place) (there : IsTrue (has s.chunks from)) (to : Place) (to_there : IsTrue (has s.chunks to)) (n : ℕ) (m : Layout)
+module _ (x : Inside) (ok : AreFields x) (s : SetState) (e : set_of x ≡ s) (from : Place) (there : IsTrue (has s.chunks from)) (to : Place)
+    (to_there : IsTrue (has s.chunks to)) (n : ℕ) (m : Layout)
     (is : m ≡ put_at x.lists.layout to 0 (resized (piece_at x.lists.layout.pieces from).bytes n) true) where
   put : m ≡ put_at x.lists.layout to 0 (resized (piece_at s.chunks from).bytes n) true
-  put = is ∙ ap (λ (p : Piece). put_at x.lists.layout to 0 (resized p.bytes n) true) (seen x ok s e from there)
+  put = is ∙ ap (λ (p : ChunkContents). put_at x.lists.layout to 0 (resized p.bytes n) true) (seen x ok s e from there)
 
-  pub fields-resized : AreFields (record { lists = record { layout = m; heads = x.lists.heads }; active = x.active; next = x.next; first = x.first })
+  pub fields-resized : AreFields (record {
+    lists = record { layout = m; heads = x.lists.heads };
+    active = x.active;
+    next = x.next;
+    first =
+        x.first;
+  })
   fields-resized = fields-put x ok s e to to_there 0 (resized (piece_at s.chunks from).bytes n) m put
 
-  pub state-resized : set_of (record { lists = record { layout = m; heads = x.lists.heads }; active = x.active; next = x.next; first = x.first }) ≡ set_put s to (resized (piece_at s.chunks from).bytes n)
+  pub state-resized : set_of (record {
+    lists = record { layout = m; heads = x.lists.heads };
+    active = x.active;
+    next = x.next;
+    first =
+        x.first;
+  }) ≡ set_put s to (resized (piece_at s.chunks from).bytes n)
   state-resized = state-put x ok s e to to_there 0 (resized (piece_at s.chunks from).bytes n) m put
 
 -- a live chunk, at the place that was asked of its name
-module _ (x : Inside) (ok : AreFields x) (s : SetState) (e : set_of x ≡ s) (name : ChunkName) (lives : IsTrue (is_live s.chunks name)) (at : Place) (is : at ≡ place_of name) where
+module _ (x : Inside) (ok : AreFields x) (s : SetState) (e : set_of x ≡ s) (name : ChunkName) (lives : IsTrue (is_live s.chunks name))
+    (at : Place) (is : at ≡ place_of name) where
   there : IsTrue (has s.chunks (place_of name))
   there = name-there s.chunks name lives
 
@@ -131,11 +194,13 @@ module _ (x : Inside) (ok : AreFields x) (s : SetState) (e : set_of x ≡ s) (na
   asked-piece = ap (λ (p : Place). piece_at x.lists.layout.pieces p) is ∙ seen x ok s e (place_of name) there
 
   pub asked-len : length (piece_at x.lists.layout.pieces at).bytes ≡ name.len
-  asked-len = ap (λ (p : Piece). length p.bytes) asked-piece ∙ name-len s.chunks name lives
+  asked-len = ap (λ (p : ChunkContents). length p.bytes) asked-piece ∙ name-len s.chunks name lives
 
   pub asked-bytes : (piece_at x.lists.layout.pieces at).bytes ≡ bytes_of s.chunks name
-  asked-bytes = ap (λ (p : Piece). p.bytes) asked-piece
+  asked-bytes = ap (λ (p : ChunkContents). p.bytes) asked-piece
 
 -- a block more
-pub total-taken : (s : SetState) (l t : Layout) (b size : ℕ) → l.blocks ≡ s.blocks → get_or l.blocks b None ≡ None → t.blocks ≡ with_block l.blocks b size → total t.blocks ≡ total s.blocks + size
-total-taken s l t b size same none is = ap total is ∙ total-with_block l.blocks b size none ∙ ap (λ (z : List (Option ℕ)). total z + size) same
+pub total-taken : (s : SetState) (l t : Layout) (b size : ℕ) → l.blocks ≡ s.blocks → get_or l.blocks b None ≡ None → t.blocks
+    ≡ with_block l.blocks b size → total t.blocks ≡ total s.blocks + size
+total-taken s l t b size same none is = ap total is ∙ total-with_block l.blocks b size none
+    ∙ ap (λ (z : List (Option ℕ)). total z + size) same

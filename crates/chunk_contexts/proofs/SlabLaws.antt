@@ -1,6 +1,9 @@
 -- Chunks of one size, after one is made, written, freed or taken again.
-use Rattle.std.proofs.Common.{◌≡◌, ◌≢◌, ℕ, ◌+◌, ◌*◌, ◌<◌, ◌≤◌, inl, inr, Bool, true, false, List, [], ◌∷◌, ◌++◌, Option, Some, None, get_or, take, refl, sym, ap, ◌∙◌, subst, arith}
-use Rattle.chunk_contexts.proofs.Words.{IsTrue, is_some, Every, Pairwise, Layout, Piece, is_at, has, piece_at, no_piece, without, put_at, with_piece, size_at, IsClear, Place, live, rounded, by_block, first_free, Elsewhere, AreLinked, IsLinkable, MOST}
+use Rattle.std.proofs.Common.{◌≡◌, ◌≢◌, ℕ, ◌+◌, ◌*◌, ◌<◌, ◌≤◌, inl, inr, Bool, true, false, List, [], ◌∷◌, ◌++◌, Option, Some, None, get_or}
+use Rattle.std.proofs.Common.{take, refl, sym, ap, ◌∙◌, subst, arith}
+use Rattle.chunk_contexts.proofs.Words.{IsTrue, is_some, Every, Pairwise, Layout, ChunkContents, is_at, has, piece_at, no_piece, without}
+use Rattle.chunk_contexts.proofs.Words.{put_at, with_piece, size_at, IsClear, Place, live, rounded, by_block, first_free, Elsewhere}
+use Rattle.chunk_contexts.proofs.Words.{AreLinked, IsLinkable, MOST}
 use Rattle.chunk_contexts.proofs.Laws.{cases_eq, every_weaker, first_has, first_passes, same-place, without-none, nat_tests, common_steps}
 use Rattle.std.proofs.Math.Nat.{mul-le-mul_right, div-le_of_le-mul}
 use Rattle.chunk_contexts.specs.Generation.{in_block}
@@ -19,12 +22,12 @@ unfolding per_block
 chunk-fits room n few = grind (arith, nat_tests, common_steps)
 
 -- where no chunk of a block is free, all of them are live
-pub none-free : (ps : List Piece) (k : ℕ) → first_free by_block k ps ≡ None → in_block ps k ≡ in_block (live ps) k
+pub none-free : (ps : List ChunkContents) (k : ℕ) → first_free by_block k ps ≡ None → in_block ps k ≡ in_block (live ps) k
 none-free [] k none = refl
 none-free (p ∷ ps) k none = grind (arith, nat_tests, common_steps, none-free ps k)
 
 module _ (size : ℕ) (l : Layout) (is : IsSlabLayout size l) where
-  abbrev ps : List Piece
+  abbrev ps : List ChunkContents
   ps = l.pieces
 
   abbrev room : ℕ
@@ -34,22 +37,28 @@ module _ (size : ℕ) (l : Layout) (is : IsSlabLayout size l) where
   places = is.links.places
 
   -- a chunk is written, freed or taken again
-  module _ (place : Place) (there : has ps place ≡ true) (kept : ℕ) (bytes : List ℕ) (lives : Bool) (links : AreLinked by_block (put_at l place kept bytes lives)) where
-    abbrev q : Piece
+  module _ (place : Place) (there : has ps place ≡ true) (kept : ℕ) (bytes : List ℕ) (lives : Bool)
+      (links : AreLinked by_block (put_at l place kept bytes lives)) where
+    abbrev q : ChunkContents
     q = record { place = place; room = (piece_at ps place).room; is_live = lives; bytes = take kept (piece_at ps place).bytes ++ bytes }
 
-    ends : Every (λ (p : Piece). p.place.offset + p.room ≤ in_block ps p.place.block * (8 + room)) (q ∷ without ps place)
-    ends = every-put (λ (p : Piece). p.place.offset + p.room ≤ in_block ps p.place.block * (8 + room))
-        (λ p q at same h. subst (λ (x : Place). x.offset + q.room ≤ in_block ps x.block * (8 + room)) at (subst (λ (r : ℕ). p.place.offset + r ≤ in_block ps p.place.block * (8 + room)) same h)) ps place there q refl refl is.ends
+    ends : Every (λ (p : ChunkContents). p.place.offset + p.room ≤ in_block ps p.place.block * (8 + room)) (q ∷ without ps place)
+    ends = every-put (λ (p : ChunkContents). p.place.offset + p.room ≤ in_block ps p.place.block * (8 + room))
+        (λ p q at same h. subst (λ (x : Place). x.offset + q.room ≤ in_block ps x.block * (8 + room)) at
+        (subst (λ (r : ℕ). p.place.offset + r ≤ in_block ps p.place.block * (8 + room)) same h)) ps place there q refl refl is.ends
 
     pub slab-put : IsSlabLayout size (put_at l place kept bytes lives)
     slab-put = record {
       links = links;
-      rooms = every-put (λ (p : Piece). p.room ≡ room) (λ p q at same h. sym same ∙ h) ps place there q refl refl is.rooms;
-      there = every-put (λ (p : Piece). IsTrue (is_some (get_or l.blocks p.place.block None))) (λ p q at same h. subst (λ (x : Place). IsTrue (is_some (get_or l.blocks x.block None))) at h) ps place there q refl refl is.there;
+      rooms = every-put (λ (p : ChunkContents). p.room ≡ room) (λ p q at same h. sym same ∙ h) ps place there q refl refl is.rooms;
+      there = every-put (λ (p : ChunkContents). IsTrue (is_some (get_or l.blocks p.place.block None)))
+          (λ p q at same h. subst (λ (x : Place). IsTrue (is_some (get_or l.blocks x.block None))) at h) ps place there q refl refl
+          is.there;
       sizes = is.sizes;
-      ends = every_weaker (λ (p : Piece). p.place.offset + p.room ≤ in_block ps p.place.block * (8 + room)) (λ (p : Piece). p.place.offset + p.room ≤ in_block (q ∷ without ps place) p.place.block * (8 + room))
-          (λ p h. subst (λ (n : ℕ). p.place.offset + p.room ≤ n * (8 + room)) (sym (in-put ps place q p.place.block there places refl)) h) (q ∷ without ps place) ends;
+      ends = every_weaker (λ (p : ChunkContents). p.place.offset + p.room ≤ in_block ps p.place.block * (8 + room))
+          (λ (p : ChunkContents). p.place.offset + p.room ≤ in_block (q ∷ without ps place) p.place.block * (8 + room))
+          (λ p h. subst (λ (n : ℕ). p.place.offset + p.room ≤ n * (8 + room)) (sym (in-put ps place q p.place.block there places refl)) h)
+          (q ∷ without ps place) ends;
     }
 
   -- ---- the chunk that was given up last is taken again
@@ -70,7 +79,7 @@ module _ (size : ℕ) (l : Layout) (is : IsSlabLayout size l) where
     reused-layout = slab-put place was.there 0 [] true (Link.links-reused by_block l is.links k place first)
 
     reused-room : (piece_at ps place).room ≡ room
-    reused-room = first_has (λ (p : Piece). p.room ≡ room) (is_at place) no_piece ps was.there is.rooms
+    reused-room = first_has (λ (p : ChunkContents). p.room ≡ room) (is_at place) no_piece ps was.there is.rooms
 
     pub reused-live : live again.pieces ≡ (record { place = place; room = room; is_live = true; bytes = [] }) ∷ live ps
     reused-live = λ i. (record { place = place; room = reused-room i; is_live = true; bytes = [] }) ∷ was.lives i
@@ -78,17 +87,33 @@ module _ (size : ℕ) (l : Layout) (is : IsSlabLayout size l) where
     pub reused-fresh : has (live ps) place ≡ false
     reused-fresh = Link.fresh-reused by_block l is.links k place first
 
-    abbrev p : Piece
+    abbrev p : ChunkContents
     p = record { place = place; room = (piece_at ps place).room; is_live = true; bytes = [] }
 
-    pub reused-entry : (e : SlabBlock) → IsEntry ps k e → (next : Option Place) → next ≡ first_free by_block k (without ps place) → IsEntry again.pieces k (record { free = next; cut = e.cut; live = e.live + 1 })
-    reused-entry e entry next is-next = grind (arith, nat_tests, common_steps, in-put ps place p k was.there places refl, reused-live, in-here (record { place = place; room = room; is_live = true; bytes = [] }) (live ps) k reused-block)
+    pub reused-entry : (e : SlabBlock) → IsEntry ps k e → (next : Option Place) → next ≡ first_free by_block k (without ps place)
+        → IsEntry again.pieces k (record { free = next; cut = e.cut; live = e.live + 1 })
+    reused-entry e entry next is-next = grind (
+      arith,
+      nat_tests,
+      common_steps,
+      in-put ps place p k was.there places refl,
+      reused-live,
+      in-here (record { place = place; room = room; is_live = true; bytes = [] }) (live ps) k reused-block,
+    )
 
     pub reused-other : (j : ℕ) → j ≢ k → (e : SlabBlock) → IsEntry ps j e → IsEntry again.pieces j e
-    reused-other j ne e entry = grind (arith, nat_tests, was.others j ne, in-put ps place p j was.there places refl, reused-live, reused-block)
+    reused-other j ne e entry = grind (
+      arith,
+      nat_tests,
+      was.others j ne,
+      in-put ps place p j was.there places refl,
+      reused-live,
+      reused-block,
+    )
 
   -- ---- the next chunk is cut from a block
-  module _ (k : ℕ) (name : k < 4294967296) (some : IsTrue (is_some (get_or l.blocks k None))) (small : size ≤ MOST) (none : first_free by_block k ps ≡ None) (few : in_block (live ps) k < per_block room) where
+  module _ (k : ℕ) (name : k < 4294967296) (some : IsTrue (is_some (get_or l.blocks k None))) (small : size ≤ MOST)
+      (none : first_free by_block k ps ≡ None) (few : in_block (live ps) k < per_block room) where
     abbrev cut : ℕ
     cut = in_block ps k
 
@@ -98,25 +123,28 @@ module _ (size : ℕ) (l : Layout) (is : IsSlabLayout size l) where
     abbrev spot : Place
     spot = record { block = k; offset = cut * (8 + room) + 8 }
 
-    abbrev piece : Piece
+    abbrev piece : ChunkContents
     piece = record { place = spot; room = room; is_live = true; bytes = [] }
 
     pub cut-inside : spot.offset + room ≤ size_at l.blocks spot.block
     cut-inside = omega (arith, cut-fits, is.sizes k some)
 
-    before : Every (λ (p : Piece). p.place.block ≡ k → p.place.offset + p.room ≤ cut * (8 + room)) ps
-    before = every_weaker (λ (p : Piece). p.place.offset + p.room ≤ in_block ps p.place.block * (8 + room)) (λ (p : Piece). p.place.block ≡ k → p.place.offset + p.room ≤ cut * (8 + room))
+    before : Every (λ (p : ChunkContents). p.place.block ≡ k → p.place.offset + p.room ≤ cut * (8 + room)) ps
+    before = every_weaker (λ (p : ChunkContents). p.place.offset + p.room ≤ in_block ps p.place.block * (8 + room))
+        (λ (p : ChunkContents). p.place.block ≡ k → p.place.offset + p.room ≤ cut * (8 + room))
         (λ p h same. subst (λ (j : ℕ). p.place.offset + p.room ≤ in_block ps j * (8 + room)) same h) ps is.ends
 
     pub cut-clear : Every (IsClear l.head spot room) ps
-    cut-clear = every_weaker (λ (p : Piece). p.place.block ≡ k → p.place.offset + p.room ≤ cut * (8 + room)) (IsClear l.head spot room)
+    cut-clear = every_weaker (λ (p : ChunkContents). p.place.block ≡ k → p.place.offset + p.room ≤ cut * (8 + room))
+        (IsClear l.head spot room)
         (λ p h. elim (cases_eq p.place.block k) [
           | inl same ↦ inr (inl (omega (arith, h same, is.links.head)))
           | inr ne ↦ inl ne
         ]) ps before
 
     fresh : has ps spot ≡ false
-    fresh = none-at spot ps (every_weaker (λ (p : Piece). p.place.block ≡ k → p.place.offset + p.room ≤ cut * (8 + room)) (λ (p : Piece). p.place ≡ spot → ⊥)
+    fresh = none-at spot ps (every_weaker (λ (p : ChunkContents). p.place.block ≡ k → p.place.offset + p.room ≤ cut * (8 + room))
+        (λ (p : ChunkContents). p.place ≡ spot → ⊥)
         (λ p h e. let o = ap (λ (x : Place). x.offset) e in omega (arith, h (ap (λ (x : Place). x.block) e), o)) ps before)
 
     linkable : IsLinkable spot
@@ -126,7 +154,7 @@ module _ (size : ℕ) (l : Layout) (is : IsSlabLayout size l) where
     cut' = with_piece l piece
 
     pieces : cut'.pieces ≡ piece ∷ ps
-    pieces = ap (λ (t : List Piece). piece ∷ t) (without-none ps spot fresh)
+    pieces = ap (λ (t : List ChunkContents). piece ∷ t) (without-none ps spot fresh)
 
     more : (j : ℕ) → in_block ps j ≤ in_block (piece ∷ ps) j
     more j = grind (arith, nat_tests, common_steps)
@@ -134,14 +162,16 @@ module _ (size : ℕ) (l : Layout) (is : IsSlabLayout size l) where
     pub cut-layout : IsSlabLayout size cut'
     cut-layout = record {
       links = Link.links-new by_block l is.links piece refl fresh linkable;
-      rooms = subst (Every (λ (p : Piece). p.room ≡ room)) (sym pieces) (refl, is.rooms);
-      there = subst (Every (λ (p : Piece). IsTrue (is_some (get_or l.blocks p.place.block None)))) (sym pieces) (some, is.there);
+      rooms = subst (Every (λ (p : ChunkContents). p.room ≡ room)) (sym pieces) (refl, is.rooms);
+      there = subst (Every (λ (p : ChunkContents). IsTrue (is_some (get_or l.blocks p.place.block None)))) (sym pieces) (some, is.there);
       sizes = is.sizes;
-      ends = subst (λ (t : List Piece). Every (λ (p : Piece). p.place.offset + p.room ≤ in_block t p.place.block * (8 + room)) t) (sym pieces) (
-        subst (λ (n : ℕ). spot.offset + room ≤ n * (8 + room)) (sym (in-here piece ps k refl)) (omega arith),
-        every_weaker (λ (p : Piece). p.place.offset + p.room ≤ in_block ps p.place.block * (8 + room)) (λ (p : Piece). p.place.offset + p.room ≤ in_block (piece ∷ ps) p.place.block * (8 + room))
-            (λ p h. omega (arith, h, mul-le-mul_right (8 + room) (more p.place.block))) ps is.ends,
-      );
+      ends = subst (λ (t : List ChunkContents). Every (λ (p : ChunkContents). p.place.offset + p.room ≤ in_block t p.place.block
+          * (8 + room)) t) (sym pieces) (
+            subst (λ (n : ℕ). spot.offset + room ≤ n * (8 + room)) (sym (in-here piece ps k refl)) (omega arith),
+            every_weaker (λ (p : ChunkContents). p.place.offset + p.room ≤ in_block ps p.place.block * (8 + room))
+                (λ (p : ChunkContents). p.place.offset + p.room ≤ in_block (piece ∷ ps) p.place.block * (8 + room))
+                (λ p h. omega (arith, h, mul-le-mul_right (8 + room) (more p.place.block))) ps is.ends,
+          );
     }
 
     pub cut-live : live cut'.pieces ≡ piece ∷ live ps

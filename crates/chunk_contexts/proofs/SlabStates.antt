@@ -1,16 +1,24 @@
 -- The state of a slab after a chunk is taken.
 use Rattle.std.proofs.Common.{◌≡◌, ℕ, ◌+◌, true, false, List, [], ◌∷◌, None, length, get_or, refl, sym, ap, ◌∙◌, arith}
-use Rattle.chunk_contexts.proofs.Words.{Layout, Piece, has, piece_at, put_at, total, with_block, Place, ChunkName, live, chunk_of, Adds, rounded}
-use Rattle.chunk_contexts.proofs.Laws.{cond-true, cond-false, place-same, total-with_block, has-first, without-none, nat_tests, common_steps}
+use Rattle.chunk_contexts.proofs.Words.{Layout, ChunkContents, has, piece_at, put_at, total, with_block, Place, ChunkName, live, chunk_of}
+use Rattle.chunk_contexts.proofs.Words.{Adds, rounded}
+use Rattle.chunk_contexts.proofs.Laws.{cond-true, cond-false, place-same, total-with_block, has-first, without-none, nat_tests}
+use Rattle.chunk_contexts.proofs.Laws.{common_steps}
 use Rattle.chunk_contexts.specs.Slab.{SlabState, slab_block, has_spare, slab_grows, slab_taken, slab_of, AreChunks, IsSlab}
 use Rattle.chunk_contexts.specs.declared.slab_chunks.SlabChunks.{SlabChunks}
 use Rattle.chunk_contexts.proofs.FreeLaws.{live-without}
 use Rattle.chunk_contexts.proofs.SlabMoves.{live-there, live-room, slab-written}
 
 -- a chunk comes from a block that has a free one
-module _ (s : SlabState) (p : Piece) (spare : has_spare s ≡ true) where
+module _ (s : SlabState) (p : ChunkContents) (spare : has_spare s ≡ true) where
   pub taken-spare : (t : SlabState) → t ≡ record { size = s.size; chunks = p ∷ s.chunks; blocks = s.blocks } → t ≡ slab_taken s p
-  taken-spare t made = made ∙ (λ i. record { size = s.size; chunks = p ∷ s.chunks; blocks = sym (cond-true (has_spare s) s.blocks (with_block s.blocks p.place.block (slab_block (rounded s.size))) spare) i })
+  taken-spare t made = made
+      ∙ (λ i. record {
+        size = s.size;
+        chunks = p
+            ∷ s.chunks;
+        blocks = sym (cond-true (has_spare s) s.blocks (with_block s.blocks p.place.block (slab_block (rounded s.size))) spare) i;
+      })
 
   pub grows-none : slab_grows s ≡ 0
   grows-none = cond-true (has_spare s) 0 (slab_block (rounded s.size)) spare
@@ -20,9 +28,16 @@ module _ (s : SlabState) (spare : has_spare s ≡ false) where
   pub grows-block : slab_grows s ≡ slab_block (rounded s.size)
   grows-block = cond-false (has_spare s) 0 (slab_block (rounded s.size)) spare
 
-  module _ (g t : SlabState) (b : ℕ) (grown : g ≡ record { size = s.size; chunks = s.chunks; blocks = with_block s.blocks b (slab_block (rounded s.size)) }) (place : Place) (in-block : place.block ≡ b)
-      (made : t ≡ record { size = g.size; chunks = (record { place = place; room = rounded g.size; is_live = true; bytes = [] }) ∷ g.chunks; blocks = g.blocks }) where
-    abbrev new-piece : Piece
+  module _ (g t : SlabState) (b : ℕ) (grown : g
+      ≡ record { size = s.size; chunks = s.chunks; blocks = with_block s.blocks b (slab_block (rounded s.size)) }) (place : Place)
+      (in-block : place.block ≡ b)
+      (made : t ≡ record {
+        size = g.size;
+        chunks = (record { place = place; room = rounded g.size; is_live = true; bytes = [] })
+            ∷ g.chunks;
+        blocks = g.blocks;
+      }) where
+    abbrev new-piece : ChunkContents
     new-piece = record { place = place; room = rounded s.size; is_live = true; bytes = [] }
 
     pub taken-new : t ≡ slab_taken s new-piece
@@ -38,16 +53,17 @@ pub record Written (s : SlabState) (t : SlabChunks) (name : ChunkName) (bytes : 
   pub taken : slab_of t ≡ slab_taken s (chunk_of name (rounded s.size) bytes)
 
 -- the bytes of a chunk that was made are written
-module _ (s : SlabState) (t : SlabChunks) (is : IsSlab t.size t.per t.layout t.blocks.items t.spare) (place : Place) (fresh : has s.chunks place ≡ false)
+module _ (s : SlabState) (t : SlabChunks) (is : IsSlab t.size t.per t.layout t.blocks.items t.spare) (place : Place)
+    (fresh : has s.chunks place ≡ false)
     (taken : slab_of t ≡ slab_taken s (record { place = place; room = rounded s.size; is_live = true; bytes = [] })) where
-  abbrev p : Piece
+  abbrev p : ChunkContents
   p = record { place = place; room = rounded s.size; is_live = true; bytes = [] }
 
   chunks : live t.layout.pieces ≡ p ∷ s.chunks
   chunks = ap (λ (z : SlabState). z.chunks) taken
 
   made-here : has (live t.layout.pieces) place ≡ true
-  made-here = ap (λ (cs : List Piece). has cs place) chunks ∙ has-first p s.chunks place (place-same place)
+  made-here = ap (λ (cs : List ChunkContents). has cs place) chunks ∙ has-first p s.chunks place (place-same place)
 
   pub made-there : has t.layout.pieces place ≡ true
   made-there = live-there t.size t.per t.layout t.blocks.items t.spare is place made-here
@@ -58,12 +74,21 @@ module _ (s : SlabState) (t : SlabChunks) (is : IsSlab t.size t.per t.layout t.b
   pub made-room : (piece_at t.layout.pieces place).room ≡ rounded s.size
   made-room = live-room t.size t.per t.layout t.blocks.items t.spare is place made-here ∙ ap rounded made-size
 
-  module _ (bytes : List ℕ) (m : Layout) (put : m ≡ put_at t.layout place 0 bytes true) (name : ChunkName) (named : name ≡ record { block = place.block; offset = place.offset; len = length bytes }) where
-    abbrev q : Piece
+  module _ (bytes : List ℕ) (m : Layout) (put : m ≡ put_at t.layout place 0 bytes true) (name : ChunkName) (named : name
+      ≡ record { block = place.block; offset = place.offset; len = length bytes }) where
+    abbrev q : ChunkContents
     q = chunk_of name (rounded s.size) bytes
 
     written-chunks : live m.pieces ≡ q ∷ s.chunks
-    written-chunks = grind (arith, nat_tests, common_steps, made-room, live-without t.layout.pieces place, without-none s.chunks place fresh)
+    written-chunks = grind (
+      arith,
+      nat_tests,
+      common_steps,
+      made-room,
+      live-without t.layout.pieces place,
+      without-none s.chunks place
+          fresh,
+    )
 
     written-state : (u : SlabState) → u ≡ record { size = t.size; chunks = live m.pieces; blocks = m.blocks } → u ≡ slab_taken s q
     written-state u is-u = grind (arith, nat_tests, common_steps, written-chunks)

@@ -1,6 +1,9 @@
 -- What the state of a `Slab` says of its fields at a live chunk.
-use Rattle.std.proofs.Common.{◌≡◌, ℕ, ◌+◌, ◌<◌, true, List, [], ◌∷◌, Option, Some, None, Result, cond, length, get_or, refl, sym, ap, ◌∙◌, subst, arith}
-use Rattle.chunk_contexts.proofs.Words.{IsTrue, IsErrAnd, IfErr, ◌==◌, is_some, Every, Piece, is_at, has, piece_at, no_piece, place_of, resized, rewritten, total, with_bytes_of, Place, ChunkName, live, is_live, bytes_of, chunk_of, Adds, IsNewBlock, IsRefused, IsResized, rounded, ContextError, NoMemory}
+use Rattle.std.proofs.Common.{◌≡◌, ℕ, ◌+◌, ◌<◌, true, List, [], ◌∷◌, Option, Some, None, Result, cond, length, get_or, refl, sym, ap, ◌∙◌}
+use Rattle.std.proofs.Common.{subst, arith}
+use Rattle.chunk_contexts.proofs.Words.{IsTrue, IsErrAnd, IfErr, ◌==◌, is_some, Every, ChunkContents, is_at, has, piece_at, no_piece}
+use Rattle.chunk_contexts.proofs.Words.{place_of, resized, rewritten, total, with_bytes_of, Place, ChunkName, live, is_live, bytes_of}
+use Rattle.chunk_contexts.proofs.Words.{chunk_of, Adds, IsNewBlock, IsRefused, IsResized, rounded, ContextError, NoMemory}
 use Rattle.chunk_contexts.proofs.Laws.{by_cond, first_has, every_filter, nat_tests, common_steps}
 use Rattle.std.specs.List.{length_refill}
 use Rattle.block_memory.specs.Cells.{zeros}
@@ -27,21 +30,28 @@ unfolding zeros
 resized-same bytes n long = grind (arith, nat_tests, common_steps)
 
 -- as many bytes in each chunk, after one is written over
-pub sizes-rewritten : (size : ℕ) (ps : List Piece) (place : Place) (ws : List ℕ) → Every (λ (p : Piece). length p.bytes ≡ size) ps → Every (λ (p : Piece). length p.bytes ≡ size) (rewritten ps place ws)
+pub sizes-rewritten : (size : ℕ) (ps : List ChunkContents) (place : Place) (ws : List ℕ)
+    → Every (λ (p : ChunkContents). length p.bytes ≡ size) ps → Every (λ (p : ChunkContents). length p.bytes ≡ size) (rewritten ps place ws)
 sizes-rewritten size [] place ws every = tt
-sizes-rewritten size (p ∷ ps) place ws every = by_cond (Every (λ (q : Piece). length q.bytes ≡ size)) (is_at place p) (with_bytes_of p ws ∷ ps) (p ∷ rewritten ps place ws)
-    (λ _. (sym (length_refill (length p.bytes) p.bytes ws refl) ∙ every.0, every.1)) (λ _. (every.0, sizes-rewritten size ps place ws every.1))
+sizes-rewritten size (p ∷ ps) place ws every = by_cond (Every (λ (q : ChunkContents). length q.bytes ≡ size)) (is_at place p)
+    (with_bytes_of p ws ∷ ps) (p ∷ rewritten ps place ws)
+    (λ _. (sym (length_refill (length p.bytes) p.bytes ws refl) ∙ every.0, every.1))
+    (λ _. (every.0, sizes-rewritten size ps place ws every.1))
 
 -- the block of a new chunk
-pub added-housed : (t : SlabChunks) (are : AreChunks t) (before : List Piece) (name : ChunkName) (room : ℕ) (bytes : List ℕ) → Adds before (slab_of t).chunks name room bytes → IsTrue (is_some (get_or t.layout.blocks name.block None))
+pub added-housed : (t : SlabChunks) (are : AreChunks t) (before : List ChunkContents) (name : ChunkName) (room : ℕ) (bytes : List ℕ)
+    → Adds before (slab_of t).chunks name room bytes → IsTrue (is_some (get_or t.layout.blocks name.block None))
 added-housed t are before name room bytes adds = grind (arith, nat_tests, common_steps, every_filter)
 
 -- why it refuses
 module _ {X : Type 0} (result : Result X ContextError) (s now : SlabState) (view : s ≡ now) (n : ℕ) where
-  pub refused-size : (f : ContextError) → IsErrAnd result (λ e. e ≡ f) → slab_refusal s n ≡ Some f → IfErr result (IsRefused (slab_refusal now n) (slab_growth now n))
-  refused-size f is over = refused-some result (slab_refusal now n) (slab_growth now n) f is (ap (λ (z : SlabState). slab_refusal z n) (sym view) ∙ over)
+  pub refused-size : (f : ContextError) → IsErrAnd result (λ e. e ≡ f) → slab_refusal s n ≡ Some f
+      → IfErr result (IsRefused (slab_refusal now n) (slab_growth now n))
+  refused-size f is over = refused-some result (slab_refusal now n) (slab_growth now n) f is
+      (ap (λ (z : SlabState). slab_refusal z n) (sym view) ∙ over)
 
-  pub refused-memory : IsErrAnd result (λ e. e ≡ NoMemory) → slab_refusal s n ≡ None → 0 < slab_grows s → IfErr result (IsRefused (slab_refusal now n) (slab_growth now n))
+  pub refused-memory : IsErrAnd result (λ e. e ≡ NoMemory) → slab_refusal s n ≡ None → 0 < slab_grows s
+      → IfErr result (IsRefused (slab_refusal now n) (slab_growth now n))
   refused-memory is none some = grind (arith, nat_tests, common_steps)
 
 -- a request that was served
@@ -53,18 +63,23 @@ pub record Served (now : SlabState) (after : SlabChunks) (n : ℕ) (name : Chunk
   pub space : slab_of after ≡ slab_taken now (chunk_of name (rounded n) bytes)
   pub grown : total (slab_of after).blocks ≡ total now.blocks + slab_growth now n
 
-pub served : (s now : SlabState) (view : s ≡ now) (after : SlabChunks) (are : AreChunks after) (n : ℕ) (name : ChunkName) (bytes : List ℕ) → slab_refusal s n ≡ None → n ≡ s.size → Adds s.chunks (slab_of after).chunks name (rounded s.size) bytes
-    → IsNewBlock (slab_grows s) s.blocks name.block → slab_of after ≡ slab_taken s (chunk_of name (rounded s.size) bytes) → total (slab_of after).blocks ≡ total s.blocks + slab_grows s → Served now after n name bytes
+pub served : (s now : SlabState) (view : s ≡ now) (after : SlabChunks) (are : AreChunks after) (n : ℕ) (name : ChunkName) (bytes : List ℕ)
+    → slab_refusal s n ≡ None → n ≡ s.size → Adds s.chunks (slab_of after).chunks name (rounded s.size) bytes
+    → IsNewBlock (slab_grows s) s.blocks name.block → slab_of after ≡ slab_taken s (chunk_of name (rounded s.size) bytes)
+    → total (slab_of after).blocks ≡ total s.blocks + slab_grows s → Served now after n name bytes
 served s now view after are n name bytes none same added lies space grown =
     let admitted : slab_refusal now n ≡ None = ap (λ (z : SlabState). slab_refusal z n) (sym view) ∙ none in
-    let adds : Adds now.chunks (slab_of after).chunks name (rounded n) bytes = subst (λ (z : SlabState). Adds z.chunks (slab_of after).chunks name (rounded n) bytes) view (subst (λ m. Adds s.chunks (slab_of after).chunks name (rounded m) bytes) (sym same) added) in
+    let adds : Adds now.chunks (slab_of after).chunks name (rounded n) bytes =
+    subst (λ (z : SlabState). Adds z.chunks (slab_of after).chunks name (rounded n) bytes) view
+    (subst (λ m. Adds s.chunks (slab_of after).chunks name (rounded m) bytes) (sym same) added) in
     grind (arith, nat_tests, common_steps, added-housed after are _ name (rounded n) bytes adds, slab-grown now n admitted)
 
-module _ (x : Inside) (ok : AreFields x) (s : SlabState) (e : slab_state x ≡ s) (name : ChunkName) (lives : IsTrue (is_live s.chunks name)) where
+module _ (x : Inside) (ok : AreFields x) (s : SlabState) (e : slab_state x ≡ s) (name : ChunkName)
+    (lives : IsTrue (is_live s.chunks name)) where
   abbrev t : SlabChunks
   t = x.inner
 
-  abbrev ps : List Piece
+  abbrev ps : List ChunkContents
   ps = t.layout.pieces
 
   abbrev place : Place
@@ -80,18 +95,26 @@ module _ (x : Inside) (ok : AreFields x) (s : SlabState) (e : slab_state x ≡ s
   view-same = (live-found ps place ok.chunks.layout.links.places view-here).same ∙ ap (λ (z : SlabState). piece_at z.chunks place) e
 
   pub view-len : length (piece_at ps place).bytes ≡ name.len
-  view-len = ap (λ (p : Piece). length p.bytes) view-same ∙ name-len s.chunks name lives
+  view-len = ap (λ (p : ChunkContents). length p.bytes) view-same ∙ name-len s.chunks name lives
 
   pub view-size : name.len ≡ t.size
   view-size = sym (name-len s.chunks name lives) ∙ ap (λ (z : SlabState). length (piece_at z.chunks place).bytes) (sym e)
-      ∙ first_has (λ (p : Piece). length p.bytes ≡ t.size) (is_at place) no_piece (live ps) view-here ok.sizes
+      ∙ first_has (λ (p : ChunkContents). length p.bytes ≡ t.size) (is_at place) no_piece (live ps) view-here ok.sizes
 
   pub view-room : (piece_at s.chunks place).room ≡ rounded t.size
-  view-room = ap (λ (p : Piece). p.room) (sym view-same) ∙ live-room t.size t.per t.layout t.blocks.items t.spare ok.chunks place view-here
+  view-room = ap (λ (p : ChunkContents). p.room) (sym view-same) ∙ live-room t.size t.per t.layout t.blocks.items t.spare ok.chunks place
+      view-here
 
   -- the size that it has
   pub view-resized : (n : ℕ) → n ≡ t.size → IsResized s.chunks s.chunks name name n
-  view-resized n same = grind (arith, nat_tests, common_steps, view-size, resized-same (bytes_of s.chunks name) n (name-len s.chunks name lives ∙ view-size ∙ sym same))
+  view-resized n same = grind (
+    arith,
+    nat_tests,
+    common_steps,
+    view-size,
+    resized-same (bytes_of s.chunks name) n
+        (name-len s.chunks name lives ∙ view-size ∙ sym same),
+  )
 
   -- the same at the place that was asked of the name
   module _ (at : Place) (is : at ≡ place) where
@@ -102,4 +125,4 @@ module _ (x : Inside) (ok : AreFields x) (s : SlabState) (e : slab_state x ≡ s
     asked-len = ap (λ (p : Place). length (piece_at ps p).bytes) is ∙ view-len
 
     pub asked-bytes : (piece_at ps at).bytes ≡ bytes_of s.chunks name
-    asked-bytes = ap (λ (p : Place). (piece_at ps p).bytes) is ∙ ap (λ (p : Piece). p.bytes) view-same
+    asked-bytes = ap (λ (p : Place). (piece_at ps p).bytes) is ∙ ap (λ (p : ChunkContents). p.bytes) view-same

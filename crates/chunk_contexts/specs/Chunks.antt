@@ -2,42 +2,45 @@
 -- (PostgreSQL 17, src/backend/utils/mmgr/README: what memory contexts are for; that a name tells a place and a length: own)
 use Rattle.std.specs.Prelude.{◌≡◌, ℕ, ◌+◌, ◌<◌, ◌==◌, ◌&&◌, Bool, true, false, List, [], ◌∷◌, Option, Some, None, length, get_or, IsTrue}
 use Rattle.std.specs.List.{filter}
-use Rattle.chunk_layout.specs.Pieces.{Piece, place_of, same_place, has, piece_at, resized}
+use Rattle.chunk_layout.specs.Pieces.{ChunkContents, place_of, same_place, has, piece_at, resized}
 use Rattle.chunk_layout.specs.declared.place.Place.{Place}
 use Rattle.chunk_layout.specs.declared.place.ChunkName.{ChunkName}
 use Rattle.chunk_contexts.specs.declared.error.ContextError.{ContextError}
 use Rattle.chunk_contexts.specs.declared.error.ContextError.TheVariants.{NoMemory, NotSupported}
 
 -- the chunks of which somebody has the name
-abbrev pub live : List Piece → List Piece
+abbrev pub live : List ChunkContents → List ChunkContents
 live ps = filter (λ p. p.is_live) ps
 
 -- whether a name is that of one of the chunks
-abbrev pub is_live : List Piece → ChunkName → Bool
+abbrev pub is_live : List ChunkContents → ChunkName → Bool
 is_live chunks name = has chunks (place_of name) && (length (piece_at chunks (place_of name)).bytes == name.len)
 
 -- the bytes of a chunk
-abbrev pub bytes_of : List Piece → ChunkName → List ℕ
+abbrev pub bytes_of : List ChunkContents → ChunkName → List ℕ
 bytes_of chunks name = (piece_at chunks (place_of name)).bytes
 
 -- how many bytes chunks have together
-abbrev pub lengths : List Piece → ℕ
+abbrev pub lengths : List ChunkContents → ℕ
 lengths [] = 0
 lengths (p ∷ ps) = length p.bytes + lengths ps
 
 -- after are the chunks before with one more, whose place none of them had
-pub record Adds (before after : List Piece) (name : ChunkName) (room : ℕ) (bytes : List ℕ) : Type 0 where
+pub record Adds (before after : List ChunkContents) (name : ChunkName) (room : ℕ) (bytes : List ℕ) : Type 0 where
   pub len : name.len ≡ length bytes
   pub fresh : has before (place_of name) ≡ false
   pub chunks : after ≡ (record { place = place_of name; room = room; is_live = true; bytes = bytes }) ∷ before
 
 -- each live chunk stays live and keeps its bytes, and a new name is that of none of them
-abbrev pub Keeps : List Piece → List Piece → ChunkName → Type 0
-Keeps before after new = (other : ChunkName) → IsTrue (is_live before other) → (same_place (place_of new) (place_of other) ≡ false) × (IsTrue (is_live after other)) × (bytes_of after other ≡ bytes_of before other)
+abbrev pub Keeps : List ChunkContents → List ChunkContents → ChunkName → Type 0
+Keeps before after new = (other : ChunkName) → IsTrue (is_live before other) → (same_place (place_of new) (place_of other) ≡ false)
+    × (IsTrue (is_live after other)) × (bytes_of after other ≡ bytes_of before other)
 
 -- the same of each live chunk but one
-abbrev pub KeepsOthers : List Piece → List Piece → ChunkName → ChunkName → Type 0
-KeepsOthers before after name new = (other : ChunkName) → same_place (place_of name) (place_of other) ≡ false → IsTrue (is_live before other) → (same_place (place_of new) (place_of other) ≡ false) × (IsTrue (is_live after other)) × (bytes_of after other ≡ bytes_of before other)
+abbrev pub KeepsOthers : List ChunkContents → List ChunkContents → ChunkName → ChunkName → Type 0
+KeepsOthers before after name new = (other : ChunkName) → same_place (place_of name) (place_of other) ≡ false
+    → IsTrue (is_live before other) → (same_place (place_of new) (place_of other) ≡ false) × (IsTrue (is_live after other))
+    × (bytes_of after other ≡ bytes_of before other)
 
 -- why a request is refused: as the kind says, and else for want of memory alone where blocks would have to grow
 abbrev pub IsRefused : Option ContextError → ℕ → ContextError → Type 0
@@ -49,7 +52,7 @@ abbrev pub IsNewBlock : ℕ → List (Option ℕ) → ℕ → Type 0
 IsNewBlock growth blocks block = 0 < growth → get_or blocks block None ≡ None
 
 -- a live chunk by its name
-abbrev pub chunk_of : ChunkName → ℕ → List ℕ → Piece
+abbrev pub chunk_of : ChunkName → ℕ → List ℕ → ChunkContents
 chunk_of name room bytes = record { place = place_of name; room = room; is_live = true; bytes = bytes }
 
 -- why a chunk is not resized: the kind has no such call, or refuses the size, or blocks would have to grow
@@ -59,9 +62,10 @@ IsResizeRefused true None growth room n error = (error ≡ NoMemory) × (0 < gro
 IsResizeRefused true (Some refusal) growth room n error = error ≡ refusal
 
 -- after are the chunks before with one of n bytes in the place of one of any length
-pub record IsResized (before after : List Piece) (name new : ChunkName) (n : ℕ) : Type 0 where
+pub record IsResized (before after : List ChunkContents) (name new : ChunkName) (n : ℕ) : Type 0 where
   pub len : new.len ≡ n
   pub lives : IsTrue (is_live after new)
   pub bytes : bytes_of after new ≡ resized (bytes_of before name) n
-  pub others : (q : Place) → same_place (place_of name) q ≡ false → same_place (place_of new) q ≡ false → (has after q ≡ has before q) × (piece_at after q ≡ piece_at before q)
+  pub others : (q : Place) → same_place (place_of name) q ≡ false → same_place (place_of new) q ≡ false → (has after q ≡ has before q)
+      × (piece_at after q ≡ piece_at before q)
   pub gone : same_place (place_of name) (place_of new) ≡ false → (has after (place_of name) ≡ false) × (has before (place_of new) ≡ false)

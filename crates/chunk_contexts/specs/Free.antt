@@ -1,8 +1,9 @@
 -- The free chunks of a layout, and the lists that link them. All of this is our own.
-use Rattle.std.specs.Prelude.{◌≡◌, ℕ, ◌+◌, ◌≤◌, ◌==◌, ◌&&◌, not, Bool, true, false, cond, List, [], ◌∷◌, Option, Some, None, nat_le, ◌-◌, length}
+use Rattle.std.specs.Prelude.{◌≡◌, ℕ, ◌+◌, ◌≤◌, ◌==◌, ◌&&◌, not, Bool, true, false, cond, List, [], ◌∷◌, Option, Some, None, nat_le, ◌-◌}
+use Rattle.std.specs.Prelude.{length}
 use Rattle.std.specs.Prelude.{◌^◌, ◌<◌, get_or}
 use Rattle.chunk_layout.specs.Every.{Every, Pairwise}
-use Rattle.chunk_layout.specs.Pieces.{Layout, Piece, same_place, size_at}
+use Rattle.chunk_layout.specs.Pieces.{Layout, ChunkContents, same_place, size_at}
 use Rattle.chunk_layout.specs.declared.blocks.TheConstants.{HEADER}
 use Rattle.chunk_contexts.specs.declared.active.Active.{Active}
 use Rattle.chunk_contexts.specs.Rooms.{room_of}
@@ -18,16 +19,16 @@ abbrev pub by_block : Place → ℕ → ℕ
 by_block place room = place.block
 
 -- a chunk is free and in the list of this number
-abbrev pub is_free : (Place → ℕ → ℕ) → ℕ → Piece → Bool
+abbrev pub is_free : (Place → ℕ → ℕ) → ℕ → ChunkContents → Bool
 is_free key k p = not p.is_live && (key p.place p.room == k)
 
 -- the rooms of the free chunks, the last one that was freed first
-abbrev pub free_rooms : List Piece → List ℕ
+abbrev pub free_rooms : List ChunkContents → List ℕ
 free_rooms [] = []
 free_rooms (p ∷ ps) = cond p.is_live (free_rooms ps) (p.room ∷ free_rooms ps)
 
 -- the first free chunk of a list
-abbrev pub first_free : (Place → ℕ → ℕ) → ℕ → List Piece → Option Place
+abbrev pub first_free : (Place → ℕ → ℕ) → ℕ → List ChunkContents → Option Place
 first_free key k [] = None
 first_free key k (p ∷ ps) = cond (is_free key k p) (Some p.place) (first_free key k ps)
 
@@ -41,7 +42,7 @@ minus n [] = []
 minus n (x ∷ xs) = cond (x == n) xs (x ∷ minus n xs)
 
 -- each free chunk names the next one of its list
-abbrev pub Linked : (Place → ℕ → ℕ) → List Piece → Type 0
+abbrev pub Linked : (Place → ℕ → ℕ) → List ChunkContents → Type 0
 Linked key [] = Unit {0}
 Linked key (p ∷ ps) = (p.is_live ≡ false → p.bytes ≡ link_bytes (first_free key (key p.place p.room) ps)) × Linked key ps
 
@@ -50,16 +51,23 @@ Linked key (p ∷ ps) = (p.is_live ≡ false → p.bytes ≡ link_bytes (first_f
 abbrev pub cut_used : ℕ → ℕ → ℕ → ℕ
 cut_used room used size = cond (nat_le (room + HEADER) (size - used)) (used + HEADER + room) used
 
-abbrev pub cut_piece : ℕ → ℕ → ℕ → ℕ → List Piece → List Piece
+abbrev pub cut_piece : ℕ → ℕ → ℕ → ℕ → List ChunkContents → List ChunkContents
 cut_piece room block used size ps =
-    cond (nat_le (room + HEADER) (size - used)) ((record { place = record { block = block; offset = used + HEADER }; room = room; is_live = false; bytes = link_bytes (first_free by_room room ps) }) ∷ ps) ps
+    cond (nat_le (room + HEADER) (size - used))
+    ((record {
+      place = record { block = block; offset = used + HEADER };
+      room = room;
+      is_live = false;
+      bytes = link_bytes
+          (first_free by_room room ps);
+    }) ∷ ps) ps
 
-abbrev pub cut_pieces : List ℕ → ℕ → ℕ → ℕ → List Piece → List Piece
+abbrev pub cut_pieces : List ℕ → ℕ → ℕ → ℕ → List ChunkContents → List ChunkContents
 cut_pieces [] block used size ps = ps
 cut_pieces (room ∷ rooms) block used size ps = cut_pieces rooms block (cut_used room used size) size (cut_piece room block used size ps)
 
 -- two chunks are at different places
-abbrev pub Elsewhere : Piece → Piece → Type 0
+abbrev pub Elsewhere : ChunkContents → ChunkContents → Type 0
 Elsewhere p q = same_place p.place q.place ≡ false
 
 -- chunks with headers, of which each free one names the next of its list

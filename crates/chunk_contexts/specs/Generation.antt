@@ -1,7 +1,8 @@
--- The rules of space of a `Generation` beside those of `Run`: a block goes back at once when its last chunk is given up. All of this is our own.
+-- The rules of space of a `Generation` beside those of `Run`: a block goes back at once when its last chunk is given up. All of this is
+-- our own.
 use Rattle.std.specs.Prelude.{◌≡◌, ℕ, ◌+◌, ◌-◌, ◌≤◌, ◌==◌, Bool, true, false, cond, List, [], ◌∷◌, None, length, get_or, slice_set}
 use Rattle.chunk_layout.specs.Every.{Pairwise}
-use Rattle.chunk_layout.specs.Pieces.{Piece, without}
+use Rattle.chunk_layout.specs.Pieces.{ChunkContents, without}
 use Rattle.chunk_layout.specs.declared.blocks.TheConstants.{HEADER}
 use Rattle.chunk_layout.specs.declared.place.Place.{Place}
 use Rattle.chunk_contexts.specs.Free.{Elsewhere}
@@ -10,13 +11,19 @@ use Rattle.chunk_contexts.specs.declared.runs.Runs.{Runs}
 use Rattle.chunk_contexts.specs.declared.rooms.TheConstants.{BLOCK}
 
 -- how many of the chunks are in a block
-abbrev pub in_block : List Piece → ℕ → ℕ
+abbrev pub in_block : List ChunkContents → ℕ → ℕ
 in_block [] block = 0
 in_block (p ∷ ps) block = cond (p.place.block == block) (in_block ps block + 1) (in_block ps block)
 
 -- without a chunk: if it was the last of its block, without the block, of which nothing is left then
 abbrev pub freed_by : Bool → RunState → Place → RunState
-freed_by true s place = record { chunks = without s.chunks place; blocks = slice_set s.blocks place.block None; active = s.active; left = cond (s.active == place.block) 0 s.left }
+freed_by true s place = record {
+  chunks = without s.chunks place;
+  blocks = slice_set s.blocks place.block None;
+  active = s.active;
+  left =
+      cond (s.active == place.block) 0 s.left;
+}
 freed_by false s place = record { chunks = without s.chunks place; blocks = s.blocks; active = s.active; left = s.left }
 
 abbrev pub gen_freed : RunState → Place → RunState

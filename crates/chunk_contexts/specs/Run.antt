@@ -1,9 +1,10 @@
 -- The rules of space of a `Generation` and a `Bump`: chunks lie one after the other in blocks of 8,192 bytes. A chunk that
 -- is longer, with its header if chunks have one, has a block of its own, and the block in use stays. (The rules are our own:
 -- in PostgreSQL 17, src/backend/utils/mmgr/generation.c and bump.c, blocks double.)
-use Rattle.std.specs.Prelude.{◌≡◌, ℕ, ◌+◌, ◌-◌, ◌<◌, nat_le, Bool, true, false, List, [], ◌∷◌, Option, None, replicate, length, get_or, is_some, IsTrue}
+use Rattle.std.specs.Prelude.{◌≡◌, ℕ, ◌+◌, ◌-◌, ◌<◌, nat_le, Bool, true, false, List, [], ◌∷◌, Option, None, replicate, length, get_or}
+use Rattle.std.specs.Prelude.{is_some, IsTrue}
 use Rattle.chunk_layout.specs.Every.{Every}
-use Rattle.chunk_layout.specs.Pieces.{Piece, piece_at, with_block, without, rewritten}
+use Rattle.chunk_layout.specs.Pieces.{ChunkContents, piece_at, with_block, without, rewritten}
 use Rattle.chunk_layout.specs.declared.place.Place.{Place}
 use Rattle.chunk_contexts.specs.Rooms.{rounded, over_most}
 use Rattle.chunk_contexts.specs.Free.{IsRest}
@@ -13,7 +14,7 @@ use Rattle.chunk_contexts.specs.declared.rooms.TheConstants.{BLOCK}
 -- its live chunks, the newest first; the size of each block by its number; the number of the block in use; and what is
 -- left of it
 pub record RunState : Type 0 where
-  pub chunks : List Piece
+  pub chunks : List ChunkContents
   pub blocks : List (Option ℕ)
   pub active : ℕ
   pub left : ℕ
@@ -29,15 +30,27 @@ run_growth_by false true true size = 0
 run_growth_by false true false size = BLOCK
 
 abbrev pub run_growth : ℕ → RunState → ℕ → ℕ
-run_growth head s n = run_growth_by (is_some (over_most n)) (nat_le (head + rounded n) BLOCK) (nat_le (head + rounded n) s.left) (head + rounded n)
+run_growth head s n = run_growth_by (is_some (over_most n)) (nat_le (head + rounded n) BLOCK) (nat_le (head + rounded n) s.left) (head
+    + rounded n)
 
 -- with a chunk: in a block of its own, behind the others, or in a new block
-abbrev pub run_taken_by : Bool → Bool → ℕ → RunState → Piece → RunState
-run_taken_by false fits size s p = record { chunks = p ∷ s.chunks; blocks = with_block s.blocks p.place.block size; active = s.active; left = s.left }
+abbrev pub run_taken_by : Bool → Bool → ℕ → RunState → ChunkContents → RunState
+run_taken_by false fits size s p = record {
+  chunks = p ∷ s.chunks;
+  blocks = with_block s.blocks p.place.block size;
+  active = s.active;
+  left
+      = s.left;
+}
 run_taken_by true true size s p = record { chunks = p ∷ s.chunks; blocks = s.blocks; active = s.active; left = s.left - size }
-run_taken_by true false size s p = record { chunks = p ∷ s.chunks; blocks = with_block s.blocks p.place.block BLOCK; active = p.place.block; left = BLOCK - size }
+run_taken_by true false size s p = record {
+  chunks = p ∷ s.chunks;
+  blocks = with_block s.blocks p.place.block BLOCK;
+  active = p.place.block;
+  left = BLOCK - size;
+}
 
-abbrev pub run_taken : ℕ → RunState → Piece → RunState
+abbrev pub run_taken : ℕ → RunState → ChunkContents → RunState
 run_taken head s p = run_taken_by (nat_le (head + p.room) BLOCK) (nat_le (head + p.room) s.left) (head + p.room) s p
 
 -- the block of a chunk that is made: the one in use, or a new one where blocks grow

@@ -1,7 +1,7 @@
 -- What is true of the fields of an `AllocSet`.
 use Rattle.std.specs.Prelude.{◌≡◌, ◌≢◌, ℕ, ◌+◌, ◌-◌, ◌^◌, ◌<◌, ◌≤◌, ◌⊎◌, true, List, Option, Some, None, get_or, is_some, IsTrue}
 use Rattle.chunk_layout.specs.Every.{Every, Pairwise}
-use Rattle.chunk_layout.specs.Pieces.{Layout, Piece, size_at}
+use Rattle.chunk_layout.specs.Pieces.{Layout, ChunkContents, size_at}
 use Rattle.chunk_layout.specs.declared.place.Place.{Place}
 use Rattle.chunk_contexts.specs.Chunks.{live}
 use Rattle.chunk_contexts.specs.Rooms.{rooms}
@@ -12,18 +12,26 @@ use Rattle.chunk_contexts.specs.declared.active.Active.{Active}
 use Rattle.chunk_contexts.specs.declared.rooms.TheConstants.{BLOCK, LARGEST, LARGEST_BLOCK}
 
 abbrev pub set_of : Inside → SetState
-set_of s = record { chunks = live s.lists.layout.pieces; blocks = s.lists.layout.blocks; free = free_rooms s.lists.layout.pieces; left = s.active.size - s.active.used; next = s.next; first = s.first }
+set_of s = record {
+  chunks = live s.lists.layout.pieces;
+  blocks = s.lists.layout.blocks;
+  free = free_rooms s.lists.layout.pieces;
+  left =
+      s.active.size - s.active.used;
+  next = s.next;
+  first = s.first;
+}
 
 -- a chunk of a set: its block is there; in the block in use it lies in the used part; it has the room of a class, or is
 -- live and larger, and then its block is neither the one in use nor the first
-pub record IsSetPiece (blocks : List (Option ℕ)) (active : Active) (first : Option ℕ) (p : Piece) : Type 0 where
+pub record IsSetPiece (blocks : List (Option ℕ)) (active : Active) (first : Option ℕ) (p : ChunkContents) : Type 0 where
   pub there : IsTrue (is_some (get_or blocks p.place.block None))
   pub used : 0 < active.size → p.place.block ≡ active.block → p.place.offset + p.room ≤ active.used
   pub small : p.room ≤ LARGEST → IsTrue (is_in p.room rooms)
   pub large : LARGEST < p.room → (p.is_live ≡ true) × ((0 < active.size → p.place.block ≢ active.block) × (first ≢ Some p.place.block))
 
 -- a larger chunk has its block for itself
-abbrev pub Alone : Piece → Piece → Type 0
+abbrev pub Alone : ChunkContents → ChunkContents → Type 0
 Alone p q = ((LARGEST < p.room) ⊎ (LARGEST < q.room)) → p.place.block ≢ q.place.block
 
 pub record IsSet (l : Layout) (heads : List (Option Place)) (active : Active) (first : Option ℕ) : Type 0 where

@@ -1,7 +1,7 @@
 -- The rules of space of an `AllocSet` in words: what is cut of a block, and how long a block is. That `Set` computes just this is
 -- a law of `AllocSet`. All of this is our own.
 use Rattle.std.specs.Prelude.{◌≡◌, ℕ, ◌+◌, ◌-◌, ◌*◌, ◌^◌, ◌<◌, ◌≤◌, List, [], ◌∷◌, ◌++◌, min, reverse, IsTrue}
-use Rattle.chunk_layout.specs.Pieces.{Piece}
+use Rattle.chunk_layout.specs.Pieces.{ChunkContents}
 use Rattle.chunk_layout.specs.declared.blocks.TheConstants.{HEADER}
 use Rattle.chunk_contexts.specs.Rooms.{rooms}
 use Rattle.chunk_contexts.specs.Free.{is_in}
@@ -45,6 +45,9 @@ pub record GrowsByRule (s : SetState) : Type 0 where
   pub next : (BLOCK ≤ s.next) × (s.next ≤ LARGEST_BLOCK)
   pub size : (n : ℕ) → n ≤ LARGEST → 0 < set_growth s n → IsDoubled s.next (set_room n + HEADER) (set_growth s n)
   pub most : (n : ℕ) → n ≤ LARGEST → set_growth s n ≤ LARGEST_BLOCK
-  pub cut : (n : ℕ) → n ≤ LARGEST → 0 < set_growth s n → (p : Piece) → p.room ≡ set_room n → IsCutUp s.left s.free (set_taken s n p).free
-  pub rest : (n : ℕ) → n ≤ LARGEST → 0 < set_growth s n → (p : Piece) → p.room ≡ set_room n → (set_taken s n p).left ≡ set_growth s n - (set_room n + HEADER)
-  pub doubles : (n : ℕ) → n ≤ LARGEST → 0 < set_growth s n → (p : Piece) → p.room ≡ set_room n → (set_taken s n p).next ≡ min (2 * s.next) LARGEST_BLOCK
+  pub cut : (n : ℕ) → n ≤ LARGEST → 0 < set_growth s n → (p : ChunkContents) → p.room ≡ set_room n
+      → IsCutUp s.left s.free (set_taken s n p).free
+  pub rest : (n : ℕ) → n ≤ LARGEST → 0 < set_growth s n → (p : ChunkContents) → p.room ≡ set_room n → (set_taken s n p).left
+      ≡ set_growth s n - (set_room n + HEADER)
+  pub doubles : (n : ℕ) → n ≤ LARGEST → 0 < set_growth s n → (p : ChunkContents) → p.room ≡ set_room n → (set_taken s n p).next
+      ≡ min (2 * s.next) LARGEST_BLOCK

@@ -1,9 +1,10 @@
 -- The rules of space of a `Slab`: chunks of one size, in blocks of 8,192 bytes or of one chunk if that is larger. A block is
 -- taken only where none has a free chunk, and goes back as soon as all its chunks are free. (The rules are our own: in
 -- PostgreSQL 17, src/backend/utils/mmgr/slab.c, up to ten empty blocks are kept.)
-use Rattle.std.specs.Prelude.{◌≡◌, ℕ, ◌+◌, ◌*◌, ◌/◌, ◌≤◌, ◌==◌, ◌&&◌, ◌||◌, max, nat_lt, Bool, true, false, cond, List, [], ◌∷◌, Option, Some, None, replicate, length, get_or, slice_set, is_some, IsTrue}
+use Rattle.std.specs.Prelude.{◌≡◌, ℕ, ◌+◌, ◌*◌, ◌/◌, ◌≤◌, ◌==◌, ◌&&◌, ◌||◌, max, nat_lt, Bool, true, false, cond, List, [], ◌∷◌, Option}
+use Rattle.std.specs.Prelude.{Some, None, replicate, length, get_or, slice_set, is_some, IsTrue}
 use Rattle.chunk_layout.specs.Every.{Every}
-use Rattle.chunk_layout.specs.Pieces.{Layout, Piece, without, with_block, rewritten, size_at}
+use Rattle.chunk_layout.specs.Pieces.{Layout, ChunkContents, without, with_block, rewritten, size_at}
 use Rattle.chunk_layout.specs.declared.blocks.TheConstants.{HEADER}
 use Rattle.chunk_layout.specs.declared.place.Place.{Place}
 use Rattle.chunk_contexts.specs.Chunks.{live}
@@ -26,7 +27,7 @@ per_block room = slab_block room / (HEADER + room)
 -- the size of its chunks; its live chunks, the newest first; and the size of each block by its number
 pub record SlabState : Type 0 where
   pub size : ℕ
-  pub chunks : List Piece
+  pub chunks : List ChunkContents
   pub blocks : List (Option ℕ)
 
 abbrev pub new_slab : ℕ → SlabState
@@ -42,7 +43,7 @@ abbrev pub slab_refusal : SlabState → ℕ → Option ContextError
 slab_refusal s n = slab_refusal_by (over_most n) (n == s.size)
 
 -- whether one of the blocks has a free chunk, the first of them having this number
-abbrev pub spare_from : ℕ → List Piece → ℕ → List (Option ℕ) → Bool
+abbrev pub spare_from : ℕ → List ChunkContents → ℕ → List (Option ℕ) → Bool
 spare_from per chunks block [] = false
 spare_from per chunks block (b ∷ bs) = (is_some b && nat_lt (in_block chunks block) per) || spare_from per chunks (block + 1) bs
 
@@ -62,8 +63,13 @@ abbrev pub slab_growth : SlabState → ℕ → ℕ
 slab_growth s n = cond (is_some (slab_refusal s n)) 0 (slab_grows s)
 
 -- with a chunk, in a block that has a free one, else in a new block
-abbrev pub slab_taken : SlabState → Piece → SlabState
-slab_taken s p = record { size = s.size; chunks = p ∷ s.chunks; blocks = cond (has_spare s) s.blocks (with_block s.blocks p.place.block (slab_block (rounded s.size))) }
+abbrev pub slab_taken : SlabState → ChunkContents → SlabState
+slab_taken s p = record {
+  size = s.size;
+  chunks = p
+      ∷ s.chunks;
+  blocks = cond (has_spare s) s.blocks (with_block s.blocks p.place.block (slab_block (rounded s.size)));
+}
 
 -- with other bytes in the chunk at a place, as many as there were
 abbrev pub slab_wrote : SlabState → Place → List ℕ → SlabState
@@ -94,7 +100,7 @@ pub record IsSlabLayout (size : ℕ) (l : Layout) : Type 0 where
   pub ends : Every (λ p. p.place.offset + p.room ≤ in_block l.pieces p.place.block * (HEADER + rounded size)) l.pieces
 
 -- what is kept of a block: its first free chunk, how many chunks were cut from it, and how many of these are live
-pub record IsEntry (ps : List Piece) (block : ℕ) (e : SlabBlock) : Type 0 where
+pub record IsEntry (ps : List ChunkContents) (block : ℕ) (e : SlabBlock) : Type 0 where
   pub free : e.free ≡ first_free by_block block ps
   pub cut : e.cut ≡ in_block ps block
   pub live : e.live ≡ in_block (live ps) block
@@ -111,7 +117,8 @@ pub record IsSlab (size count : ℕ) (l : Layout) (kept : List SlabBlock) (marke
   pub few : (block : ℕ) → (get_or kept block no_block).live ≤ count
   pub long : length l.blocks ≤ length kept
   pub long_marks : length l.blocks ≤ length marked
-  pub marks : (block : ℕ) → get_or marked block false ≡ (is_some (get_or l.blocks block None) && nat_lt (get_or kept block no_block).live count)
+  pub marks : (block : ℕ) → get_or marked block false
+      ≡ (is_some (get_or l.blocks block None) && nat_lt (get_or kept block no_block).live count)
 
 abbrev pub AreChunks : SlabChunks → Type 0
 AreChunks s = IsSlab s.size s.per s.layout s.blocks.items s.spare

@@ -36,7 +36,12 @@ impl Active {
 
     /// The block in use after a block was given back: nothing is left if it was this one.
     pub(crate) fn without(self, block: u32) -> Active
-        ensures { result ≡ record { block = self.block; used = cond (self.block == block) 0 self.used; size = cond (self.block == block) 0 self.size } }
+        ensures { result ≡ record {
+          block = self.block;
+          used = cond (self.block == block) 0 self.used;
+          size = cond (self.block == block) 0
+              self.size;
+        } }
     {
         if self.block != block {
             return self;
@@ -58,7 +63,13 @@ impl Active {
         ensures place { result ≡ record { block = self.old.block; offset = self.old.used + head } }
         ensures used { self.new ≡ record { block = self.old.block; used = self.old.used + head + room; size = self.old.size } }
         ensures fresh { has layout.old.pieces result ≡ false }
-        ensures carved { layout.new ≡ record { head = head; blocks = layout.old.blocks; pieces = (record { place = result; room = room; is_live = true; bytes = [] }) ∷ layout.old.pieces } }
+        ensures carved { layout.new
+            ≡ record {
+              head = head;
+              blocks = layout.old.blocks;
+              pieces =
+                  (record { place = result; room = room; is_live = true; bytes = [] }) ∷ layout.old.pieces;
+            } }
         ensures rest { IsRest layout.new self.new }
     {
         let place = Place {

@@ -1,11 +1,13 @@
 //! `AllocSet`: chunks by classes, with a free list for each.
-ghost use Rattle.std.specs.Prelude.{◌≡◌, ◌+◌, ◌*◌, ◌-◌, ◌<◌, ◌≤◌, ◌^◌, min, true, false, [], ◌∷◌, Some, None, IsTrue, IfSome, IfNone, IfOk, OnOk, OnErr, IfErr, length, get_or, is_some, nat_le, take, ◌++◌};
+ghost use Rattle.std.specs.Prelude.{◌≡◌, ◌+◌, ◌*◌, ◌-◌, ◌<◌, ◌≤◌, ◌^◌, min, true, false, [], ◌∷◌, Some, None, IsTrue, IfSome, IfNone, IfOk};
+ghost use Rattle.std.specs.Prelude.{OnOk, OnErr, IfErr, length, get_or, is_some, nat_le, take, ◌++◌};
 ghost use Rattle.block_memory.specs.Cells.{zeros};
 ghost use Rattle.chunk_layout.specs.Pieces.{has, same_place, place_of, piece_at, total, with_block, resized};
 ghost use Rattle.chunk_contexts.specs.Rooms.{rounded, rooms, room_of};
 ghost use Rattle.chunk_contexts.specs.Chunks.{chunk_of, IsNewBlock};
 ghost use Rattle.chunk_contexts.specs.Free.{is_in};
-ghost use Rattle.chunk_contexts.specs.Set.{new_set, set_growth, set_room, block_size, grown, carved, reused, dedicated, set_taken, set_freed, set_put, set_reset, SetState};
+ghost use Rattle.chunk_contexts.specs.Set.{new_set, set_growth, set_room, block_size, grown, carved, reused, dedicated, set_taken};
+ghost use Rattle.chunk_contexts.specs.Set.{set_freed, set_put, set_reset, SetState};
 ghost use Rattle.chunk_contexts.specs.SetRules.{GrowsByRule};
 ghost use Rattle.chunk_contexts.specs.SetFields.{set_of, AreFields};
 
@@ -79,7 +81,8 @@ impl AllocSet {
     /// Takes the first free chunk of a class, if there is one. It has no bytes then.
     fn reuse(&mut self, class: usize) -> Option<Place>
         requires { class < CLASSES }
-        ensures some { IfSome result (λ place. (is_in (room_of class) self.old.free ≡ true) × (self.new ≡ reused self.old (record { place = place; room = room_of class; is_live = true; bytes = [] }))) }
+        ensures some { IfSome result (λ place. (is_in (room_of class) self.old.free ≡ true)
+            × (self.new ≡ reused self.old (record { place = place; room = room_of class; is_live = true; bytes = [] }))) }
         ensures fresh { IfSome result (λ place. has self.old.chunks place ≡ false) }
         ensures none { IfNone result ((is_in (room_of class) self.old.free ≡ false) × (self.new ≡ self.old)) }
     {
@@ -103,7 +106,8 @@ impl AllocSet {
     fn carve_new(&mut self, room: usize) -> Result<Place, AllocError>
         requires known { IsTrue (is_in room rooms) }
         requires small { room ≤ LARGEST }
-        ensures carved { IfOk result (λ place. self.new ≡ carved (grown self.old place.block (block_size self.old.next room)) (record { place = place; room = room; is_live = true; bytes = [] })) }
+        ensures carved { IfOk result (λ place. self.new ≡ carved (grown self.old place.block (block_size self.old.next room))
+            (record { place = place; room = room; is_live = true; bytes = [] })) }
         ensures fresh { IfOk result (λ place. has self.old.chunks place ≡ false) }
         ensures vacant { IfOk result (λ place. get_or self.old.blocks place.block None ≡ None) }
         ensures held { OnOk result (total self.new.blocks ≡ total self.old.blocks + block_size self.old.next room) }
@@ -126,7 +130,8 @@ impl AllocSet {
     fn dedicate(&mut self, room: usize) -> Result<Place, AllocError>
         requires large { LARGEST < room }
         requires small { room ≤ MOST + 8 }
-        ensures taken { IfOk result (λ place. self.new ≡ dedicated self.old (record { place = place; room = room; is_live = true; bytes = [] })) }
+        ensures taken { IfOk result (λ place. self.new
+            ≡ dedicated self.old (record { place = place; room = room; is_live = true; bytes = [] })) }
         ensures fresh { IfOk result (λ place. has self.old.chunks place ≡ false) }
         ensures vacant { IfOk result (λ place. get_or self.old.blocks place.block None ≡ None) }
         ensures held { OnOk result (total self.new.blocks ≡ total self.old.blocks + (room + HEADER)) }
@@ -144,7 +149,8 @@ impl AllocSet {
     /// Makes a chunk of no bytes, with room for `n`.
     fn claim(&mut self, n: usize) -> Result<Place, AllocError>
         requires { n ≤ MOST }
-        ensures taken { IfOk result (λ place. self.new ≡ set_taken self.old n (record { place = place; room = set_room n; is_live = true; bytes = [] })) }
+        ensures taken { IfOk result (λ place. self.new
+            ≡ set_taken self.old n (record { place = place; room = set_room n; is_live = true; bytes = [] })) }
         ensures room { OnOk result (n ≤ set_room n) }
         ensures fresh { IfOk result (λ place. has self.old.chunks place ≡ false) }
         ensures lies { IfOk result (λ place. IsNewBlock (set_growth self.old n) self.old.blocks place.block) }
@@ -262,9 +268,12 @@ impl AllocSet {
         requires small { n ≤ MOST }
         ensures len { IfOk result (λ moved. moved.len ≡ n) }
         ensures fresh { IfOk result (λ moved. has self.old.chunks (place_of moved) ≡ false) }
-        ensures moved { IfOk result (λ moved. self.new ≡ set_freed (set_taken self.old n (chunk_of moved (set_room n) (resized (piece_at self.old.chunks from).bytes n))) from) }
+        ensures moved { IfOk result (λ moved. self.new
+            ≡ set_freed (set_taken self.old n (chunk_of moved (set_room n) (resized (piece_at self.old.chunks from).bytes n))) from) }
         ensures lies { IfOk result (λ moved. IsNewBlock (set_growth self.old n) self.old.blocks moved.block) }
-        ensures held { IfOk result (λ moved. total (set_taken self.old n (chunk_of moved (set_room n) (resized (piece_at self.old.chunks from).bytes n))).blocks ≡ total self.old.blocks + set_growth self.old n) }
+        ensures held { IfOk result
+            (λ moved. total (set_taken self.old n (chunk_of moved (set_room n) (resized (piece_at self.old.chunks from).bytes n))).blocks
+            ≡ total self.old.blocks + set_growth self.old n) }
         ensures refused { OnErr result ((self.new ≡ self.old) × (0 < set_growth self.old n)) }
     {
         let place = self.claim(n)?;

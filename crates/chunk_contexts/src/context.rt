@@ -1,10 +1,12 @@
 //! What all kinds of context do.
-ghost use Rattle.std.specs.Prelude.{◌≡◌, ◌+◌, ◌<◌, ◌≤◌, ℕ, Bool, not, true, false, List, [], Option, None, IsTrue, IfOk, OnOk, IfErr, OnErr, length, get_or, is_some};
+ghost use Rattle.std.specs.Prelude.{◌≡◌, ◌+◌, ◌<◌, ◌≤◌, ℕ, Bool, not, true, false, List, [], Option, None, IsTrue, IfOk, OnOk, IfErr};
+ghost use Rattle.std.specs.Prelude.{OnErr, length, get_or, is_some};
 ghost use Rattle.std.specs.Borrow.{sem};
 ghost use Rattle.block_memory.specs.Cells.{zeros};
-ghost use Rattle.chunk_layout.specs.Pieces.{Piece, place_of, piece_at, without, rewritten, resized, total, AreLaid};
+ghost use Rattle.chunk_layout.specs.Pieces.{ChunkContents, place_of, piece_at, without, rewritten, resized, total, AreLaid};
 ghost use Rattle.chunk_layout.specs.declared.place.Place.{Place};
-ghost use Rattle.chunk_contexts.specs.Chunks.{is_live, bytes_of, lengths, chunk_of, Adds, Keeps, KeepsOthers, IsRefused, IsResizeRefused, IsResized};
+ghost use Rattle.chunk_contexts.specs.Chunks.{is_live, bytes_of, lengths, chunk_of, Adds, Keeps, KeepsOthers, IsRefused, IsResizeRefused};
+ghost use Rattle.chunk_contexts.specs.Chunks.{IsResized};
 ghost use Rattle.chunk_contexts.specs.ContextLends.{lends_chunk};
 ghost use Rattle.chunk_contexts.specs.declared.error.ContextError.{ContextError};
 ghost use Rattle.chunk_contexts.specs.declared.error.ContextError.TheVariants.{NotSupported};
@@ -21,7 +23,7 @@ use chunk_layout::ChunkName;
 /// `held` counts the bytes of the blocks alone, and not the list in which they are kept.
 pub trait ChunkContext {
     /// The live chunks, and the size of each block by its number.
-    ghost chunks: { Self → List Piece };
+    ghost chunks: { Self → List ChunkContents };
 
     ghost blocks: { Self → List (Option ℕ) };
 
@@ -41,7 +43,7 @@ pub trait ChunkContext {
 
     /// The context with a chunk more for a request of n bytes; with other bytes in a chunk that stays where it is, as many
     /// or not; without a chunk; and without any.
-    ghost taken: { Self → ℕ → Piece → Self };
+    ghost taken: { Self → ℕ → ChunkContents → Self };
 
     ghost wrote: { Self → Place → List ℕ → Self };
 
@@ -63,7 +65,8 @@ pub trait ChunkContext {
         ensures block { IfOk result (λ name. IsTrue (is_some (get_or (blocks self.new) name.block None))) }
         ensures lies { IfOk result (λ name. may_lie self.old (length bytes.now) name.block) }
         ensures keeps { IfOk result (Keeps (chunks self.old) (chunks self.new)) }
-        ensures space { IfOk result (λ name. self.new ≡ taken self.old (length bytes.now) (chunk_of name (room self.old (length bytes.now)) bytes.now)) }
+        ensures space { IfOk result (λ name. self.new
+            ≡ taken self.old (length bytes.now) (chunk_of name (room self.old (length bytes.now)) bytes.now)) }
         ensures grown { OnOk result (total (blocks self.new) ≡ total (blocks self.old) + growth self.old (length bytes.now)) }
         ensures refused { IfErr result (IsRefused (refusal self.old (length bytes.now)) (growth self.old (length bytes.now))) }
         ensures unchanged { OnErr result (self.new ≡ self.old) };
@@ -122,12 +125,17 @@ pub trait ChunkContext {
         ensures admitted { OnOk result ((frees self.old ≡ true) × (refusal self.old n ≡ None)) }
         ensures resized { IfOk result (λ new. IsResized (chunks self.old) (chunks self.new) name new n) }
         ensures keeps { IfOk result (KeepsOthers (chunks self.old) (chunks self.new) name) }
-        ensures stays { IfOk result (λ new. n ≤ (piece_at (chunks self.old) (place_of name)).room → self.new ≡ put self.old (place_of name) (resized (bytes_of (chunks self.old) name) n)) }
-        ensures moved { IfOk result (λ new. (piece_at (chunks self.old) (place_of name)).room < n → self.new ≡ freed (taken self.old n (chunk_of new (room self.old n) (resized (bytes_of (chunks self.old) name) n))) (place_of name)) }
+        ensures stays { IfOk result (λ new. n ≤ (piece_at (chunks self.old) (place_of name)).room → self.new
+            ≡ put self.old (place_of name) (resized (bytes_of (chunks self.old) name) n)) }
+        ensures moved { IfOk result (λ new. (piece_at (chunks self.old) (place_of name)).room < n → self.new
+            ≡ freed (taken self.old n (chunk_of new (room self.old n) (resized (bytes_of (chunks self.old) name) n))) (place_of name)) }
         ensures lies { IfOk result (λ new. (piece_at (chunks self.old) (place_of name)).room < n → may_lie self.old n new.block) }
-        ensures grown { IfOk result (λ new. (piece_at (chunks self.old) (place_of name)).room < n → total (blocks (taken self.old n (chunk_of new (room self.old n) (resized (bytes_of (chunks self.old) name) n)))) ≡ total (blocks self.old) + growth self.old n) }
+        ensures grown { IfOk result (λ new. (piece_at (chunks self.old) (place_of name)).room < n
+            → total (blocks (taken self.old n (chunk_of new (room self.old n) (resized (bytes_of (chunks self.old) name) n))))
+            ≡ total (blocks self.old) + growth self.old n) }
         ensures most { OnOk result (total (blocks self.new) ≤ total (blocks self.old) + growth self.old n) }
-        ensures refused { IfErr result (IsResizeRefused (frees self.old) (refusal self.old n) (growth self.old n) (piece_at (chunks self.old) (place_of name)).room n) }
+        ensures refused { IfErr result (IsResizeRefused (frees self.old) (refusal self.old n) (growth self.old n)
+            (piece_at (chunks self.old) (place_of name)).room n) }
         ensures unchanged { OnErr result (self.new ≡ self.old) };
 
     /// Gives up all chunks, and all blocks that the kind does not keep.

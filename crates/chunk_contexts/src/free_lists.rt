@@ -59,7 +59,14 @@ impl FreeLists {
         requires none { has self.old.layout.pieces place ≡ false }
         requires links { IsLinkable place }
         ensures lists { AreLists self.new.layout self.new.heads }
-        ensures cut { self.new.layout ≡ record { head = HEADER; blocks = self.old.layout.blocks; pieces = (record { place = place; room = room; is_live = false; bytes = link_bytes (first_free by_room room self.old.layout.pieces) }) ∷ self.old.layout.pieces } }
+        ensures cut { self.new.layout
+            ≡ record {
+              head = HEADER;
+              blocks = self.old.layout.blocks;
+              pieces =
+                  (record { place = place; room = room; is_live = false; bytes = link_bytes (first_free by_room room self.old.layout.pieces) })
+                  ∷ self.old.layout.pieces;
+            } }
     {
         self.layout.carve(place, room);
         self.release(place, room);
@@ -73,8 +80,15 @@ impl FreeLists {
         requires small { room ≤ LARGEST }
         ensures lists { AreLists self.new.layout self.new.heads }
         ensures rest { IsRest self.new.layout block.new }
-        ensures used { block.new ≡ record { block = block.old.block; used = cut_used room block.old.used block.old.size; size = block.old.size } }
-        ensures cut { self.new.layout ≡ record { head = HEADER; blocks = self.old.layout.blocks; pieces = cut_piece room block.old.block block.old.used block.old.size self.old.layout.pieces } }
+        ensures used { block.new
+            ≡ record { block = block.old.block; used = cut_used room block.old.used block.old.size; size = block.old.size } }
+        ensures cut { self.new.layout
+            ≡ record {
+              head = HEADER;
+              blocks = self.old.layout.blocks;
+              pieces = cut_piece room block.old.block block.old.used block.old.size
+                  self.old.layout.pieces;
+            } }
     {
         if room + HEADER > block.left() {
             return;
@@ -92,7 +106,13 @@ impl FreeLists {
         requires lists { AreLists self.old.layout self.old.heads }
         requires rest { IsRest self.old.layout block }
         ensures lists { AreLists self.new.layout self.new.heads }
-        ensures cut { self.new.layout ≡ record { head = HEADER; blocks = self.old.layout.blocks; pieces = cut_pieces rooms_down block.block block.used block.size self.old.layout.pieces } }
+        ensures cut { self.new.layout
+            ≡ record {
+              head = HEADER;
+              blocks = self.old.layout.blocks;
+              pieces = cut_pieces rooms_down block.block block.used block.size
+                  self.old.layout.pieces;
+            } }
     {
         let mut rest = block;
         for index in 0..CLASSES {

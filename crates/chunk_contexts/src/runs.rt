@@ -1,5 +1,6 @@
 //! Chunks that lie one after the other in blocks.
-ghost use Rattle.std.specs.Prelude.{◌≡◌, ℕ, ◌+◌, ◌-◌, ◌<◌, ◌≤◌, ◌^◌, ◌++◌, if◌then◌else◌, true, false, [], ◌∷◌, Some, None, IsTrue, IfOk, OnOk, IfErr, OnErr, length, get_or, take};
+ghost use Rattle.std.specs.Prelude.{◌≡◌, ℕ, ◌+◌, ◌-◌, ◌<◌, ◌≤◌, ◌^◌, ◌++◌, if◌then◌else◌, true, false, [], ◌∷◌, Some, None, IsTrue, IfOk};
+ghost use Rattle.std.specs.Prelude.{OnOk, IfErr, OnErr, length, get_or, take};
 ghost use Rattle.block_memory.specs.Cells.{zeros};
 ghost use Rattle.chunk_layout.specs.Pieces.{has, piece_at, total, with_block};
 ghost use Rattle.chunk_contexts.specs.Rooms.{rounded, over_most};
@@ -40,7 +41,15 @@ impl Runs {
         requires room { 1 ≤ room }
         requires small { room ≤ MOST + 8 }
         ensures run { IsRun head self.new }
-        ensures made { IfOk result (λ place. run_of self.new ≡ record { chunks = (record { place = place; room = room; is_live = true; bytes = [] }) ∷ (run_of self.old).chunks; blocks = with_block (run_of self.old).blocks place.block (head + room); active = (run_of self.old).active; left = (run_of self.old).left }) }
+        ensures made { IfOk result (λ place. run_of self.new
+            ≡ record {
+              chunks = (record { place = place; room = room; is_live = true; bytes = [] })
+                  ∷ (run_of self.old).chunks;
+              blocks = with_block (run_of self.old).blocks place.block (head + room);
+              active =
+                  (run_of self.old).active;
+              left = (run_of self.old).left;
+            }) }
         ensures fresh { IfOk result (λ place. has self.old.layout.pieces place ≡ false) }
         ensures vacant { IfOk result (λ place. get_or self.old.layout.blocks place.block None ≡ None) }
         ensures held { OnOk result (total self.new.layout.blocks ≡ total self.old.layout.blocks + (head + room)) }
@@ -60,7 +69,14 @@ impl Runs {
         requires run { IsRun head self.old }
         requires head { head ≤ HEADER }
         ensures run { IsRun head self.new }
-        ensures started { OnOk result (run_of self.new ≡ record { chunks = (run_of self.old).chunks; blocks = with_block (run_of self.old).blocks self.new.active.block BLOCK; active = self.new.active.block; left = BLOCK }) }
+        ensures started { OnOk result (run_of self.new
+            ≡ record {
+              chunks = (run_of self.old).chunks;
+              blocks = with_block (run_of self.old).blocks self.new.active.block BLOCK;
+              active =
+                  self.new.active.block;
+              left = BLOCK;
+            }) }
         ensures vacant { OnOk result (get_or self.old.layout.blocks self.new.active.block None ≡ None) }
         ensures held { OnOk result (total self.new.layout.blocks ≡ total self.old.layout.blocks + BLOCK) }
         ensures refused { OnErr result (self.new ≡ self.old) }
@@ -82,7 +98,14 @@ impl Runs {
         requires fits { head + room ≤ (run_of self.old).left }
         ensures run { IsRun head self.new }
         ensures block { result.block ≡ self.old.active.block }
-        ensures made { run_of self.new ≡ record { chunks = (record { place = result; room = room; is_live = true; bytes = [] }) ∷ (run_of self.old).chunks; blocks = (run_of self.old).blocks; active = (run_of self.old).active; left = (run_of self.old).left - (head + room) } }
+        ensures made { run_of self.new ≡ record {
+          chunks = (record { place = result; room = room; is_live = true; bytes = [] })
+              ∷ (run_of self.old).chunks;
+          blocks = (run_of self.old).blocks;
+          active = (run_of self.old).active;
+          left = (run_of self.old).left
+              - (head + room);
+        } }
         ensures fresh { has self.old.layout.pieces result ≡ false }
     {
         self.active.carve(&mut self.layout, head, room)
@@ -94,7 +117,8 @@ impl Runs {
         requires head { head ≤ HEADER }
         requires small { n ≤ MOST }
         ensures run { IsRun head self.new }
-        ensures taken { IfOk result (λ place. run_of self.new ≡ run_taken head (run_of self.old) (record { place = place; room = rounded n; is_live = true; bytes = [] })) }
+        ensures taken { IfOk result (λ place. run_of self.new
+            ≡ run_taken head (run_of self.old) (record { place = place; room = rounded n; is_live = true; bytes = [] })) }
         ensures fresh { IfOk result (λ place. has self.old.layout.pieces place ≡ false) }
         ensures room { OnOk result (n ≤ rounded n) }
         ensures held { OnOk result (total self.new.layout.blocks ≡ total self.old.layout.blocks + run_growth head (run_of self.old) n) }
@@ -146,9 +170,12 @@ impl Runs {
         requires head { head ≤ HEADER }
         ensures run { IsRun head self.new }
         ensures admitted { OnOk result (over_most (length bytes.now) ≡ None) }
-        ensures added { IfOk result (λ name. Adds (run_of self.old).chunks (run_of self.new).chunks name (rounded (length bytes.now)) (bytes.now)) }
-        ensures space { IfOk result (λ name. run_of self.new ≡ run_taken head (run_of self.old) (chunk_of name (rounded (length bytes.now)) (bytes.now))) }
-        ensures grown { OnOk result (total (run_of self.new).blocks ≡ total (run_of self.old).blocks + run_growth head (run_of self.old) (length bytes.now)) }
+        ensures added { IfOk result (λ name. Adds (run_of self.old).chunks (run_of self.new).chunks name (rounded (length bytes.now))
+            (bytes.now)) }
+        ensures space { IfOk result (λ name. run_of self.new
+            ≡ run_taken head (run_of self.old) (chunk_of name (rounded (length bytes.now)) (bytes.now))) }
+        ensures grown { OnOk result (total (run_of self.new).blocks ≡ total (run_of self.old).blocks
+            + run_growth head (run_of self.old) (length bytes.now)) }
         ensures block { IfOk result (λ made. IsBlockOf (run_of self.old) (run_growth head (run_of self.old) (length bytes.now)) made.block) }
         ensures refused { IfErr result (IsRefused (over_most (length bytes.now)) (run_growth head (run_of self.old) (length bytes.now))) }
         ensures unchanged { OnErr result (self.new ≡ self.old) }
@@ -167,7 +194,8 @@ impl Runs {
         ensures admitted { OnOk result (over_most (n) ≡ None) }
         ensures added { IfOk result (λ name. Adds (run_of self.old).chunks (run_of self.new).chunks name (rounded (n)) (zeros n)) }
         ensures space { IfOk result (λ name. run_of self.new ≡ run_taken head (run_of self.old) (chunk_of name (rounded (n)) (zeros n))) }
-        ensures grown { OnOk result (total (run_of self.new).blocks ≡ total (run_of self.old).blocks + run_growth head (run_of self.old) (n)) }
+        ensures grown { OnOk result (total (run_of self.new).blocks ≡ total (run_of self.old).blocks
+            + run_growth head (run_of self.old) (n)) }
         ensures block { IfOk result (λ made. IsBlockOf (run_of self.old) (run_growth head (run_of self.old) n) made.block) }
         ensures refused { IfErr result (IsRefused (over_most (n)) (run_growth head (run_of self.old) (n))) }
         ensures unchanged { OnErr result (self.new ≡ self.old) }

@@ -29,7 +29,8 @@ impl Model for Slab {
 
 /// Refuses a request that is too long for any kind, and then one of another size than the chunks have.
 fn check_size(size: usize, n: usize) -> Result<(), ContextError>
-    ensures { MatchResult result (λ _. slab_refusal_by (over_most n) (n == size) ≡ None) (λ e. slab_refusal_by (over_most n) (n == size) ≡ Some e) }
+    ensures { MatchResult result (λ _. slab_refusal_by (over_most n) (n == size) ≡ None) (λ e. slab_refusal_by (over_most n) (n == size)
+        ≡ Some e) }
 {
     check_len(n)?;
     if n != size {

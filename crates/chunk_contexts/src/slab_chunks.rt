@@ -1,10 +1,12 @@
 //! Chunks of one size, in blocks that go back as soon as all their chunks are free.
-ghost use Rattle.std.specs.Prelude.{◌≡◌, ◌≢◌, ℕ, ◌+◌, ◌*◌, ◌-◌, ◌<◌, ◌≤◌, ◌^◌, true, false, [], ◌∷◌, ◌++◌, Some, None, IsTrue, is_some, IfOk, OnOk, OnErr, length, get_or};
+ghost use Rattle.std.specs.Prelude.{◌≡◌, ◌≢◌, ℕ, ◌+◌, ◌*◌, ◌-◌, ◌<◌, ◌≤◌, ◌^◌, true, false, [], ◌∷◌, ◌++◌, Some, None, IsTrue, is_some};
+ghost use Rattle.std.specs.Prelude.{IfOk, OnOk, OnErr, length, get_or};
 ghost use Rattle.block_memory.specs.Cells.{zeros};
 ghost use Rattle.chunk_layout.specs.Pieces.{has, total, with_block};
 ghost use Rattle.chunk_contexts.specs.Chunks.{chunk_of, live, Adds, IsNewBlock};
 ghost use Rattle.chunk_contexts.specs.Rooms.{rounded};
-ghost use Rattle.chunk_contexts.specs.Slab.{per_block, slab_block, no_block, new_slab, slab_of, slab_grows, slab_taken, slab_freed, slab_reset, IsSlabLayout, IsEntry, AreChunks};
+ghost use Rattle.chunk_contexts.specs.Slab.{per_block, slab_block, no_block, new_slab, slab_of, slab_grows, slab_taken, slab_freed};
+ghost use Rattle.chunk_contexts.specs.Slab.{slab_reset, IsSlabLayout, IsEntry, AreChunks};
 
 use crate::rooms::{BLOCK, MOST, rounded};
 use chunk_layout::{BlockMarks, ChunkLayout, ChunkName, HEADER, Place, put_first, take_first};
@@ -69,7 +71,8 @@ fn take_chunk(layout: &mut ChunkLayout, entry: &mut SlabBlock, block: u32, size:
     ensures others { (k : ℕ) → k ≢ block → (e : SlabBlock) → IsEntry layout.old.pieces k e → IsEntry layout.new.pieces k e }
     ensures count { entry.new.live ≡ entry.old.live + 1 }
     ensures blocks { layout.new.blocks ≡ layout.old.blocks }
-    ensures taken { live layout.new.pieces ≡ (record { place = result; room = rounded size; is_live = true; bytes = [] }) ∷ live layout.old.pieces }
+    ensures taken { live layout.new.pieces ≡ (record { place = result; room = rounded size; is_live = true; bytes = [] })
+        ∷ live layout.old.pieces }
     ensures fresh { has (live layout.old.pieces) result ≡ false }
     ensures block { result.block ≡ block }
 {
@@ -151,7 +154,13 @@ impl SlabChunks {
         requires chunks { AreChunks self.old }
         ensures chunks { AreChunks self.new }
         ensures vacant { IfOk result (λ block. get_or (slab_of self.old).blocks block None ≡ None) }
-        ensures grown { IfOk result (λ block. slab_of self.new ≡ record { size = self.old.size; chunks = (slab_of self.old).chunks; blocks = with_block (slab_of self.old).blocks block (slab_block (rounded self.old.size)) }) }
+        ensures grown { IfOk result (λ block. slab_of self.new
+            ≡ record {
+              size = self.old.size;
+              chunks = (slab_of self.old).chunks;
+              blocks = with_block (slab_of self.old).blocks block
+                  (slab_block (rounded self.old.size));
+            }) }
         ensures spare { IfOk result (λ block. get_or self.new.spare block false ≡ true) }
         ensures refused { OnErr result (slab_of self.new ≡ slab_of self.old) }
     {
@@ -168,7 +177,13 @@ impl SlabChunks {
         requires chunks { AreChunks self.old }
         requires spare { get_or self.old.spare block false ≡ true }
         ensures chunks { AreChunks self.new }
-        ensures taken { slab_of self.new ≡ record { size = self.old.size; chunks = (record { place = result; room = rounded self.old.size; is_live = true; bytes = [] }) ∷ (slab_of self.old).chunks; blocks = (slab_of self.old).blocks } }
+        ensures taken { slab_of self.new
+            ≡ record {
+              size = self.old.size;
+              chunks = (record { place = result; room = rounded self.old.size; is_live = true; bytes = [] })
+                  ∷ (slab_of self.old).chunks;
+              blocks = (slab_of self.old).blocks;
+            } }
         ensures fresh { has (slab_of self.old).chunks result ≡ false }
         ensures block { result.block ≡ block }
     {
@@ -186,7 +201,8 @@ impl SlabChunks {
     fn claim(&mut self) -> Result<Place, AllocError>
         requires chunks { AreChunks self.old }
         ensures chunks { AreChunks self.new }
-        ensures taken { IfOk result (λ place. slab_of self.new ≡ slab_taken (slab_of self.old) (record { place = place; room = rounded self.old.size; is_live = true; bytes = [] })) }
+        ensures taken { IfOk result (λ place. slab_of self.new
+            ≡ slab_taken (slab_of self.old) (record { place = place; room = rounded self.old.size; is_live = true; bytes = [] })) }
         ensures fresh { IfOk result (λ place. has (slab_of self.old).chunks place ≡ false) }
         ensures lies { IfOk result (λ place. IsNewBlock (slab_grows (slab_of self.old)) (slab_of self.old).blocks place.block) }
         ensures grown { OnOk result (total (slab_of self.new).blocks ≡ total (slab_of self.old).blocks + slab_grows (slab_of self.old)) }
@@ -204,8 +220,10 @@ impl SlabChunks {
         requires chunks { AreChunks self.old }
         requires size { length bytes.now ≡ self.old.size }
         ensures chunks { AreChunks self.new }
-        ensures added { IfOk result (λ name. Adds (slab_of self.old).chunks (slab_of self.new).chunks name (rounded self.old.size) bytes.now) }
-        ensures taken { IfOk result (λ name. slab_of self.new ≡ slab_taken (slab_of self.old) (chunk_of name (rounded self.old.size) bytes.now)) }
+        ensures added { IfOk result (λ name. Adds (slab_of self.old).chunks (slab_of self.new).chunks name (rounded self.old.size)
+            bytes.now) }
+        ensures taken { IfOk result (λ name. slab_of self.new
+            ≡ slab_taken (slab_of self.old) (chunk_of name (rounded self.old.size) bytes.now)) }
         ensures lies { IfOk result (λ name. IsNewBlock (slab_grows (slab_of self.old)) (slab_of self.old).blocks name.block) }
         ensures grown { OnOk result (total (slab_of self.new).blocks ≡ total (slab_of self.old).blocks + slab_grows (slab_of self.old)) }
         ensures refused { OnErr result ((slab_of self.new ≡ slab_of self.old) × (0 < slab_grows (slab_of self.old))) }
@@ -219,8 +237,10 @@ impl SlabChunks {
     pub(crate) fn alloc_zeroed(&mut self) -> Result<ChunkName, AllocError>
         requires chunks { AreChunks self.old }
         ensures chunks { AreChunks self.new }
-        ensures added { IfOk result (λ name. Adds (slab_of self.old).chunks (slab_of self.new).chunks name (rounded self.old.size) (zeros self.old.size)) }
-        ensures taken { IfOk result (λ name. slab_of self.new ≡ slab_taken (slab_of self.old) (chunk_of name (rounded self.old.size) (zeros self.old.size))) }
+        ensures added { IfOk result (λ name. Adds (slab_of self.old).chunks (slab_of self.new).chunks name (rounded self.old.size)
+            (zeros self.old.size)) }
+        ensures taken { IfOk result (λ name. slab_of self.new
+            ≡ slab_taken (slab_of self.old) (chunk_of name (rounded self.old.size) (zeros self.old.size))) }
         ensures lies { IfOk result (λ name. IsNewBlock (slab_grows (slab_of self.old)) (slab_of self.old).blocks name.block) }
         ensures grown { OnOk result (total (slab_of self.new).blocks ≡ total (slab_of self.old).blocks + slab_grows (slab_of self.old)) }
         ensures refused { OnErr result ((slab_of self.new ≡ slab_of self.old) × (0 < slab_grows (slab_of self.old))) }

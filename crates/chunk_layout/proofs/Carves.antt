@@ -1,13 +1,19 @@
 -- A chunk is made where no other is, and blocks come and go.
-use Rattle.std.proofs.Common.{◌≡◌, ◌≢◌, ℕ, ◌+◌, ◌-◌, ◌≤◌, ◌⊎◌, inl, inr, Bool, true, not, List, [], ◌∷◌, None, map, length, get_or, set, sym, ap, ◌∙◌, subst, arith}
-use Rattle.chunk_layout.proofs.Words.{IsTrue, is_some, ◌==◌, filter, word_bytes, Every, Piece, IsClear, without, outside, Blocks, cells_of, block_at, poke, headed, read, piece_of, spot_is_at, without_spot, Stands, Apart, IsLayout, Place, Spot}
-use Rattle.chunk_layout.proofs.Laws.{eq-eqb, ne_eqb, eqb-false, not-true, cond-true, cond-false, get_or-set_other, holds_by_set_word, length-word_bytes, every_both, every_weaker, every_filter, every_passes, every_unmap, pairwise_filter, map_same, filter_map_same, without-spot, nat_tests, common_steps}
+use Rattle.std.proofs.Common.{◌≡◌, ◌≢◌, ℕ, ◌+◌, ◌-◌, ◌≤◌, ◌⊎◌, inl, inr, Bool, true, not, List, [], ◌∷◌, None, map, length, get_or, set}
+use Rattle.std.proofs.Common.{sym, ap, ◌∙◌, subst, arith}
+use Rattle.chunk_layout.proofs.Words.{IsTrue, is_some, ◌==◌, filter, word_bytes, Every, ChunkContents, IsClear, without, outside, Blocks}
+use Rattle.chunk_layout.proofs.Words.{cells_of, block_at, poke, headed, read, piece_of, spot_is_at, without_spot, Stands, Apart, IsLayout}
+use Rattle.chunk_layout.proofs.Words.{Place, ChunkHeader}
+use Rattle.chunk_layout.proofs.Laws.{eq-eqb, ne_eqb, eqb-false, not-true, cond-true, cond-false, get_or-set_other, holds_by_set_word}
+use Rattle.chunk_layout.proofs.Laws.{length-word_bytes, every_both, every_weaker, every_filter, every_passes, every_unmap, pairwise_filter}
+use Rattle.chunk_layout.proofs.Laws.{map_same, filter_map_same, without-spot, nat_tests, common_steps}
 use Rattle.chunk_layout.proofs.Pokes.{poke-here, piece-poke, stands-poke}
 
 -- a chunk whose block is the same stands there as before
 module _ (bs after : Blocks) (head : ℕ) where
   -- where the blocks of all chunks are the same
-  module _ (ss : List Spot) (same : Every (λ (s : Spot). get_or after s.place.block None ≡ get_or bs s.place.block None) ss) where
+  module _ (ss : List ChunkHeader) (same : Every (λ (s : ChunkHeader). get_or after s.place.block None ≡ get_or bs s.place.block None)
+      ss) where
     pub laid-same : IsLayout head bs ss → IsLayout head after ss
     laid-same laid = grind (arith, nat_tests, every_both)
 
@@ -15,33 +21,37 @@ module _ (bs after : Blocks) (head : ℕ) where
     pieces-same = grind (arith, nat_tests, map_same, piece_of, every_weaker, read, cells_of)
 
 -- fewer chunks
-pub laid-fewer : (bs : Blocks) (head : ℕ) (test : Spot → Bool) (ss : List Spot) → IsLayout head bs ss → IsLayout head bs (filter test ss)
+pub laid-fewer : (bs : Blocks) (head : ℕ) (test : ChunkHeader → Bool) (ss : List ChunkHeader) → IsLayout head bs ss
+    → IsLayout head bs (filter test ss)
 laid-fewer bs head test ss laid = grind (arith, nat_tests, every_filter, pairwise_filter)
 
 -- a block is given back with its chunks
-module _ (bs : Blocks) (head b : ℕ) (ss : List Spot) where
-  abbrev rest : List Spot
+module _ (bs : Blocks) (head b : ℕ) (ss : List ChunkHeader) where
+  abbrev rest : List ChunkHeader
   rest = filter (λ s. not (s.place.block == b)) ss
 
-  same-rest : Every (λ (s : Spot). get_or (set bs b None) s.place.block None ≡ get_or bs s.place.block None) rest
+  same-rest : Every (λ (s : ChunkHeader). get_or (set bs b None) s.place.block None ≡ get_or bs s.place.block None) rest
   same-rest = grind (arith, nat_tests, every_weaker, not, get_or-set_other, eqb-false, not-true, every_passes)
 
   pub laid-dropped : IsLayout head bs ss → IsLayout head (set bs b None) rest
   laid-dropped laid = laid-same bs (set bs b None) head rest same-rest (laid-fewer bs head (λ s. not (s.place.block == b)) ss laid)
 
   pub pieces-dropped : map (piece_of (set bs b None)) rest ≡ outside (map (piece_of bs) ss) b
-  pieces-dropped = pieces-same bs (set bs b None) head rest same-rest ∙ filter_map_same (λ (p : Piece). not (p.place.block == b)) (piece_of bs) ss
+  pieces-dropped = pieces-same bs (set bs b None) head rest same-rest ∙ filter_map_same (λ (p : ChunkContents). not (p.place.block == b))
+      (piece_of bs) ss
 
 -- a new chunk
-module _ (head : ℕ) (bs : Blocks) (ss : List Spot) (laid : IsLayout head bs ss) (place : Place) (room : ℕ) (some : IsTrue (is_some (get_or bs place.block None)))
-    (after : head ≤ place.offset) (inside : place.offset + room ≤ length (block_at bs place.block)) (clear : Every (IsClear head place room) (map (piece_of bs) ss)) where
+module _ (head : ℕ) (bs : Blocks) (ss : List ChunkHeader) (laid : IsLayout head bs ss) (place : Place) (room : ℕ)
+    (some : IsTrue (is_some (get_or bs place.block None)))
+    (after : head ≤ place.offset) (inside : place.offset + room ≤ length (block_at bs place.block))
+    (clear : Every (IsClear head place room) (map (piece_of bs) ss)) where
   abbrev bs' : Blocks
   bs' = headed head bs place room
 
-  abbrev x : Spot
+  abbrev x : ChunkHeader
   x = record { place = place; room = room; len = 0; is_live = true }
 
-  clear' : Every (λ (s : Spot). IsClear head place room (piece_of bs s)) ss
+  clear' : Every (λ (s : ChunkHeader). IsClear head place room (piece_of bs s)) ss
   clear' = every_unmap (IsClear head place room) (piece_of bs) ss clear
 
   -- the blocks where there is a header, and where there is none
@@ -57,19 +67,22 @@ module _ (head : ℕ) (bs : Blocks) (ss : List Spot) (laid : IsLayout head bs ss
   fits : head ≡ 8 → place.offset - 8 + length (word_bytes room) ≤ length (block_at bs place.block)
   fits eight = omega (arith, length-word_bytes room, after, inside, eight)
 
-  untouched : head ≡ 8 → (s : Spot) → IsClear head place room (piece_of bs s) → (s.place.block ≢ place.block) ⊎ ((s.place.offset + s.room ≤ place.offset - 8) ⊎ (place.offset - 8 + length (word_bytes room) + head ≤ s.place.offset))
+  untouched : head ≡ 8 → (s : ChunkHeader) → IsClear head place room (piece_of bs s) → (s.place.block ≢ place.block)
+      ⊎ ((s.place.offset + s.room ≤ place.offset - 8) ⊎ (place.offset - 8 + length (word_bytes room) + head ≤ s.place.offset))
   untouched eight s v2 = grind (arith, nat_tests, length-word_bytes)
 
-  stands-carved : (s : Spot) → Stands head bs s → IsClear head place room (piece_of bs s) → Stands head bs' s
+  stands-carved : (s : ChunkHeader) → Stands head bs s → IsClear head place room (piece_of bs s) → Stands head bs' s
   stands-carved s h away = elim laid.header [
     | inl none ↦ subst (λ (z : Blocks). Stands head z s) (sym (no-header none)) h
-    | inr eight ↦ subst (λ (z : Blocks). Stands head z s) (sym (with-header eight)) (stands-poke bs place.block (place.offset - 8) (word_bytes room) some head (fits eight) s h (untouched eight s away))
+    | inr eight ↦ subst (λ (z : Blocks). Stands head z s) (sym (with-header eight))
+        (stands-poke bs place.block (place.offset - 8) (word_bytes room) some head (fits eight) s h (untouched eight s away))
   ]
 
-  piece-carved : (s : Spot) → Stands head bs s → IsClear head place room (piece_of bs s) → piece_of bs' s ≡ piece_of bs s
+  piece-carved : (s : ChunkHeader) → Stands head bs s → IsClear head place room (piece_of bs s) → piece_of bs' s ≡ piece_of bs s
   piece-carved s h away = elim laid.header [
     | inl none ↦ ap (λ (z : Blocks). piece_of z s) (no-header none)
-    | inr eight ↦ ap (λ (z : Blocks). piece_of z s) (with-header eight) ∙ piece-poke bs place.block (place.offset - 8) (word_bytes room) some head (fits eight) s h (untouched eight s away)
+    | inr eight ↦ ap (λ (z : Blocks). piece_of z s) (with-header eight) ∙ piece-poke bs place.block (place.offset - 8) (word_bytes room)
+        some head (fits eight) s h (untouched eight s away)
   ]
 
   still-some : IsTrue (is_some (get_or bs' place.block None))
@@ -78,18 +91,35 @@ module _ (head : ℕ) (bs : Blocks) (ss : List Spot) (laid : IsLayout head bs ss
   stands-new : Stands head bs' x
   stands-new = grind (arith, nat_tests, common_steps, still-some, fits, with-header, poke-here, holds_by_set_word)
 
-  clear-apart : (s : Spot) → IsClear head place room (piece_of bs s) → Apart head x s
+  clear-apart : (s : ChunkHeader) → IsClear head place room (piece_of bs s) → Apart head x s
   clear-apart s v1 = grind (arith, nat_tests)
 
-  abbrev keeps : Spot → Bool
+  abbrev keeps : ChunkHeader → Bool
   keeps s = not (spot_is_at place s)
 
   pub laid-carved : IsLayout head bs' (x ∷ without_spot ss place)
   laid-carved = record {
     header = laid.header;
-    stand = (stands-new, every_filter (Stands head bs') keeps ss (every_both (Stands head bs) (λ (s : Spot). IsClear head place room (piece_of bs s)) (Stands head bs') stands-carved ss laid.stand clear'));
+    stand = (
+      stands-new,
+      every_filter (Stands head bs') keeps ss
+          (every_both (Stands head bs) (λ (s : ChunkHeader). IsClear head place room (piece_of bs s)) (Stands head bs') stands-carved ss
+          laid.stand clear'),
+    );
     apart = grind (arith, nat_tests, every_filter, every_weaker, clear-apart, clear', pairwise_filter);
   }
 
-  pub pieces-carved : map (piece_of bs') (x ∷ without_spot ss place) ≡ (record { place = place; room = room; is_live = true; bytes = [] }) ∷ without (map (piece_of bs) ss) place
-  pieces-carved = grind (arith, nat_tests, map_same (piece_of bs') (piece_of bs) (without_spot ss place), every_filter (λ (s : Spot). piece_of bs' s ≡ piece_of bs s) keeps ss, every_both (Stands head bs) (λ (s : Spot). IsClear head place room (piece_of bs s)) (λ (s : Spot). piece_of bs' s ≡ piece_of bs s), piece-carved, clear', without-spot bs ss place)
+  pub pieces-carved : map (piece_of bs') (x ∷ without_spot ss place) ≡ (record { place = place; room = room; is_live = true; bytes = [] })
+      ∷ without (map (piece_of bs) ss) place
+  pieces-carved = grind (
+    arith,
+    nat_tests,
+    map_same (piece_of bs') (piece_of bs) (without_spot ss place),
+    every_filter
+        (λ (s : ChunkHeader). piece_of bs' s ≡ piece_of bs s) keeps ss,
+    every_both (Stands head bs)
+        (λ (s : ChunkHeader). IsClear head place room (piece_of bs s)) (λ (s : ChunkHeader). piece_of bs' s ≡ piece_of bs s),
+    piece-carved,
+    clear',
+    without-spot bs ss place,
+  )

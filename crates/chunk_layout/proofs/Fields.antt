@@ -1,12 +1,19 @@
 -- What is known of the fields of a layout at a chunk, and after they changed.
 use Rattle.chunk_layout.proofs.Laws.{false≢true}
-use Rattle.std.proofs.Common.{◌≡◌, ℕ, ◌+◌, ◌-◌, ◌<◌, ◌≤◌, Bool, true, List, [], ◌∷◌, Option, None, map, length, get_or, set, take, sym, ap, ◌∙◌, subst, arith, ◌⊎◌, inl, inr}
-use Rattle.chunk_layout.proofs.Words.{IsTrue, is_some, unwrap_or, option_map, Cells, Holds, IsWritten, word_bytes, Every, Layout, Piece, has, piece_at, put_at, with_block, outside, total, with_piece, IsInside, AreLaid, AreTaken, IsClear, size_at, Blocks, block_at, poke, headed, piece_of, sizes_of, spots_of, spot_at, Stands, IsLayout, AreVacant, Place, Spot, Inside}
-use Rattle.chunk_layout.proofs.Laws.{get_or-map, length-map, length-set, get_or_past, map-set, every_get, every_weaker, every_map, pairwise_weaker, pairwise_through, found-place, found-stands, piece-found, total-with_block, total-set_none, with_block-other, length-with_block, cases_lt, cond-true, cond-false, eq-eqb, ne_eqb, nat_tests, common_steps}
+use Rattle.std.proofs.Common.{◌≡◌, ℕ, ◌+◌, ◌-◌, ◌<◌, ◌≤◌, Bool, true, List, [], ◌∷◌, Option, None, map, length, get_or, set, take, sym, ap}
+use Rattle.std.proofs.Common.{◌∙◌, subst, arith, ◌⊎◌, inl, inr}
+use Rattle.chunk_layout.proofs.Words.{IsTrue, is_some, unwrap_or, option_map, Cells, Holds, IsWritten, word_bytes, Every, Layout}
+use Rattle.chunk_layout.proofs.Words.{ChunkContents, has, piece_at, put_at, with_block, outside, total, with_piece, IsInside, AreLaid}
+use Rattle.chunk_layout.proofs.Words.{AreTaken, IsClear, size_at, Blocks, block_at, poke, headed, piece_of, sizes_of, spots_of, spot_at}
+use Rattle.chunk_layout.proofs.Words.{Stands, IsLayout, AreVacant, Place, ChunkHeader, Inside}
+use Rattle.chunk_layout.proofs.Laws.{get_or-map, length-map, length-set, get_or_past, map-set, every_get, every_weaker, every_map}
+use Rattle.chunk_layout.proofs.Laws.{pairwise_weaker, pairwise_through, found-place, found-stands, piece-found, total-with_block}
+use Rattle.chunk_layout.proofs.Laws.{total-set_none, with_block-other, length-with_block, cases_lt, cond-true, cond-false, eq-eqb, ne_eqb}
+use Rattle.chunk_layout.proofs.Laws.{nat_tests, common_steps}
 use Rattle.chunk_layout.specs.Fields.{layout_of, AreFields}
 use Rattle.chunk_layout.specs.Lends.{layout_with}
-use Rattle.chunk_layout.specs.declared.place.Note.{Note}
-use Rattle.chunk_layout.specs.declared.place.Note.TheVariants.{Chunk, Written, Returned}
+use Rattle.chunk_layout.specs.declared.place.ChunkEvent.{ChunkEvent}
+use Rattle.chunk_layout.specs.declared.place.ChunkEvent.TheVariants.{Chunk, Written, Returned}
 use Rattle.chunk_layout.proofs.Reading.{length-read, holds-read}
 use Rattle.chunk_layout.proofs.Pokes.{some-within, sizes-poke}
 use Rattle.chunk_layout.proofs.Puts.{laid-put, pieces-put}
@@ -23,23 +30,24 @@ module _ (x : Inside) (ok : AreFields x) (l : Layout) (e : layout_of x ≡ l) (p
   abbrev bs : Blocks
   bs = x.blocks.items
 
-  abbrev ss : List Spot
+  abbrev ss : List ChunkHeader
   ss = spots_of x.notes.notes
 
-  abbrev p : Piece
+  abbrev p : ChunkContents
   p = piece_at l.pieces place
 
   pub here : has (map (piece_of bs) ss) place ≡ true
   here = ap (λ (z : Layout). has z.pieces place) e ∙ some
 
-  abbrev t : Spot
+  abbrev t : ChunkHeader
   t = spot_at ss place
 
-  abbrev t' : Spot
+  abbrev t' : ChunkHeader
   t' = record { place = place; room = t.room; len = t.len; is_live = t.is_live }
 
   same : t ≡ t'
-  same = ap (λ (q : Place). let s : Spot = record { place = q; room = t.room; len = t.len; is_live = t.is_live } in s) (found-place bs ss place here)
+  same = ap (λ (q : Place). let s : ChunkHeader = record { place = q; room = t.room; len = t.len; is_live = t.is_live } in s)
+      (found-place bs ss place here)
 
   stands : Stands x.head bs t'
   stands = subst (Stands x.head bs) same (found-stands bs ss place here x.head ok.laid.stand)
@@ -54,10 +62,10 @@ module _ (x : Inside) (ok : AreFields x) (l : Layout) (e : layout_of x ≡ l) (p
   found-low = some-within bs place.block stands.there
 
   len : t.len ≡ length p.bytes
-  len = sym (length-read (block_at bs place.block) place.offset t.len stands.written) ∙ ap (λ (q : Piece). length q.bytes) found
+  len = sym (length-read (block_at bs place.block) place.offset t.len stands.written) ∙ ap (λ (q : ChunkContents). length q.bytes) found
 
   pub found-inside : place.offset + p.room ≤ length (block_at bs place.block)
-  found-inside = subst (λ (q : Piece). place.offset + q.room ≤ length (block_at bs place.block)) found stands.inside
+  found-inside = subst (λ (q : ChunkContents). place.offset + q.room ≤ length (block_at bs place.block)) found stands.inside
 
   pub found-small : length (block_at bs place.block) ≤ 2147483648
   found-small = grind (arith, nat_tests, found-low, every_get, length-map, size-at)
@@ -66,10 +74,15 @@ module _ (x : Inside) (ok : AreFields x) (l : Layout) (e : layout_of x ≡ l) (p
   found-written = subst (IsWritten (block_at bs place.block) place.offset) len stands.written
 
   pub found-bytes : Holds (block_at bs place.block) place.offset p.bytes
-  found-bytes = subst (λ (q : Piece). Holds (block_at bs place.block) place.offset q.bytes) found (holds-read (block_at bs place.block) place.offset t.len stands.written)
+  found-bytes = subst (λ (q : ChunkContents). Holds (block_at bs place.block) place.offset q.bytes) found
+      (holds-read (block_at bs place.block) place.offset t.len stands.written)
 
   pub found-header : x.head ≡ 8 → (8 ≤ place.offset) × Holds (block_at bs place.block) (place.offset - 8) (word_bytes p.room)
-  found-header eight = (omega (arith, stands.after, eight), subst (λ (q : Piece). Holds (block_at bs place.block) (place.offset - 8) (word_bytes q.room)) found (stands.header eight))
+  found-header eight = (
+    omega (arith, stands.after, eight),
+    subst (λ (q : ChunkContents). Holds (block_at bs place.block) (place.offset - 8)
+        (word_bytes q.room)) found (stands.header eight),
+  )
 
   -- bytes are written to it
   module _ (kept : ℕ) (bytes : List ℕ) (live : Bool) (few : kept ≤ length p.bytes) (fits : kept + length bytes ≤ p.room) where
@@ -79,14 +92,16 @@ module _ (x : Inside) (ok : AreFields x) (l : Layout) (e : layout_of x ≡ l) (p
     fits' : kept + length bytes ≤ (piece_at (map (piece_of bs) ss) place).room
     fits' = grind (arith, nat_tests)
 
-    module _ (y : Inside) (head : y.head ≡ x.head) (held : y.held ≡ x.held) (marks : y.vacant ≡ x.vacant) (blocks : y.blocks.items ≡ poke bs place.block (place.offset + kept) bytes)
+    module _ (y : Inside) (head : y.head ≡ x.head) (held : y.held ≡ x.held) (marks : y.vacant ≡ x.vacant) (blocks : y.blocks.items
+        ≡ poke bs place.block (place.offset + kept) bytes)
         (notes : y.notes.notes ≡ Written place (kept + length bytes) live ∷ x.notes.notes) where
       sizes : sizes_of bs ≡ sizes_of y.blocks.items
       sizes = sym (sizes-poke bs place.block (place.offset + kept) bytes found-some) ∙ ap sizes_of (sym blocks)
 
       pub fields-put : AreFields y
       fields-put = record {
-        laid = subst (λ (z : ℕ × (Blocks × List Note)). IsLayout z.0 z.1.0 (spots_of z.1.1)) (λ i. (sym head i, (sym blocks i, sym notes i))) (laid-put x.head bs ss ok.laid place here kept bytes live few' fits');
+        laid = subst (λ (z : ℕ × (Blocks × List ChunkEvent)). IsLayout z.0 z.1.0 (spots_of z.1.1))
+            (λ i. (sym head i, (sym blocks i, sym notes i))) (laid-put x.head bs ss ok.laid place here kept bytes live few' fits');
         held = held ∙ ok.held ∙ ap total sizes;
         small = subst (Every (λ (o : Option ℕ). unwrap_or o 0 ≤ 2147483648)) sizes ok.small;
         few = subst (λ (z : List (Option ℕ)). length z < 4294967296) sizes ok.few;
@@ -94,14 +109,16 @@ module _ (x : Inside) (ok : AreFields x) (l : Layout) (e : layout_of x ≡ l) (p
       }
 
       pub layout-put : layout_of y ≡ put_at l place kept bytes live
-      layout-put = let pieces = ap (λ (z : Blocks × List Note). map (piece_of z.0) (spots_of z.1)) (λ i. (blocks i, notes i)) ∙ pieces-put x.head bs ss ok.laid place here kept bytes live few' fits' in grind (arith, nat_tests, sizes)
+      layout-put = let pieces = ap (λ (z : Blocks × List ChunkEvent). map (piece_of z.0) (spots_of z.1)) (λ i. (blocks i, notes i))
+          ∙ pieces-put x.head bs ss ok.laid place here kept bytes live few' fits' in grind (arith, nat_tests, sizes)
 
   -- its bytes are lent
   module _ (n : ℕ) (count : length p.bytes ≡ n) (ws : List ℕ) where
     count' : length (piece_at (map (piece_of bs) ss) place).bytes ≡ n
     count' = grind (arith, nat_tests)
 
-    module _ (y : Inside) (head : y.head ≡ x.head) (held : y.held ≡ x.held) (marks : y.vacant ≡ x.vacant) (blocks : y.blocks.items ≡ poke bs place.block place.offset (take n ws)) (notes : y.notes.notes ≡ x.notes.notes) where
+    module _ (y : Inside) (head : y.head ≡ x.head) (held : y.held ≡ x.held) (marks : y.vacant ≡ x.vacant) (blocks : y.blocks.items
+        ≡ poke bs place.block place.offset (take n ws)) (notes : y.notes.notes ≡ x.notes.notes) where
       sizes-lent : sizes_of bs ≡ sizes_of y.blocks.items
       sizes-lent = sym (sizes-poke bs place.block place.offset (take n ws) found-some) ∙ ap sizes_of (sym blocks)
 
@@ -118,7 +135,8 @@ module _ (x : Inside) (ok : AreFields x) (l : Layout) (e : layout_of x ≡ l) (p
       layout-lent = grind (arith, nat_tests, pieces-lent_back, here, count', sizes-lent)
 
 -- a chunk is made
-module _ (x : Inside) (ok : AreFields x) (l : Layout) (e : layout_of x ≡ l) (place : Place) (room : ℕ) (some' : 1 ≤ room) (inside' : place.offset + room ≤ size_at l.blocks place.block)
+module _ (x : Inside) (ok : AreFields x) (l : Layout) (e : layout_of x ≡ l) (place : Place) (room : ℕ) (some' : 1 ≤ room)
+    (inside' : place.offset + room ≤ size_at l.blocks place.block)
     (after : l.head ≤ place.offset) (clear : Every (IsClear l.head place room) l.pieces) where
   abbrev cs : Blocks
   cs = x.blocks.items
@@ -138,7 +156,8 @@ module _ (x : Inside) (ok : AreFields x) (l : Layout) (e : layout_of x ≡ l) (p
   clear' : Every (IsClear x.head place room) (map (piece_of cs) (spots_of x.notes.notes))
   clear' = subst (λ (z : Layout). Every (IsClear z.head place room) z.pieces) (sym e) clear
 
-  module _ (y : Inside) (head : y.head ≡ x.head) (held : y.held ≡ x.held) (marks : y.vacant ≡ x.vacant) (blocks : y.blocks.items ≡ headed x.head cs place room)
+  module _ (y : Inside) (head : y.head ≡ x.head) (held : y.held ≡ x.held) (marks : y.vacant ≡ x.vacant) (blocks : y.blocks.items
+      ≡ headed x.head cs place room)
       (notes : y.notes.notes ≡ Chunk (record { place = place; room = room; len = 0; is_live = true }) ∷ x.notes.notes) where
     same-sizes : sizes_of cs ≡ sizes_of y.blocks.items
     same-sizes = grind (arith, nat_tests, cond-false, ne_eqb, cond-true, eq-eqb, sizes-poke, carve-some)
@@ -153,14 +172,25 @@ module _ (x : Inside) (ok : AreFields x) (l : Layout) (e : layout_of x ≡ l) (p
     }
 
     pub layout-carved : layout_of y ≡ with_piece l (record { place = place; room = room; is_live = true; bytes = [] })
-    layout-carved = grind (arith, nat_tests, pieces-carved x.head cs (spots_of x.notes.notes) ok.laid place room, carve-some, carve-after, carve-inside, clear', same-sizes)
+    layout-carved = grind (
+      arith,
+      nat_tests,
+      pieces-carved x.head cs (spots_of x.notes.notes) ok.laid place room,
+      carve-some,
+      carve-after,
+      carve-inside,
+      clear',
+      same-sizes,
+    )
 
 -- a number is new only where each has a block
-pub all-taken : (x : Inside) (l : Layout) → layout_of x ≡ l → (b : ℕ) → (b ≡ length x.blocks.items → AreTaken (sizes_of x.blocks.items)) → b ≡ length l.blocks → AreTaken l.blocks
+pub all-taken : (x : Inside) (l : Layout) → layout_of x ≡ l → (b : ℕ) → (b ≡ length x.blocks.items → AreTaken (sizes_of x.blocks.items)) → b
+    ≡ length l.blocks → AreTaken l.blocks
 all-taken x l e b taken new = grind (arith, nat_tests, common_steps)
 
 -- a block is taken
-module _ (x : Inside) (ok : AreFields x) (l : Layout) (e : layout_of x ≡ l) (b len : ℕ) (low : b ≤ length x.blocks.items) (none : get_or x.blocks.items b None ≡ None) (small : len ≤ 2147483648)
+module _ (x : Inside) (ok : AreFields x) (l : Layout) (e : layout_of x ≡ l) (b len : ℕ) (low : b ≤ length x.blocks.items)
+    (none : get_or x.blocks.items b None ≡ None) (small : len ≤ 2147483648)
     (few : (b < 4294967295) ⊎ (b < length x.blocks.items)) (block : Cells) (long : length block ≡ len) where
   abbrev ds : Blocks
   ds = x.blocks.items
@@ -171,11 +201,13 @@ module _ (x : Inside) (ok : AreFields x) (l : Layout) (e : layout_of x ≡ l) (b
   total-taken : total (with_block (sizes_of ds) b len) ≡ total (sizes_of ds) + len
   total-taken = total-with_block (sizes_of ds) b len (ap (λ (z : Layout). get_or z.blocks b None) e ∙ vacant)
 
-  module _ (y : Inside) (head : y.head ≡ x.head) (held : y.held ≡ x.held + len) (blocks : y.blocks.items ≡ with_block ds b block) (notes : y.notes.notes ≡ x.notes.notes) (marked : AreVacant (sizes_of y.blocks.items) y.vacant) where
+  module _ (y : Inside) (head : y.head ≡ x.head) (held : y.held ≡ x.held + len) (blocks : y.blocks.items ≡ with_block ds b block)
+      (notes : y.notes.notes ≡ x.notes.notes) (marked : AreVacant (sizes_of y.blocks.items) y.vacant) where
     sizes' : sizes_of y.blocks.items ≡ with_block (sizes_of ds) b len
     sizes' = grind (arith, nat_tests, sizes_of, map-with_block length ds b block, with_block, sizes_of ds)
 
-    same-blocks : Every (λ (s : Spot). get_or (with_block ds b block) s.place.block None ≡ get_or ds s.place.block None) (spots_of x.notes.notes)
+    same-blocks : Every (λ (s : ChunkHeader). get_or (with_block ds b block) s.place.block None ≡ get_or ds s.place.block None)
+        (spots_of x.notes.notes)
     same-blocks = grind (arith, nat_tests, with_block, spots_of, with_block-other, every_weaker, false≢true)
 
     pub fields-taken : AreFields y
@@ -197,7 +229,14 @@ module _ (x : Inside) (ok : AreFields x) (l : Layout) (e : layout_of x ≡ l) (b
         ]
 
     pub layout-taken : layout_of y ≡ record { head = l.head; blocks = with_block l.blocks b len; pieces = l.pieces }
-    layout-taken = grind (arith, nat_tests, pieces-same ds (with_block ds b block) x.head (spots_of x.notes.notes), same-blocks, sizes', len)
+    layout-taken = grind (
+      arith,
+      nat_tests,
+      pieces-same ds (with_block ds b block) x.head (spots_of x.notes.notes),
+      same-blocks,
+      sizes',
+      len,
+    )
 
 -- a block is given back
 module _ (x : Inside) (ok : AreFields x) (l : Layout) (e : layout_of x ≡ l) (b : ℕ) where
@@ -210,7 +249,8 @@ module _ (x : Inside) (ok : AreFields x) (l : Layout) (e : layout_of x ≡ l) (b
   pub held-enough : b < length gs → length (block_at gs b) ≤ x.held
   held-enough low = omega (arith, held-dropped low)
 
-  module _ (low : b < length gs) (y : Inside) (head : y.head ≡ x.head) (held : y.held ≡ x.held - length (block_at gs b)) (blocks : y.blocks.items ≡ set gs b None) (notes : y.notes.notes ≡ Returned b ∷ x.notes.notes)
+  module _ (low : b < length gs) (y : Inside) (head : y.head ≡ x.head) (held : y.held ≡ x.held - length (block_at gs b))
+      (blocks : y.blocks.items ≡ set gs b None) (notes : y.notes.notes ≡ Returned b ∷ x.notes.notes)
       (marked : AreVacant (sizes_of y.blocks.items) y.vacant) where
     sizes-back : sizes_of y.blocks.items ≡ set (sizes_of gs) b None
     sizes-back = grind (arith, nat_tests, sizes_of, map-set, option_map)
@@ -224,7 +264,7 @@ module _ (x : Inside) (ok : AreFields x) (l : Layout) (e : layout_of x ≡ l) (b
 pub small-any : (x : Inside) → AreFields x → (b : ℕ) → length (block_at x.blocks.items b) ≤ 2147483648
 small-any x ok b = grind (arith, nat_tests, cases_lt, get_or_past, every_get, length-map, size-at)
 
-inside-block : (head : ℕ) (bs : Blocks) (s : Spot) → Stands head bs s → IsInside (sizes_of bs) (piece_of bs s)
+inside-block : (head : ℕ) (bs : Blocks) (s : ChunkHeader) → Stands head bs s → IsInside (sizes_of bs) (piece_of bs s)
 inside-block head bs s stands = grind (arith, nat_tests, common_steps)
 
 pub laid-is : (x : Inside) → AreFields x → AreLaid (sizes_of x.blocks.items) (map (piece_of x.blocks.items) (spots_of x.notes.notes))

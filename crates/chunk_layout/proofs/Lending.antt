@@ -1,12 +1,15 @@
 -- The bytes of a chunk are lent, and come back changed.
-use Rattle.chunk_layout.proofs.Laws.{nat_tests, length-take, holds_kept, length-word_bytes, written_kept, first_has, every_both, map_same, apart-sym, found-place, found-stands, some-spot, piece-found}
+use Rattle.chunk_layout.proofs.Laws.{nat_tests, length-take, holds_kept, length-word_bytes, written_kept, first_has, every_both, map_same}
+use Rattle.chunk_layout.proofs.Laws.{apart-sym, found-place, found-stands, some-spot, piece-found}
 use Rattle.std.proofs.Common.{◌≡◌, ℕ, ◌+◌, ◌≤◌, Bool, true, false, List, [], ◌∷◌, map, length, take, cond, refl, sym, ap, ◌∙◌, subst, arith}
-use Rattle.chunk_layout.proofs.Words.{◌||◌, Cells, Every, Pairwise, Piece, has, piece_at, rewritten, with_bytes_of, Blocks, block_at, poke, piece_of, spot_is_at, has_spot, spot_at, no_spot, Stands, Apart, IsLayout, Place, Spot}
+use Rattle.chunk_layout.proofs.Words.{◌||◌, Cells, Every, Pairwise, ChunkContents, has, piece_at, rewritten, with_bytes_of, Blocks}
+use Rattle.chunk_layout.proofs.Words.{block_at, poke, piece_of, spot_is_at, has_spot, spot_at, no_spot, Stands, Apart, IsLayout, Place}
+use Rattle.chunk_layout.proofs.Words.{ChunkHeader}
 use Rattle.chunk_layout.proofs.Reading.{read-refilled, length-read}
 use Rattle.chunk_layout.proofs.Pokes.{poke-here, length-poke, some-poke, piece-poke, stands-poke}
 
 -- a chunk t of the blocks, of which other bytes come back
-module _ (head : ℕ) (bs : Blocks) (t : Spot) (stands : Stands head bs t) (ws : List ℕ) where
+module _ (head : ℕ) (bs : Blocks) (t : ChunkHeader) (stands : Stands head bs t) (ws : List ℕ) where
   abbrev cells : Cells
   cells = block_at bs t.place.block
 
@@ -22,10 +25,10 @@ module _ (head : ℕ) (bs : Blocks) (t : Spot) (stands : Stands head bs t) (ws :
   room : t.place.offset + length bytes ≤ length cells
   room = omega (arith, few, stands.fits, stands.inside)
 
-  stands-other : (s : Spot) → Stands head bs s → Apart head s t → Stands head after s
+  stands-other : (s : ChunkHeader) → Stands head bs s → Apart head s t → Stands head after s
   stands-other s h away = grind (arith, nat_tests, stands-poke bs t.place.block t.place.offset bytes stands.there head, room, few)
 
-  piece-other : (s : Spot) → Stands head bs s → Apart head s t → piece_of after s ≡ piece_of bs s
+  piece-other : (s : ChunkHeader) → Stands head bs s → Apart head s t → piece_of after s ≡ piece_of bs s
   piece-other s h away = grind (arith, nat_tests, piece-poke bs t.place.block t.place.offset bytes stands.there head, room, few)
 
   stands-lent : Stands head after t
@@ -34,14 +37,18 @@ module _ (head : ℕ) (bs : Blocks) (t : Spot) (stands : Stands head bs t) (ws :
   piece-lent : piece_of after t ≡ with_bytes_of (piece_of bs t) ws
   piece-lent = grind (arith, nat_tests, poke-here, read-refilled, length-read, room)
 
-  stand-lent : (place : Place) (ss : List Spot) → has_spot ss place ≡ true → spot_at ss place ≡ t → Pairwise (Apart head) ss → Every (Stands head bs) ss → Every (Stands head after) ss
+  stand-lent : (place : Place) (ss : List ChunkHeader) → has_spot ss place ≡ true → spot_at ss place ≡ t → Pairwise (Apart head) ss
+      → Every (Stands head bs) ss → Every (Stands head after) ss
   stand-lent place [] some is pairs stand = tt
   stand-lent place (s ∷ ss) some is pairs stand =
-      let Goal : Bool → Type 0 = λ b. ((b || has_spot ss place) ≡ true) → cond b s (spot_at ss place) ≡ t → Every (Stands head after) (s ∷ ss) in
+      let Goal : Bool → Type 0 = λ b. ((b || has_spot ss place) ≡ true) → cond b s (spot_at ss place) ≡ t
+      → Every (Stands head after) (s ∷ ss) in
       (elim (spot_is_at place s) as Goal [
         | true ↦ λ _ same. (
           subst (Stands head after) (sym same) stands-lent,
-          every_both (Stands head bs) (Apart head s) (Stands head after) (λ x h away. stands-other x h (apart-sym head t x (subst (λ (y : Spot). Apart head y x) same away))) ss stand.1 pairs.0,
+          every_both (Stands head bs) (Apart head s) (Stands head after)
+              (λ x h away. stands-other x h (apart-sym head t x (subst (λ (y : ChunkHeader). Apart head y x) same away))) ss stand.1
+              pairs.0,
         )
         | false ↦ λ there same. (
           stands-other s stand.0 (subst (Apart head s) same (first_has (Apart head s) (spot_is_at place) no_spot ss there pairs.0)),
@@ -49,14 +56,27 @@ module _ (head : ℕ) (bs : Blocks) (t : Spot) (stands : Stands head bs t) (ws :
         )
       ]) some is
 
-  pieces-lent : (place : Place) (ss : List Spot) → has_spot ss place ≡ true → spot_at ss place ≡ t → Pairwise (Apart head) ss → Every (Stands head bs) ss → map (piece_of after) ss ≡ rewritten (map (piece_of bs) ss) place ws
+  pieces-lent : (place : Place) (ss : List ChunkHeader) → has_spot ss place ≡ true → spot_at ss place ≡ t → Pairwise (Apart head) ss
+      → Every (Stands head bs) ss → map (piece_of after) ss ≡ rewritten (map (piece_of bs) ss) place ws
   pieces-lent place [] some is pairs stand = refl
-  pieces-lent place (s ∷ ss) some is pairs stand = grind (arith, nat_tests, piece-lent, map_same (piece_of after) (piece_of bs) ss, every_both (Stands head bs) (Apart head s) (λ (x : Spot). piece_of after x ≡ piece_of bs x), piece-other, apart-sym head t, piece-other s stand.0, first_has (Apart head s) (spot_is_at place) no_spot ss, pieces-lent place ss)
+  pieces-lent place (s ∷ ss) some is pairs stand = grind (
+    arith,
+    nat_tests,
+    piece-lent,
+    map_same (piece_of after) (piece_of bs) ss,
+    every_both (Stands head bs) (Apart head s) (λ (x : ChunkHeader). piece_of after x ≡ piece_of bs x),
+    piece-other,
+    apart-sym head t,
+    piece-other s stand.0,
+    first_has (Apart head s) (spot_is_at place) no_spot ss,
+    pieces-lent place ss,
+  )
 
 -- the same by the place and the number of bytes
-module _ (head : ℕ) (bs : Blocks) (ss : List Spot) (laid : IsLayout head bs ss) (place : Place) (some : has (map (piece_of bs) ss) place ≡ true) (n : ℕ)
+module _ (head : ℕ) (bs : Blocks) (ss : List ChunkHeader) (laid : IsLayout head bs ss) (place : Place)
+    (some : has (map (piece_of bs) ss) place ≡ true) (n : ℕ)
     (count : length (piece_at (map (piece_of bs) ss) place).bytes ≡ n) (ws : List ℕ) where
-  abbrev t : Spot
+  abbrev t : ChunkHeader
   t = spot_at ss place
 
   abbrev lent : Blocks
@@ -66,7 +86,8 @@ module _ (head : ℕ) (bs : Blocks) (ss : List Spot) (laid : IsLayout head bs ss
   stands = found-stands bs ss place some head laid.stand
 
   len : t.len ≡ n
-  len = sym (length-read (block_at bs t.place.block) t.place.offset t.len stands.written) ∙ ap (λ (p : Piece). length p.bytes) (sym (piece-found bs ss place some)) ∙ count
+  len = sym (length-read (block_at bs t.place.block) t.place.offset t.len stands.written)
+      ∙ ap (λ (p : ChunkContents). length p.bytes) (sym (piece-found bs ss place some)) ∙ count
 
   same : poke bs t.place.block t.place.offset (take t.len ws) ≡ lent
   same = λ i. let p : Place = found-place bs ss place some i in poke bs p.block p.offset (take (len i) ws)
@@ -75,4 +96,5 @@ module _ (head : ℕ) (bs : Blocks) (ss : List Spot) (laid : IsLayout head bs ss
   laid-lent_back = grind (arith, nat_tests, same, stand-lent, stands, some-spot)
 
   pub pieces-lent_back : map (piece_of lent) ss ≡ rewritten (map (piece_of bs) ss) place ws
-  pieces-lent_back = ap (λ (z : Blocks). map (piece_of z) ss) (sym same) ∙ pieces-lent head bs t stands ws place ss (some-spot bs ss place some) refl laid.apart laid.stand
+  pieces-lent_back = ap (λ (z : Blocks). map (piece_of z) ss) (sym same)
+      ∙ pieces-lent head bs t stands ws place ss (some-spot bs ss place some) refl laid.apart laid.stand

@@ -12,7 +12,8 @@ with_block-set [] n x low = absurd (not-suc-le-zero low)
 with_block-set (y ∷ xs) zero x low = refl
 with_block-set {X} (y ∷ xs) (suc n) x low = ap (λ (t : List (Option X)). y ∷ t) (with_block-set xs n x (le_of_suc-le-suc low))
 
-pub map-with_block : {X Y : Type 0} (f : X → Y) (xs : List (Option X)) (n : ℕ) (x : X) → map (option_map f) (with_block xs n x) ≡ with_block (map (option_map f) xs) n (f x)
+pub map-with_block : {X Y : Type 0} (f : X → Y) (xs : List (Option X)) (n : ℕ) (x : X) → map (option_map f) (with_block xs n x)
+    ≡ with_block (map (option_map f) xs) n (f x)
 map-with_block f [] n x = refl
 map-with_block f (y ∷ xs) zero x = refl
 map-with_block {X} {Y} f (y ∷ xs) (suc n) x = ap (λ (t : List (Option Y)). option_map f y ∷ t) (map-with_block f xs n x)
@@ -22,7 +23,8 @@ length-with_block_low [] n x low = absurd (not-suc-le-zero low)
 length-with_block_low (y ∷ xs) zero x low = refl
 length-with_block_low (y ∷ xs) (suc n) x low = ap suc (length-with_block_low xs n x (le_of_suc-le-suc low))
 
-pub every-with_block : {X : Type 0} (P : Option X → Type 0) (xs : List (Option X)) (n : ℕ) (x : X) → P (Some x) → Every P xs → Every P (with_block xs n x)
+pub every-with_block : {X : Type 0} (P : Option X → Type 0) (xs : List (Option X)) (n : ℕ) (x : X) → P (Some x) → Every P xs
+    → Every P (with_block xs n x)
 every-with_block P [] n x p e = (p, tt)
 every-with_block P (y ∷ xs) zero x p e = (p, e.1)
 every-with_block P (y ∷ xs) (suc n) x p e = (e.0, every-with_block P xs n x p e.1)

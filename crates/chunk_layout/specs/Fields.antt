@@ -2,7 +2,7 @@
 use Rattle.std.specs.Prelude.{◌≡◌, ◌^◌, ◌<◌, ◌≤◌, map, length, unwrap_or}
 use Rattle.chunk_layout.specs.Every.{Every}
 use Rattle.chunk_layout.specs.Pieces.{Layout, total}
-use Rattle.chunk_layout.specs.Spots.{IsLayout, sizes_of, spots_of, piece_of}
+use Rattle.chunk_layout.specs.ChunkHeaders.{IsLayout, sizes_of, spots_of, piece_of}
 use Rattle.chunk_layout.specs.Vacant.{AreVacant}
 use Rattle.chunk_layout.specs.declared.layout.ChunkLayout.TheInside.{Inside}
 

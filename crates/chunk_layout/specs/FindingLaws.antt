@@ -3,10 +3,10 @@ use Rattle.std.proofs.Common.{◌≡◌, ℕ, inl, inr, Bool, true, false, not, 
 use Rattle.std.specs.Prelude.{◌||◌, ◌==◌}
 use Rattle.std.proofs.lemmas.Bool.{and_from, eq-eqb}
 use Rattle.chunk_layout.specs.Every.{Every, Pairwise}
-use Rattle.chunk_layout.specs.Pieces.{Piece, same_place, is_at, has, piece_at, no_piece, without}
-use Rattle.chunk_layout.specs.Spots.{Blocks, spot_is_at, no_spot, has_spot, spot_at, without_spot, piece_of, Stands, Apart}
+use Rattle.chunk_layout.specs.Pieces.{ChunkContents, same_place, is_at, has, piece_at, no_piece, without}
+use Rattle.chunk_layout.specs.ChunkHeaders.{Blocks, spot_is_at, no_spot, has_spot, spot_at, without_spot, piece_of, Stands, Apart}
 use Rattle.chunk_layout.specs.declared.place.Place.{Place}
-use Rattle.chunk_layout.specs.declared.place.Spot.{Spot}
+use Rattle.chunk_layout.specs.declared.place.ChunkHeader.{ChunkHeader}
 use Rattle.chunk_layout.specs.ListLaws.{first_has, first_passes, first_map, any_map, filter_map_same, every_weaker, every_filter}
 use Rattle.std.proofs.lemmas.Bool.Decides.{nat_tests}
 use Rattle.std.proofs.lemmas.Grind.{common_steps}
@@ -17,31 +17,35 @@ same-place p q same = grind (arith, nat_tests, common_steps)
 pub place-same : (p : Place) → same_place p p ≡ true
 place-same p = and_from (p.block == p.block) (p.offset == p.offset) (eq-eqb p.block p.block refl) (eq-eqb p.offset p.offset refl)
 
-pub apart-sym : (head : ℕ) (s t : Spot) → Apart head s t → Apart head t s
+pub apart-sym : (head : ℕ) (s t : ChunkHeader) → Apart head s t → Apart head t s
 apart-sym head s t (inl ne) = inl (λ e. ne (sym e))
 apart-sym head s t (inr (inl before)) = inr (inr before)
 apart-sym head s t (inr (inr behind)) = inr (inl behind)
 
 -- all others are apart from the chunk at a place
-pub apart-found : (head : ℕ) (ss : List Spot) (place : Place) → has_spot ss place ≡ true → Pairwise (Apart head) ss → Every (λ s. Apart head s (spot_at ss place)) (without_spot ss place)
+pub apart-found : (head : ℕ) (ss : List ChunkHeader) (place : Place) → has_spot ss place ≡ true → Pairwise (Apart head) ss
+    → Every (λ s. Apart head s (spot_at ss place)) (without_spot ss place)
 apart-found head [] place some pairs = tt
 apart-found head (s ∷ ss) place some pairs =
-    let Goal : Bool → Type 0 = λ b. ((b || has_spot ss place) ≡ true) → Every (λ (x : Spot). Apart head x (cond b s (spot_at ss place))) (cond (not b) (s ∷ without_spot ss place) (without_spot ss place)) in
+    let Goal : Bool → Type 0 = λ b. ((b || has_spot ss place) ≡ true)
+    → Every (λ (x : ChunkHeader). Apart head x (cond b s (spot_at ss place)))
+    (cond (not b) (s ∷ without_spot ss place) (without_spot ss place)) in
     (elim (spot_is_at place s) as Goal [
-      | true ↦ λ _. every_filter (λ (x : Spot). Apart head x s) (λ (x : Spot). not (spot_is_at place x)) ss (every_weaker (Apart head s) (λ (x : Spot). Apart head x s) (apart-sym head s) ss pairs.0)
+      | true ↦ λ _. every_filter (λ (x : ChunkHeader). Apart head x s) (λ (x : ChunkHeader). not (spot_is_at place x)) ss
+          (every_weaker (Apart head s) (λ (x : ChunkHeader). Apart head x s) (apart-sym head s) ss pairs.0)
       | false ↦ λ there. (first_has (Apart head s) (spot_is_at place) no_spot ss there pairs.0, apart-found head ss place there pairs.1)
     ]) some
 
 -- the same, of the pieces that the spots are
-module _ (bs : Blocks) (ss : List Spot) (place : Place) where
-  abbrev pieces : List Piece
+module _ (bs : Blocks) (ss : List ChunkHeader) (place : Place) where
+  abbrev pieces : List ChunkContents
   pieces = map (piece_of bs) ss
 
   pub has-spot : has pieces place ≡ has_spot ss place
   has-spot = any_map (is_at place) (piece_of bs) ss
 
   pub without-spot : map (piece_of bs) (without_spot ss place) ≡ without pieces place
-  without-spot = filter_map_same (λ (p : Piece). not (is_at place p)) (piece_of bs) ss
+  without-spot = filter_map_same (λ (p : ChunkContents). not (is_at place p)) (piece_of bs) ss
 
   module _ (some : has pieces place ≡ true) where
     pub some-spot : has_spot ss place ≡ true

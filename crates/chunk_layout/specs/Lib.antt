@@ -1,6 +1,6 @@
 pub mod Every
 pub mod Pieces
-pub mod Spots
+pub mod ChunkHeaders
 pub mod Fields
 pub mod Lends
 pub mod Marks

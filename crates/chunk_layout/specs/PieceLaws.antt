@@ -2,7 +2,7 @@
 use Rattle.std.proofs.Common.{◌≡◌, Bool, true, false, not, List, [], ◌∷◌, cond, refl, sym, ap, ◌∙◌, inl, inr, arith}
 use Rattle.std.specs.Prelude.{◌||◌}
 use Rattle.std.proofs.lemmas.Bool.{cases_Bool, cond-true, cond-false, not_from_true, not_from_false, or_parts}
-use Rattle.chunk_layout.specs.Pieces.{Piece, same_place, is_at, has, piece_at, without}
+use Rattle.chunk_layout.specs.Pieces.{ChunkContents, same_place, is_at, has, piece_at, without}
 use Rattle.chunk_layout.specs.declared.place.Place.{Place}
 use Rattle.chunk_layout.specs.FindingLaws.{same-place}
 use Rattle.std.proofs.lemmas.Bool.Decides.{nat_tests}
@@ -12,10 +12,10 @@ pub same_place-sym : (p q : Place) → same_place p q ≡ same_place q p
 same_place-sym p q = grind (arith, nat_tests, common_steps)
 
 -- a chunk is at one place alone
-pub other-place : (p : Piece) (a b : Place) → is_at a p ≡ true → same_place a b ≡ false → is_at b p ≡ false
+pub other-place : (p : ChunkContents) (a b : Place) → is_at a p ≡ true → same_place a b ≡ false → is_at b p ≡ false
 other-place p a b here ne = ap (λ (q : Place). same_place q b) (same-place p.place a here) ∙ ne
 
-module _ (p : Piece) (ps : List Piece) where
+module _ (p : ChunkContents) (ps : List ChunkContents) where
   pub has-first : (place : Place) → is_at place p ≡ true → has (p ∷ ps) place ≡ true
   has-first place here = ap (λ (b : Bool). b || has ps place) here
 
@@ -32,35 +32,43 @@ module _ (p : Piece) (ps : List Piece) where
   piece_at-later place there = cond-false (is_at place p) p (piece_at ps place) there
 
   pub without-later : (place : Place) → is_at place p ≡ false → without (p ∷ ps) place ≡ p ∷ without ps place
-  without-later place there = cond-true (not (is_at place p)) (p ∷ without ps place) (without ps place) (not_from_false (is_at place p) there)
+  without-later place there = cond-true (not (is_at place p)) (p ∷ without ps place) (without ps place)
+      (not_from_false (is_at place p) there)
 
 -- the chunks without one have all others
-pub has-without : (ps : List Piece) (place other : Place) → same_place place other ≡ false → has (without ps place) other ≡ has ps other
+pub has-without : (ps : List ChunkContents) (place other : Place) → same_place place other ≡ false → has (without ps place) other
+    ≡ has ps other
 has-without [] place other ne = refl
 has-without (p ∷ ps) place other ne = elim (cases_Bool (is_at place p)) [
-  | inl here ↦ ap (λ (t : List Piece). has t other) (without-first p ps place here) ∙ has-without ps place other ne ∙ sym (has-later p ps other (other-place p place other here ne))
-  | inr there ↦ ap (λ (t : List Piece). has t other) (without-later p ps place there) ∙ ap (λ (b : Bool). is_at other p || b) (has-without ps place other ne)
+  | inl here ↦ ap (λ (t : List ChunkContents). has t other) (without-first p ps place here) ∙ has-without ps place other ne
+      ∙ sym (has-later p ps other (other-place p place other here ne))
+  | inr there ↦ ap (λ (t : List ChunkContents). has t other) (without-later p ps place there)
+      ∙ ap (λ (b : Bool). is_at other p || b) (has-without ps place other ne)
 ]
 
-pub piece_at-without : (ps : List Piece) (place other : Place) → same_place place other ≡ false → piece_at (without ps place) other ≡ piece_at ps other
+pub piece_at-without : (ps : List ChunkContents) (place other : Place) → same_place place other ≡ false → piece_at (without ps place) other
+    ≡ piece_at ps other
 piece_at-without [] place other ne = refl
 piece_at-without (p ∷ ps) place other ne = elim (cases_Bool (is_at place p)) [
-  | inl here ↦ ap (λ (t : List Piece). piece_at t other) (without-first p ps place here) ∙ piece_at-without ps place other ne ∙ sym (piece_at-later p ps other (other-place p place other here ne))
-  | inr there ↦ ap (λ (t : List Piece). piece_at t other) (without-later p ps place there) ∙ ap (λ (q : Piece). cond (is_at other p) p q) (piece_at-without ps place other ne)
+  | inl here ↦ ap (λ (t : List ChunkContents). piece_at t other) (without-first p ps place here) ∙ piece_at-without ps place other ne
+      ∙ sym (piece_at-later p ps other (other-place p place other here ne))
+  | inr there ↦ ap (λ (t : List ChunkContents). piece_at t other) (without-later p ps place there)
+      ∙ ap (λ (q : ChunkContents). cond (is_at other p) p q) (piece_at-without ps place other ne)
 ]
 
-pub has_not-without : (ps : List Piece) (place : Place) → has (without ps place) place ≡ false
+pub has_not-without : (ps : List ChunkContents) (place : Place) → has (without ps place) place ≡ false
 has_not-without [] place = refl
 has_not-without (p ∷ ps) place = elim (cases_Bool (is_at place p)) [
-  | inl here ↦ ap (λ (t : List Piece). has t place) (without-first p ps place here) ∙ has_not-without ps place
-  | inr there ↦ ap (λ (t : List Piece). has t place) (without-later p ps place there) ∙ has-later p (without ps place) place there ∙ has_not-without ps place
+  | inl here ↦ ap (λ (t : List ChunkContents). has t place) (without-first p ps place here) ∙ has_not-without ps place
+  | inr there ↦ ap (λ (t : List ChunkContents). has t place) (without-later p ps place there) ∙ has-later p (without ps place) place there
+      ∙ has_not-without ps place
 ]
 
 -- where there is no chunk, none is left out
-pub without-none : (ps : List Piece) (place : Place) → has ps place ≡ false → without ps place ≡ ps
+pub without-none : (ps : List ChunkContents) (place : Place) → has ps place ≡ false → without ps place ≡ ps
 without-none [] place none = refl
 without-none (p ∷ ps) place none = let parts = or_parts (is_at place p) (has ps place) none in
-    without-later p ps place parts.0 ∙ ap (λ (t : List Piece). p ∷ t) (without-none ps place parts.1)
+    without-later p ps place parts.0 ∙ ap (λ (t : List ChunkContents). p ∷ t) (without-none ps place parts.1)
 
-pub without-twice : (ps : List Piece) (place : Place) → without (without ps place) place ≡ without ps place
+pub without-twice : (ps : List ChunkContents) (place : Place) → without (without ps place) place ≡ without ps place
 without-twice ps place = without-none (without ps place) place (has_not-without ps place)

@@ -1,5 +1,6 @@
 -- A layout as its users see it: the sizes of its blocks, and the chunks that lie in them. All of this is our own.
-use Rattle.std.specs.Prelude.{◌≡◌, ◌≢◌, ◌<◌, true, is_some, ℕ, zero, suc, ◌+◌, ◌≤◌, ◌==◌, ◌&&◌, ◌⊎◌, Bool, false, not, List, [], ◌∷◌, ◌++◌, Option, Some, None}
+use Rattle.std.specs.Prelude.{◌≡◌, ◌≢◌, ◌<◌, true, is_some, ℕ, zero, suc, ◌+◌, ◌≤◌, ◌==◌, ◌&&◌, ◌⊎◌, Bool, false, not, List, [], ◌∷◌, ◌++◌}
+use Rattle.std.specs.Prelude.{Option, Some, None}
 use Rattle.std.specs.Prelude.{if◌then◌else◌, ◌-◌, length, get_or, slice_set, replicate, unwrap_or, take}
 use Rattle.std.specs.Int.{w32, to_be_bytes}
 use Rattle.std.specs.List.{filter, list_any, refill}
@@ -9,7 +10,7 @@ use Rattle.chunk_layout.specs.declared.place.Place.{Place}
 use Rattle.chunk_layout.specs.declared.place.ChunkName.{ChunkName}
 
 -- a chunk: where its bytes begin, how many it has room for, whether somebody has its name, and what was written to it
-pub record Piece : Type 0 where
+pub record ChunkContents : Type 0 where
   pub place : Place
   pub room : ℕ
   pub is_live : Bool
@@ -26,32 +27,32 @@ place_of name = record { block = name.block; offset = name.offset }
 abbrev pub name_bytes : ChunkName → List ℕ
 name_bytes name = to_be_bytes w32 name.block ++ to_be_bytes w32 name.offset ++ to_be_bytes w32 name.len
 
-abbrev pub is_at : Place → Piece → Bool
+abbrev pub is_at : Place → ChunkContents → Bool
 is_at place p = same_place p.place place
 
 -- whether there is a chunk at a place, and which
-abbrev pub has : List Piece → Place → Bool
+abbrev pub has : List ChunkContents → Place → Bool
 has ps place = list_any (is_at place) ps
 
-abbrev pub no_piece : Piece
+abbrev pub no_piece : ChunkContents
 no_piece = record { place = record { block = 0; offset = 0 }; room = 0; is_live = false; bytes = [] }
 
-abbrev pub piece_at : List Piece → Place → Piece
+abbrev pub piece_at : List ChunkContents → Place → ChunkContents
 piece_at ps place = first_by (is_at place) no_piece ps
 
 -- the chunks without the one at a place, and without those of a block
-abbrev pub without : List Piece → Place → List Piece
+abbrev pub without : List ChunkContents → Place → List ChunkContents
 without ps place = filter (λ p. not (is_at place p)) ps
 
-abbrev pub outside : List Piece → ℕ → List Piece
+abbrev pub outside : List ChunkContents → ℕ → List ChunkContents
 outside ps block = filter (λ p. not (p.place.block == block)) ps
 
 -- a chunk with other bytes, as many as it had
-abbrev pub with_bytes_of : Piece → List ℕ → Piece
+abbrev pub with_bytes_of : ChunkContents → List ℕ → ChunkContents
 with_bytes_of p bytes = record { place = p.place; room = p.room; is_live = p.is_live; bytes = refill (length p.bytes) p.bytes bytes }
 
 -- the chunks where the bytes of the one at a place were written over
-abbrev pub rewritten : List Piece → Place → List ℕ → List Piece
+abbrev pub rewritten : List ChunkContents → Place → List ℕ → List ChunkContents
 rewritten [] place bytes = []
 rewritten (p ∷ ps) place bytes = if is_at place p then with_bytes_of p bytes ∷ ps else p ∷ rewritten ps place bytes
 
@@ -64,7 +65,7 @@ resized bytes n = take n bytes ++ zeros (n - length bytes)
 pub record Layout : Type 0 where
   pub head : ℕ
   pub blocks : List (Option ℕ)
-  pub pieces : List Piece
+  pub pieces : List ChunkContents
 
 -- the size of a block, and 0 where there is none
 abbrev pub size_at : List (Option ℕ) → ℕ → ℕ
@@ -82,15 +83,15 @@ with_block (b ∷ bs) zero x = Some x ∷ bs
 with_block (b ∷ bs) (suc block) x = b ∷ with_block bs block x
 
 -- no byte of a chunk is one of the other's
-abbrev pub AreApart : Piece → Piece → Type 0
+abbrev pub AreApart : ChunkContents → ChunkContents → Type 0
 AreApart p q = (p.place.block ≢ q.place.block) ⊎ ((p.place.offset + p.room ≤ q.place.offset) ⊎ (q.place.offset + q.room ≤ p.place.offset))
 
 -- a chunk has no more bytes than room, and its room lies in its block
-abbrev pub IsInside : List (Option ℕ) → Piece → Type 0
+abbrev pub IsInside : List (Option ℕ) → ChunkContents → Type 0
 IsInside blocks p = (length p.bytes ≤ p.room) × (p.place.offset + p.room ≤ size_at blocks p.place.block)
 
 -- no two chunks share a byte, and each lies in its block
-pub record AreLaid (blocks : List (Option ℕ)) (chunks : List Piece) : Type 0 where
+pub record AreLaid (blocks : List (Option ℕ)) (chunks : List ChunkContents) : Type 0 where
   pub apart : Pairwise AreApart chunks
   pub inside : Every (IsInside blocks) chunks
 
@@ -109,13 +110,21 @@ only blocks None = replicate (length blocks) None
 only blocks (Some block) = slice_set (replicate (length blocks) None) block (get_or blocks block None)
 
 -- a layout in which a chunk is the first one, whatever was at its place
-abbrev pub with_piece : Layout → Piece → Layout
+abbrev pub with_piece : Layout → ChunkContents → Layout
 with_piece l p = record { head = l.head; blocks = l.blocks; pieces = p ∷ without l.pieces p.place }
 
 -- a chunk of so much room at a place, header included, has no byte of the piece, header included
-abbrev pub IsClear : ℕ → Place → ℕ → Piece → Type 0
-IsClear head place room p = (p.place.block ≢ place.block) ⊎ ((p.place.offset + p.room + head ≤ place.offset) ⊎ (place.offset + room + head ≤ p.place.offset))
+abbrev pub IsClear : ℕ → Place → ℕ → ChunkContents → Type 0
+IsClear head place room p = (p.place.block ≢ place.block) ⊎ ((p.place.offset + p.room + head ≤ place.offset)
+    ⊎ (place.offset + room + head ≤ p.place.offset))
 
 -- the chunk at a place with other bytes behind the first ones that it keeps, live or not
 abbrev pub put_at : Layout → Place → ℕ → List ℕ → Bool → Layout
-put_at l place kept bytes live = with_piece l (record { place = place; room = (piece_at l.pieces place).room; is_live = live; bytes = take kept (piece_at l.pieces place).bytes ++ bytes })
+put_at l place kept bytes live = with_piece l
+    (record {
+      place = place;
+      room = (piece_at l.pieces place).room;
+      is_live = live;
+      bytes = take kept (piece_at l.pieces place).bytes
+          ++ bytes;
+    })

@@ -4,7 +4,7 @@ ghost use Rattle.block_memory.specs.Cells.{IsWritten, Holds, zeros};
 ghost use Rattle.block_memory.specs.Words.{word_bytes};
 ghost use Rattle.chunk_layout.specs.Pieces.{with_block, AreTaken};
 ghost use Rattle.chunk_layout.specs.Vacant.{AreVacant};
-ghost use Rattle.chunk_layout.specs.Spots.{block_at, poke, headed, sizes_of};
+ghost use Rattle.chunk_layout.specs.ChunkHeaders.{block_at, poke, headed, sizes_of};
 
 use crate::marks::BlockMarks;
 use crate::place::Place;
@@ -89,7 +89,8 @@ fn push_block(
     block: RawBlock,
 ) -> Result<u32, AllocError>
     requires { AreVacant (sizes_of blocks.old.items) vacant.old }
-    ensures added { IfOk result (λ number. (number ≡ length blocks.old.items) × (number < 2 ^ 32 - 1) × (blocks.new.items ≡ with_block blocks.old.items number block)) }
+    ensures added { IfOk result (λ number. (number ≡ length blocks.old.items) × (number < 2 ^ 32 - 1)
+        × (blocks.new.items ≡ with_block blocks.old.items number block)) }
     ensures vacant { AreVacant (sizes_of blocks.new.items) vacant.new }
     ensures refused { OnErr result (blocks.new.items ≡ blocks.old.items) }
 {

@@ -1,9 +1,11 @@
 //! The layout of chunks in blocks.
-ghost use Rattle.std.specs.Prelude.{◌≡◌, ◌+◌, ◌*◌, ◌-◌, ◌^◌, ◌<◌, ◌≤◌, if◌then◌else◌, true, false, [], ◌∷◌, ◌++◌, None, IsTrue, IfOk, OnErr, length, get_or, slice_set, option_map, take};
+ghost use Rattle.std.specs.Prelude.{◌≡◌, ◌+◌, ◌*◌, ◌-◌, ◌^◌, ◌<◌, ◌≤◌, if◌then◌else◌, true, false, [], ◌∷◌, ◌++◌, None, IsTrue, IfOk};
+ghost use Rattle.std.specs.Prelude.{OnErr, length, get_or, slice_set, option_map, take};
 ghost use Rattle.std.specs.Borrow.{sem};
 ghost use Rattle.block_memory.specs.Cells.{zeros};
 ghost use Rattle.chunk_layout.specs.Every.{Every};
-ghost use Rattle.chunk_layout.specs.Pieces.{has, same_place, is_kept, piece_at, put_at, with_piece, without, outside, with_block, size_at, total, only, AreLaid, AreTaken, IsClear, resized, Layout};
+ghost use Rattle.chunk_layout.specs.Pieces.{has, same_place, is_kept, piece_at, put_at, with_piece, without, outside, with_block, size_at};
+ghost use Rattle.chunk_layout.specs.Pieces.{total, only, AreLaid, AreTaken, IsClear, resized, Layout};
 ghost use Rattle.chunk_layout.specs.Fields.{layout_of, AreFields};
 
 use crate::blocks::{
@@ -11,7 +13,7 @@ use crate::blocks::{
     write_zeros,
 };
 use crate::marks::BlockMarks;
-use crate::place::{Note, Place, Spot};
+use crate::place::{ChunkEvent, ChunkHeader, Place};
 use block_memory::{GhostNotes, RawBlock};
 use std::alloc::{AllocError, Global};
 use std::marker::Model;
@@ -26,7 +28,7 @@ pub struct ChunkLayout {
     blocks: Vec<Option<RawBlock>>,
     vacant: BlockMarks,
     held: u64,
-    notes: GhostNotes<Note>,
+    notes: GhostNotes<ChunkEvent>,
     alloc: Global,
 }
 
@@ -117,7 +119,7 @@ impl ChunkLayout {
             place.offset as usize + kept,
             bytes,
         );
-        self.notes.add(&Note::Written {
+        self.notes.add(&ChunkEvent::Written {
             place,
             len: kept + bytes.len(),
             is_live,
@@ -137,7 +139,7 @@ impl ChunkLayout {
             place.offset as usize + kept,
             n,
         );
-        self.notes.add(&Note::Written {
+        self.notes.add(&ChunkEvent::Written {
             place,
             len: kept + n,
             is_live: true,
@@ -153,7 +155,7 @@ impl ChunkLayout {
         ensures { self.new ≡ with_piece self.old (record { place = place; room = room; is_live = true; bytes = [] }) }
     {
         write_header(&mut self.blocks, self.head, place, room);
-        self.notes.add(&Note::Chunk(Spot {
+        self.notes.add(&ChunkEvent::Chunk(ChunkHeader {
             place,
             room,
             len: 0,
@@ -176,7 +178,7 @@ impl ChunkLayout {
     pub fn forget(&mut self, place: Place)
         ensures { self.new ≡ record { head = self.old.head; blocks = self.old.blocks; pieces = without self.old.pieces place } }
     {
-        self.notes.add(&Note::Gone(place));
+        self.notes.add(&ChunkEvent::Gone(place));
     }
 
     /// Takes a block of `len` bytes, and answers its number, which no block had. A new number is made only where each one
@@ -187,7 +189,8 @@ impl ChunkLayout {
         ensures was_free { IfOk result (λ block. (block ≤ length self.old.blocks) × (get_or self.old.blocks block None ≡ None)) }
         ensures needed { IfOk result (λ block. block ≡ length self.old.blocks → AreTaken self.old.blocks) }
         ensures name { IfOk result (λ block. block < 2 ^ 32) }
-        ensures taken { IfOk result (λ block. self.new ≡ record { head = self.old.head; blocks = with_block self.old.blocks block len; pieces = self.old.pieces }) }
+        ensures taken { IfOk result (λ block. self.new
+            ≡ record { head = self.old.head; blocks = with_block self.old.blocks block len; pieces = self.old.pieces }) }
         ensures refused { OnErr result (self.new ≡ self.old) }
     {
         let block = RawBlock::new(self.alloc, len)?;
@@ -199,18 +202,23 @@ impl ChunkLayout {
     /// Gives the block of a number back, with the chunks in it.
     pub fn give_back(&mut self, block: u32)
         requires { block < length self.old.blocks }
-        ensures { self.new ≡ record { head = self.old.head; blocks = slice_set self.old.blocks block None; pieces = outside self.old.pieces block } }
+        ensures { self.new ≡ record {
+          head = self.old.head;
+          blocks = slice_set self.old.blocks block None;
+          pieces = outside self.old.pieces
+              block;
+        } }
     {
         let size = drop_block(&mut self.blocks, &mut self.vacant, block);
         self.held -= size as u64;
-        self.notes.add(&Note::Returned(block));
+        self.notes.add(&ChunkEvent::Returned(block));
     }
 
     /// Gives up all chunks. Their room is not used again before their blocks are given back.
     fn forget_all(&mut self)
         ensures { self.new ≡ record { head = self.old.head; blocks = self.old.blocks; pieces = [] } }
     {
-        self.notes.add(&Note::Cleared);
+        self.notes.add(&ChunkEvent::Cleared);
     }
 
     /// The highest number that a block had so far, and one more.

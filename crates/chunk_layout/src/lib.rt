@@ -16,4 +16,4 @@ pub use blocks::HEADER;
 pub use layout::ChunkLayout;
 pub use link::{put_first, take_first};
 pub use marks::BlockMarks;
-pub use place::{ChunkName, Note, Place, Spot};
+pub use place::{ChunkEvent, ChunkHeader, ChunkName, Place};

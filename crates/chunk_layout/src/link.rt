@@ -51,10 +51,12 @@ fn read_link(bytes: &[u8]) -> Option<Place>
 
 /// Takes the first chunk of a free list, if there is one. It is live then, and has no bytes.
 pub fn take_first(layout: &mut ChunkLayout, first: &mut Option<Place>) -> Option<Place>
-    requires { (place : Place) → first.old ≡ Some place → (IsTrue (has layout.old.pieces place)) × (length (piece_at layout.old.pieces place).bytes ≡ 8) }
+    requires { (place : Place) → first.old ≡ Some place → (IsTrue (has layout.old.pieces place))
+        × (length (piece_at layout.old.pieces place).bytes ≡ 8) }
     ensures none { IfNone result ((first.old ≡ None) × (first.new ≡ None) × (layout.new ≡ layout.old)) }
     ensures some { IfSome result (λ place. (first.old ≡ Some place) × (layout.new ≡ put_at layout.old place 0 [] true)) }
-    ensures next { IfSome result (λ place. (next : Option Place) → IsLink next → (piece_at layout.old.pieces place).bytes ≡ link_bytes next → first.new ≡ next) }
+    ensures next { IfSome result (λ place. (next : Option Place) → IsLink next → (piece_at layout.old.pieces place).bytes ≡ link_bytes next
+        → first.new ≡ next) }
 {
     let place = (*first)?;
     let next = read_link(layout.get(place, 8));

@@ -35,7 +35,8 @@ fn exchange(order: &mut Vec<u32>, places: &mut Vec<u32>, a: usize, b: usize)
     requires b_there { b < length order.old.items }
     ensures arranged { IsArranged order.new.items places.new.items }
     ensures long { length order.new.items ≡ length order.old.items }
-    ensures moved { (k : ℕ) → get_or places.new.items k 0 ≡ cond (k == get_or order.old.items a 0) b (cond (k == get_or order.old.items b 0) a (get_or places.old.items k 0)) }
+    ensures moved { (k : ℕ) → get_or places.new.items k 0
+        ≡ cond (k == get_or order.old.items a 0) b (cond (k == get_or order.old.items b 0) a (get_or places.old.items k 0)) }
 {
     let first = order[a];
     let second = order[b];

@@ -79,7 +79,7 @@ impl ChunkName {
 /// What is noted of a chunk: where it lies, how many bytes it has room for, how many of these were written, and whether
 /// somebody has its name.
 #[derive(Clone, Copy)]
-pub struct Spot {
+pub struct ChunkHeader {
     pub place: Place,
     pub room: usize,
     pub len: usize,
@@ -88,9 +88,9 @@ pub struct Spot {
 
 /// What happened to the chunks of a layout.
 #[derive(Clone, Copy)]
-pub enum Note {
+pub enum ChunkEvent {
     /// There is this chunk, where none was.
-    Chunk(Spot),
+    Chunk(ChunkHeader),
     /// So many bytes were written to the chunk at this place, and it is live or not.
     Written {
         place: Place,

@@ -1,7 +1,7 @@
 //! The files that a command reads and writes.
 
+use command_replicas::SummaryFile;
 use command_streams::Problem;
-use file_commands::SummaryFile;
 use file_sentences::length_reason;
 use replies::{Refusal, RunError};
 use std::io::ErrorKind;

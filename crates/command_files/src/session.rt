@@ -3,10 +3,10 @@
 use crate::files::{read, write_out};
 use clap::ArgMatches;
 use command_streams::{
-    Fate, Problem, Streams, Told, open_disk, reason_of, remove_disk, system_seed,
+    Diagnostic, OutputStatus, Problem, Streams, open_disk, reason_of, remove_disk, system_seed,
 };
 use command_words::{
-    BATCH, COLUMNS, EXPLAIN, FORMAT, IN, LIMIT, NO_CLOBBER, OUT, PROGRESS, QUERY, Task, value,
+    BATCH, COLUMNS, EXPLAIN, FORMAT, IN, LIMIT, NO_CLOBBER, OUT, PROGRESS, QUERY, Subcommand, value,
 };
 use fault_sentences::Quoted;
 use file_sentences::{
@@ -16,7 +16,7 @@ use file_sentences::{
 use hash_agg::{Fnv1a, Means, TapeDisk, Work};
 use holding_sentences::holding_lines;
 use replica_merge::Replica;
-use replies::{Ending, Format, Refusal, Reply, origin_lines, put_reply, refusal_ending, table};
+use replies::{ExitKind, Format, Refusal, Reply, origin_lines, put_reply, refusal_ending, table};
 use script_io::{put_all, read_limit};
 use spill_tapes::{MemDisk, SpillDisk};
 use std::alloc::{AllocError, Global};
@@ -37,7 +37,7 @@ fn format_named(text: &str) -> Format {
 /// The replica that a file is the summary of.
 fn open_replica<'p, R: Files + AllocGlobal>(rt: &R, path: &'p str) -> Result<Replica, Problem<'p>> {
     let file = read(rt, path)?;
-    match file_commands::load(rt.alloc(), &file) {
+    match command_replicas::load(rt.alloc(), &file) {
         Ok(replica) => Ok(replica),
         Err(why) => {
             let reason = summary_reason(rt.alloc(), &file, why);
@@ -49,7 +49,7 @@ fn open_replica<'p, R: Files + AllocGlobal>(rt: &R, path: &'p str) -> Result<Rep
 /// The replica of the texts of a command line, which knows nothing.
 fn new_replica<'p>(alloc: Global, matches: &ArgMatches<'p>) -> Result<Replica, Problem<'p>> {
     let (columns, query) = (value(matches, COLUMNS), value(matches, QUERY));
-    match file_commands::create(alloc, columns, query) {
+    match command_replicas::create(alloc, columns, query) {
         Ok(replica) => Ok(replica),
         Err(Refusal::BadSchema) => {
             let reason = columns_reason(alloc, columns);
@@ -65,12 +65,12 @@ fn new_replica<'p>(alloc: Global, matches: &ArgMatches<'p>) -> Result<Replica, P
 /// The replica that a command begins with.
 fn first_replica<'p, R: Files + AllocGlobal>(
     rt: &R,
-    task: Task,
+    task: Subcommand,
     matches: &ArgMatches<'p>,
 ) -> Result<Replica, Problem<'p>> {
     match task {
-        Task::New => new_replica(rt.alloc(), matches),
-        Task::Feed | Task::Merge | Task::Known | Task::Answer => {
+        Subcommand::New => new_replica(rt.alloc(), matches),
+        Subcommand::Feed | Subcommand::Merge | Subcommand::Known | Subcommand::Answer => {
             open_replica(rt, value(matches, IN))
         }
     }
@@ -85,7 +85,7 @@ fn means_told(text: &str) -> Result<Means<Fnv1a>, Refusal> {
 }
 
 /// The means that a command tells, or the usual ones.
-fn means_of(task: Task, matches: &ArgMatches<'_>) -> Result<Means<Fnv1a>, Refusal> {
+fn means_of(task: Subcommand, matches: &ArgMatches<'_>) -> Result<Means<Fnv1a>, Refusal> {
     if !task.groups_rows() {
         return Ok(Means::usual(Fnv1a));
     }
@@ -107,11 +107,11 @@ fn take<D: TapeDisk>(
 ) -> Result<Reply<'static>, Refusal> {
     match kind {
         FileKind::Batch => {
-            let delivered = file_commands::feed(alloc, replica, file, means, disk, work)?;
+            let delivered = command_replicas::feed(alloc, replica, file, means, disk, work)?;
             Ok(Reply::Delivered(delivered))
         }
         FileKind::Summary => {
-            file_commands::merge(alloc, replica, file, means, disk, work)?;
+            command_replicas::merge(alloc, replica, file, means, disk, work)?;
             Ok(Reply::Merged)
         }
     }
@@ -140,7 +140,7 @@ fn take_file<'p, R: Files + AllocGlobal, D: TapeDisk>(
 /// Whether a file is there in the place of OUT which is none of those that are read. Where there is no memory to look, none is.
 fn is_standing<R: Files + AllocGlobal>(
     rt: &R,
-    task: Task,
+    task: Subcommand,
     matches: &ArgMatches<'_>,
     out: &str,
 ) -> bool {
@@ -200,9 +200,9 @@ impl<'c, R: Files + AllocGlobal + RandomSource, W: Write, E: Write> Session<'c, 
     }
 
     /// Says what was refused, and what became of OUT.
-    fn complain<'t>(&mut self, problem: &'t Problem<'_>, fate: Option<Fate<'t>>) {
+    fn complain<'t>(&mut self, problem: &'t Problem<'_>, fate: Option<OutputStatus<'t>>) {
         if !problem.is_unread() {
-            self.streams.say(&Told { problem, fate });
+            self.streams.say(&Diagnostic { problem, fate });
         }
     }
 
@@ -241,7 +241,7 @@ impl<'c, R: Files + AllocGlobal + RandomSource, W: Write, E: Write> Session<'c, 
     }
 
     /// Removes the file in which the tapes lay, when nothing is spilled any more.
-    fn remove_spill(&mut self, task: Task, matches: &ArgMatches<'_>) {
+    fn remove_spill(&mut self, task: Subcommand, matches: &ArgMatches<'_>) {
         if self.in_file {
             self.in_file = false;
             let alloc = self.streams.alloc;
@@ -252,7 +252,7 @@ impl<'c, R: Files + AllocGlobal + RandomSource, W: Write, E: Write> Session<'c, 
 
     /// Writes the summary file of a replica.
     fn save<'p>(&mut self, replica: &Replica, path: &'p str) -> Result<(), Problem<'p>> {
-        let file = match file_commands::save(replica) {
+        let file = match command_replicas::save(replica) {
             Ok(file) => file,
             Err(why) => {
                 let reason = saving_reason(self.rt.alloc(), replica, why);
@@ -317,30 +317,30 @@ impl<'c, R: Files + AllocGlobal + RandomSource, W: Write, E: Write> Session<'c, 
     fn perform<'p>(
         &mut self,
         replica: &mut Replica,
-        task: Task,
+        task: Subcommand,
         matches: &ArgMatches<'p>,
         means: &Means<Fnv1a>,
     ) -> Result<(), Problem<'p>> {
         match task {
-            Task::Known => {
+            Subcommand::Known => {
                 self.list(replica, value(matches, IN))?;
                 if task.is_told(matches, EXPLAIN) {
                     self.explain_holding(replica);
                 }
                 return Ok(());
             }
-            Task::Answer => return self.answer(replica, matches),
-            Task::Feed => {
+            Subcommand::Answer => return self.answer(replica, matches),
+            Subcommand::Feed => {
                 let paths = matches.get_strs(BATCH).unwrap_or_default();
                 self.take_files(FileKind::Batch, replica, paths, means)?;
             }
-            Task::Merge => {
+            Subcommand::Merge => {
                 // The replica is that of the first.
                 let paths = matches.get_strs(IN).unwrap_or_default();
                 let others = paths.get(1..).unwrap_or_default();
                 self.take_files(FileKind::Summary, replica, others, means)?;
             }
-            Task::New => {}
+            Subcommand::New => {}
         }
         // OUT may have the path of the file for what is spilled, which is no longer wanted.
         self.remove_spill(task, matches);
@@ -350,7 +350,7 @@ impl<'c, R: Files + AllocGlobal + RandomSource, W: Write, E: Write> Session<'c, 
     /// Runs a command on files: each begins with one replica.
     fn run_command<'p>(
         &mut self,
-        task: Task,
+        task: Subcommand,
         matches: &ArgMatches<'p>,
         means: &Means<Fnv1a>,
     ) -> Result<(), Problem<'p>> {
@@ -372,9 +372,9 @@ impl<'c, R: Files + AllocGlobal + RandomSource, W: Write, E: Write> Session<'c, 
     }
 
     /// What became of OUT, if a command writes one.
-    fn fate<'p>(&self, task: Task, matches: &ArgMatches<'p>) -> Option<Fate<'p>> {
+    fn fate<'p>(&self, task: Subcommand, matches: &ArgMatches<'p>) -> Option<OutputStatus<'p>> {
         match task.out(matches) {
-            Some(out) => Some(Fate {
+            Some(out) => Some(OutputStatus {
                 out,
                 is_written: self.is_written,
             }),
@@ -383,11 +383,11 @@ impl<'c, R: Files + AllocGlobal + RandomSource, W: Write, E: Write> Session<'c, 
     }
 
     /// Ends a command that stopped.
-    fn stop(&mut self, problem: Problem<'_>, fate: Option<Fate<'_>>) -> Ending {
+    fn stop(&mut self, problem: Problem<'_>, fate: Option<OutputStatus<'_>>) -> ExitKind {
         self.complain(&problem, fate);
         match self.reply(&Reply::Refused(problem.why)) {
             Ok(()) => refusal_ending(problem.why),
-            Err(_) => Ending::Fault,
+            Err(_) => ExitKind::Fault,
         }
     }
 
@@ -404,7 +404,12 @@ impl<'c, R: Files + AllocGlobal + RandomSource, W: Write, E: Write> Session<'c, 
     }
 
     /// Ends a command whose limit was refused. A text that is no number of bytes is no command line.
-    fn refuse_limit(&mut self, task: Task, matches: &ArgMatches<'_>, why: Refusal) -> Ending {
+    fn refuse_limit(
+        &mut self,
+        task: Subcommand,
+        matches: &ArgMatches<'_>,
+        why: Refusal,
+    ) -> ExitKind {
         let reason = match self.limit_reason(matches, why) {
             Ok(said) => Ok(reason_of(self.streams.alloc, Some(said))),
             Err(error) => Err(error),
@@ -413,13 +418,13 @@ impl<'c, R: Files + AllocGlobal + RandomSource, W: Write, E: Write> Session<'c, 
         let fate = self.fate(task, matches);
         if matches!(why, Refusal::BadCommand) {
             self.complain(&problem, fate);
-            return Ending::BadUsage;
+            return ExitKind::BadUsage;
         }
         self.stop(problem, fate)
     }
 
     /// OUT, where a file is there which is none of those that are read.
-    fn standing<'p>(&self, task: Task, matches: &ArgMatches<'p>) -> Option<&'p str> {
+    fn standing<'p>(&self, task: Subcommand, matches: &ArgMatches<'p>) -> Option<&'p str> {
         let out = task.out(matches)?;
         if is_standing(self.rt, task, matches, out) {
             Some(out)
@@ -436,25 +441,25 @@ impl<'c, R: Files + AllocGlobal + RandomSource, W: Write, E: Write> Session<'c, 
     }
 
     /// Sends out what was gathered, and tells how the command ended.
-    fn finish(&mut self, ending: Ending, fate: Option<Fate<'_>>) -> Ending {
+    fn finish(&mut self, ending: ExitKind, fate: Option<OutputStatus<'_>>) -> ExitKind {
         match self.streams.writer.flush() {
             Ok(()) => ending,
             Err(_) => {
-                if ending != Ending::Fault {
+                if ending != ExitKind::Fault {
                     let problem = self.streams.output_fault();
                     self.complain(&problem, fate);
                 }
-                Ending::Fault
+                ExitKind::Fault
             }
         }
     }
 
     /// Runs a command on files, and tells how it ended.
-    pub fn run(mut self, task: Task, matches: &ArgMatches<'_>) -> Ending {
+    pub fn run(mut self, task: Subcommand, matches: &ArgMatches<'_>) -> ExitKind {
         let standing = self.standing(task, matches);
         if task.is_told(matches, NO_CLOBBER) && standing.is_some() {
             self.tell_standing(standing, true);
-            return Ending::BadUsage;
+            return ExitKind::BadUsage;
         }
         let ending = match means_of(task, matches) {
             Ok(means) => self.run_with(task, matches, means, standing),
@@ -465,7 +470,11 @@ impl<'c, R: Files + AllocGlobal + RandomSource, W: Write, E: Write> Session<'c, 
     }
 
     /// The means of a command that aggregates, with a seed of the system's.
-    fn seeded(&self, task: Task, means: Means<Fnv1a>) -> Result<Means<Fnv1a>, Problem<'static>> {
+    fn seeded(
+        &self,
+        task: Subcommand,
+        means: Means<Fnv1a>,
+    ) -> Result<Means<Fnv1a>, Problem<'static>> {
         if !task.aggregates() {
             return Ok(means);
         }
@@ -476,11 +485,11 @@ impl<'c, R: Files + AllocGlobal + RandomSource, W: Write, E: Write> Session<'c, 
     /// Runs a command on files by means, with the disk of tapes that it tells, and tells how it ended.
     fn run_with(
         &mut self,
-        task: Task,
+        task: Subcommand,
         matches: &ArgMatches<'_>,
         means: Means<Fnv1a>,
         standing: Option<&str>,
-    ) -> Ending {
+    ) -> ExitKind {
         self.tells_progress = task.is_told(matches, PROGRESS) || self.streams.terminals.errors;
         let spill = task.spill(matches);
         match open_disk(self.rt, spill) {
@@ -504,7 +513,7 @@ impl<'c, R: Files + AllocGlobal + RandomSource, W: Write, E: Write> Session<'c, 
     }
 
     /// Says that files were passed over, though OUT was written.
-    fn tell_passed(&mut self, task: Task, matches: &ArgMatches<'_>) {
+    fn tell_passed(&mut self, task: Subcommand, matches: &ArgMatches<'_>) {
         if let Some(out) = task.out(matches) {
             self.streams.say(&PassedOver {
                 out,
@@ -515,7 +524,12 @@ impl<'c, R: Files + AllocGlobal + RandomSource, W: Write, E: Write> Session<'c, 
     }
 
     /// Runs a command on files by means, and tells how it ended.
-    fn run_by(&mut self, task: Task, matches: &ArgMatches<'_>, means: &Means<Fnv1a>) -> Ending {
+    fn run_by(
+        &mut self,
+        task: Subcommand,
+        matches: &ArgMatches<'_>,
+        means: &Means<Fnv1a>,
+    ) -> ExitKind {
         let done = self.run_command(task, matches, means);
         if done.is_ok() && task.groups_rows() && task.is_told(matches, EXPLAIN) {
             self.explain(means.limit());
@@ -523,9 +537,9 @@ impl<'c, R: Files + AllocGlobal + RandomSource, W: Write, E: Write> Session<'c, 
         match done {
             Ok(()) if self.passed > 0 => {
                 self.tell_passed(task, matches);
-                Ending::Refused
+                ExitKind::Refused
             }
-            Ok(()) => Ending::Done,
+            Ok(()) => ExitKind::Done,
             Err(problem) => {
                 let fate = self.fate(task, matches);
                 self.stop(problem, fate)

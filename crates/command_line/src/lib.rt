@@ -1,10 +1,10 @@
 //! The commands of `agg_tool`: its command line, the files that it reads and writes, what it says on which stream, and its
-//! status. What the commands make of bytes, and what they say, is proved below, in `script_machine`, `file_commands` and `replies`.
+//! status. What the commands make of bytes, and what they say, is proved below, in `script_machine`, `command_replicas` and `replies`.
 #![tactic(auto)]
 
 ghost use Rattle.std.specs.Prelude.{◌≡◌};
 ghost use Rattle.replies.specs.Status.{status_of};
-ghost use Rattle.replies.specs.declared.ending.Ending.{Ending};
+ghost use Rattle.replies.specs.declared.ending.ExitKind.{ExitKind};
 
 use clap::error::ErrorKind;
 use clap::{ArgMatches, Error};
@@ -12,8 +12,8 @@ use command_files::Session;
 use command_scripts::run_script;
 pub use command_streams::Terminals;
 use command_streams::{Problem, Streams, say};
-use command_words::{SPILL, Task, parse_words};
-use replies::{Ending, status};
+use command_words::{SPILL, Subcommand, parse_words};
+use replies::{ExitKind, status};
 use script_io::Fused;
 use std::alloc::Global;
 use std::io::{BufWriter, Read, Write};
@@ -40,19 +40,19 @@ fn write_error<E: Write>(alloc: Global, error: &Error, errors: &mut E) {
 fn end_without_command<W: Write, E: Write>(
     error: &Error,
     streams: &mut Streams<'_, W, E>,
-) -> Ending {
+) -> ExitKind {
     if error.kind() == ErrorKind::OutOfMemory {
         let _ = writeln!(streams.writer, "refused NoMemory");
         write_error(streams.alloc, error, streams.errors);
-        return Ending::Refused;
+        return ExitKind::Refused;
     }
     if error.use_stderr() {
         write_error(streams.alloc, error, streams.errors);
-        return Ending::BadUsage;
+        return ExitKind::BadUsage;
     }
     match write!(streams.writer, "{error}") {
-        Ok(()) => Ending::Done,
-        Err(_) => Ending::Fault,
+        Ok(()) => ExitKind::Done,
+        Err(_) => ExitKind::Fault,
     }
 }
 
@@ -62,11 +62,11 @@ fn run_task<'c, R: Files + AllocGlobal + RandomSource, W: Write, E: Write>(
     name: &str,
     matches: &ArgMatches<'_>,
     streams: Streams<'c, W, E>,
-) -> Ending {
-    match Task::named(name) {
+) -> ExitKind {
+    match Subcommand::named(name) {
         Some(task) => Session::new(rt, streams).run(task, matches),
         // The parser knows no other.
-        None => Ending::BadUsage,
+        None => ExitKind::BadUsage,
     }
 }
 
@@ -78,7 +78,7 @@ fn run_words<R: Files + AllocGlobal + RandomSource, I: Read, W: Write, E: Write>
     writer: &mut Fused<W>,
     errors: &mut E,
     terminals: Terminals,
-) -> Ending {
+) -> ExitKind {
     let alloc = rt.alloc();
     let mut streams = Streams {
         alloc,
@@ -93,7 +93,7 @@ fn run_words<R: Files + AllocGlobal + RandomSource, I: Read, W: Write, E: Write>
             }
             Some((name, matches)) => run_task(rt, name, matches, streams),
             // The parser wants a command.
-            None => Ending::BadUsage,
+            None => ExitKind::BadUsage,
         },
         Err(error) => end_without_command(&error, &mut streams),
     }
@@ -103,17 +103,17 @@ fn run_words<R: Files + AllocGlobal + RandomSource, I: Read, W: Write, E: Write>
 fn send_out<W: Write, E: Write>(
     alloc: Global,
     gathered: &mut Fused<W>,
-    ending: Ending,
+    ending: ExitKind,
     errors: &mut E,
-) -> Ending {
+) -> ExitKind {
     match gathered.flush() {
         Ok(()) => ending,
         Err(cause) => {
             let problem = Problem::output(Some(cause));
-            if ending != Ending::Fault && !problem.is_unread() {
+            if ending != ExitKind::Fault && !problem.is_unread() {
                 say(alloc, errors, &problem);
             }
-            Ending::Fault
+            ExitKind::Fault
         }
     }
 }
@@ -126,7 +126,7 @@ fn run_through<R: Files + AllocGlobal + RandomSource, I: Read, W: Write + Drop, 
     writer: W,
     errors: &mut E,
     terminals: Terminals,
-) -> Ending {
+) -> ExitKind {
     let mut gathered = Fused::new(writer);
     let ending = run_words(rt, words, reader, &mut gathered, errors, terminals);
     send_out(rt.alloc(), &mut gathered, ending, errors)
@@ -141,7 +141,7 @@ fn run_gathered<R: Files + AllocGlobal + RandomSource, I: Read, W: Write, E: Wri
     writer: &mut W,
     errors: &mut E,
     terminals: Terminals,
-) -> Ending {
+) -> ExitKind {
     let alloc = rt.alloc();
     let capacity = if terminals.output { 0 } else { GATHERED_BYTES };
     if let Ok(gathered) = BufWriter::with_capacity(alloc, capacity, &mut *writer) {
@@ -167,7 +167,7 @@ pub fn command(
     mut errors: &mut dyn Write,
     terminals: Terminals,
 ) -> u8
-    ensures status { (ending : Ending) × (result ≡ status_of ending) }
+    ensures status { (ending : ExitKind) × (result ≡ status_of ending) }
 {
     let ending = run_gathered(rt, words, &mut reader, &mut writer, &mut errors, terminals);
     status(ending)

@@ -9,7 +9,7 @@ use fault_sentences::{
     Reason, ScriptPlace, say_columns, say_disagreement, say_limit, say_no_name, say_taken,
 };
 use hash_agg::{Seed, TapeDisk};
-use replies::{Ending, Refusal, Reply, RunError, put_reply, refusal_ending, run_ending};
+use replies::{ExitKind, Refusal, Reply, RunError, put_reply, refusal_ending, run_ending};
 use script_io::Fused;
 use script_machine::{Observer, run_observed};
 use std::alloc::{AllocError, Global};
@@ -135,7 +135,7 @@ fn run_over<I: Read, W: Write, E: Write, D: TapeDisk>(
     streams: &mut Streams<'_, W, E>,
     disk: &mut D,
     seed: Seed,
-) -> Ending {
+) -> ExitKind {
     let alloc = streams.alloc;
     let mut script = Fused::new(&mut *reader);
     let mut complaints = Complaints {
@@ -159,11 +159,11 @@ fn run_over<I: Read, W: Write, E: Write, D: TapeDisk>(
 }
 
 /// Ends a script whose file for what is spilled was not made. Nothing was read.
-fn stop<W: Write, E: Write>(problem: Problem<'_>, streams: &mut Streams<'_, W, E>) -> Ending {
+fn stop<W: Write, E: Write>(problem: Problem<'_>, streams: &mut Streams<'_, W, E>) -> ExitKind {
     streams.say(&problem);
     match put_reply(streams.writer, &Reply::Refused(problem.why)) {
         Ok(()) => refusal_ending(problem.why),
-        Err(_) => Ending::Fault,
+        Err(_) => ExitKind::Fault,
     }
 }
 
@@ -173,7 +173,7 @@ fn run_seeded<R: RandomSource + AllocGlobal, I: Read, W: Write, E: Write, D: Tap
     reader: &mut I,
     streams: &mut Streams<'_, W, E>,
     disk: &mut D,
-) -> Ending {
+) -> ExitKind {
     match system_seed(rt) {
         Ok(seed) => run_over(reader, streams, disk, seed),
         Err(problem) => {
@@ -189,7 +189,7 @@ pub fn run_script<R: Files + AllocGlobal + RandomSource, I: Read, W: Write, E: W
     spill: Option<&str>,
     reader: &mut I,
     streams: &mut Streams<'_, W, E>,
-) -> Ending {
+) -> ExitKind {
     let mut disk = match open_disk(rt, spill) {
         Ok(disk) => disk,
         Err(problem) => return stop(problem, streams),

@@ -6,7 +6,7 @@ mod seed;
 mod spill;
 mod streams;
 
-pub use problem::{Fate, Problem, Told, is_closed, reason_of};
+pub use problem::{Diagnostic, OutputStatus, Problem, is_closed, reason_of};
 pub use seed::system_seed;
 pub use spill::{open_disk, remove_disk};
 pub use streams::{Streams, Terminals, say};

@@ -101,19 +101,19 @@ pub fn reason_of(alloc: Global, said: Option<String>) -> Option<Reason> {
 
 /// What became of OUT.
 #[derive(Clone, Copy)]
-pub struct Fate<'o> {
+pub struct OutputStatus<'o> {
     pub out: &'o str,
     pub is_written: bool,
 }
 
 /// What is said of a problem, and of OUT, if a command writes one.
 #[derive(Clone, Copy)]
-pub struct Told<'t, 'p> {
+pub struct Diagnostic<'t, 'p> {
     pub problem: &'t Problem<'p>,
-    pub fate: Option<Fate<'t>>,
+    pub fate: Option<OutputStatus<'t>>,
 }
 
-impl fmt::Display for Fate<'_> {
+impl fmt::Display for OutputStatus<'_> {
     fn fmt<W: fmt::Write>(&self, f: &mut fmt::Formatter<W>) -> fmt::Result {
         let out = Plain(self.out);
         if self.is_written {
@@ -139,7 +139,7 @@ impl fmt::Display for Problem<'_> {
     }
 }
 
-impl fmt::Display for Told<'_, '_> {
+impl fmt::Display for Diagnostic<'_, '_> {
     fn fmt<W: fmt::Write>(&self, f: &mut fmt::Formatter<W>) -> fmt::Result {
         let problem = self.problem;
         write!(f, "{problem}")?;

@@ -7,7 +7,7 @@ use clap::builder::ValueParser;
 use clap::{Arg, ArgAction, ArgMatches, Command, Error};
 use std::alloc::{AllocError, Global};
 use std::convert::AsStr;
-pub use tasks::{Task, value};
+pub use tasks::{Subcommand, value};
 
 /// The summary file that is written.
 pub const OUT: &str = "OUT";

@@ -6,7 +6,7 @@ use std::alloc::{AllocError, Global};
 
 /// A command on files.
 #[derive(Clone, Copy)]
-pub enum Task {
+pub enum Subcommand {
     New,
     Feed,
     Merge,
@@ -14,15 +14,15 @@ pub enum Task {
     Answer,
 }
 
-impl Task {
+impl Subcommand {
     /// The command of a name.
-    pub fn named(name: &str) -> Option<Task> {
+    pub fn named(name: &str) -> Option<Subcommand> {
         match name {
-            "new" => Some(Task::New),
-            "feed" => Some(Task::Feed),
-            "merge" => Some(Task::Merge),
-            "known" => Some(Task::Known),
-            "answer" => Some(Task::Answer),
+            "new" => Some(Subcommand::New),
+            "feed" => Some(Subcommand::Feed),
+            "merge" => Some(Subcommand::Merge),
+            "known" => Some(Subcommand::Known),
+            "answer" => Some(Subcommand::Answer),
             _ => None,
         }
     }
@@ -31,30 +31,30 @@ impl Task {
     /// merges what is grouped already.
     pub fn groups_rows(self) -> bool {
         match self {
-            Task::Feed | Task::Merge | Task::Answer => true,
-            Task::New | Task::Known => false,
+            Subcommand::Feed | Subcommand::Merge | Subcommand::Answer => true,
+            Subcommand::New | Subcommand::Known => false,
         }
     }
 
     /// Whether it aggregates, and so wants a seed.
     pub fn aggregates(self) -> bool {
-        matches!(self, Task::Feed | Task::Merge)
+        matches!(self, Subcommand::Feed | Subcommand::Merge)
     }
 
     /// The file that it writes, if it writes one.
     pub fn out<'p>(self, matches: &ArgMatches<'p>) -> Option<&'p str> {
         match self {
-            Task::New | Task::Feed | Task::Merge => matches.get_str(OUT),
-            Task::Known | Task::Answer => None,
+            Subcommand::New | Subcommand::Feed | Subcommand::Merge => matches.get_str(OUT),
+            Subcommand::Known | Subcommand::Answer => None,
         }
     }
 
     /// Whether an option that it has stands on the command line.
     pub fn is_told(self, matches: &ArgMatches<'_>, option: &str) -> bool {
         let has_option = match option {
-            NO_CLOBBER => matches!(self, Task::New | Task::Feed | Task::Merge),
-            PROGRESS => matches!(self, Task::Feed | Task::Merge),
-            _ => !matches!(self, Task::New),
+            NO_CLOBBER => matches!(self, Subcommand::New | Subcommand::Feed | Subcommand::Merge),
+            PROGRESS => matches!(self, Subcommand::Feed | Subcommand::Merge),
+            _ => !matches!(self, Subcommand::New),
         };
         has_option && matches.get_flag(option)
     }
@@ -75,13 +75,13 @@ impl Task {
     ) -> Result<Vec<&'p str>, AllocError> {
         let mut paths = Vec::new(alloc);
         match self {
-            Task::New => {}
-            Task::Feed => {
+            Subcommand::New => {}
+            Subcommand::Feed => {
                 paths.push(value(matches, IN))?;
                 paths.extend_from_slice(matches.get_strs(BATCH).unwrap_or_default())?;
             }
-            Task::Merge => paths.extend_from_slice(matches.get_strs(IN).unwrap_or_default())?,
-            Task::Known | Task::Answer => paths.push(value(matches, IN))?,
+            Subcommand::Merge => paths.extend_from_slice(matches.get_strs(IN).unwrap_or_default())?,
+            Subcommand::Known | Subcommand::Answer => paths.push(value(matches, IN))?,
         }
         Ok(paths)
     }

@@ -1,5 +1,6 @@
 -- What all contexts hold together.
-use Rattle.std.proofs.Common.{◌≡◌, ℕ, zero, suc, ◌+◌, ◌<◌, ◌≤◌, Bool, true, false, List, [], ◌∷◌, Option, Some, None, length, get_or, cond, set, refl, ap, arith}
+use Rattle.std.proofs.Common.{◌≡◌, ℕ, zero, suc, ◌+◌, ◌<◌, ◌≤◌, Bool, true, false, List, [], ◌∷◌, Option, Some, None, length, get_or, cond}
+use Rattle.std.proofs.Common.{set, refl, ap, arith}
 use Rattle.std.specs.Prelude.{is_some, nat_le}
 use Rattle.chunk_contexts.specs.Rooms.{rounded, over_most}
 use Rattle.chunk_contexts.specs.Free.{is_in}
@@ -7,7 +8,8 @@ use Rattle.chunk_contexts.specs.Set.{SetState, growth_by, set_growth, set_room}
 use Rattle.chunk_contexts.specs.Run.{RunState, run_growth, run_growth_by}
 use Rattle.chunk_contexts.specs.Slab.{SlabState, slab_refusal, slab_growth, slab_grows}
 use Rattle.chunk_contexts.specs.declared.error.ContextError.{ContextError}
-use Rattle.context_tree.proofs.Words.{no_context, new_context, with_bytes, with_resized, held_by, growth_of, refusal_of, is_below, cleared, placed, held_from, held_by_all, Context, Link}
+use Rattle.context_tree.proofs.Words.{no_context, new_context, with_bytes, with_resized, held_by, growth_of, refusal_of, is_below, cleared}
+use Rattle.context_tree.proofs.Words.{placed, held_from, held_by_all, Context, Link}
 use Rattle.context_tree.specs.declared.context.Context.TheVariants.{AllocSet, Slab, Generation, Bump}
 use Rattle.context_tree.specs.declared.kind.Kind.{Kind}
 use Rattle.context_tree.specs.declared.kind.Kind.TheVariants as kind
@@ -37,13 +39,17 @@ resized-held (Bump s) place bytes = refl
 set-refused : (s : SetState) (n : ℕ) (o : Option ContextError) → over_most n ≡ o → 0 < set_growth s n → o ≡ None
 set-refused s n None is grows = refl
 set-refused s n (Some e) is grows =
-    let none : set_growth s n ≡ 0 = ap (λ (p : Option ContextError). growth_by (is_some p) (nat_le n LARGEST) (is_in (set_room n) s.free) (nat_le (set_room n + 8) s.left) s (set_room n)) is in
+    let none : set_growth s n
+    ≡ 0 = ap (λ (p : Option ContextError). growth_by (is_some p) (nat_le n LARGEST) (is_in (set_room n) s.free)
+    (nat_le (set_room n + 8) s.left) s (set_room n)) is in
     absurd (omega (arith, none, grows))
 
 run-refused : (head : ℕ) (s : RunState) (n : ℕ) (o : Option ContextError) → over_most n ≡ o → 0 < run_growth head s n → o ≡ None
 run-refused head s n None is grows = refl
 run-refused head s n (Some e) is grows =
-    let none : run_growth head s n ≡ 0 = ap (λ (p : Option ContextError). run_growth_by (is_some p) (nat_le (head + rounded n) BLOCK) (nat_le (head + rounded n) s.left) (head + rounded n)) is in
+    let none : run_growth head s n
+    ≡ 0 = ap (λ (p : Option ContextError). run_growth_by (is_some p) (nat_le (head + rounded n) BLOCK)
+    (nat_le (head + rounded n) s.left) (head + rounded n)) is in
     absurd (omega (arith, none, grows))
 
 slab-refused : (s : SlabState) (n : ℕ) (o : Option ContextError) → slab_refusal s n ≡ o → 0 < slab_growth s n → o ≡ None
@@ -58,12 +64,14 @@ growth-admitted (Slab s) n grows = slab-refused s n (slab_refusal s n) refl grow
 growth-admitted (Generation s) n grows = run-refused 8 s n (over_most n) refl grows
 growth-admitted (Bump s) n grows = run-refused 0 s n (over_most n) refl grows
 
-pub all-set : (cs : List Context) (slot : ℕ) (c : Context) → slot < length cs → held_by_all (set cs slot c) + held_by (get_or cs slot no_context) ≡ held_by_all cs + held_by c
+pub all-set : (cs : List Context) (slot : ℕ) (c : Context) → slot < length cs → held_by_all (set cs slot c)
+    + held_by (get_or cs slot no_context) ≡ held_by_all cs + held_by c
 all-set [] slot c low = absurd (omega (arith, low))
 all-set (x ∷ cs) zero c low = omega arith
 all-set (x ∷ cs) (suc slot) c low = omega (arith, all-set cs slot c (omega (arith, low)))
 
-pub all-placed : (cs : List Context) (slot : ℕ) (c : Context) → slot ≤ length cs → get_or cs slot no_context ≡ no_context → held_by c ≡ 0 → held_by_all (placed cs slot c) ≡ held_by_all cs
+pub all-placed : (cs : List Context) (slot : ℕ) (c : Context) → slot ≤ length cs → get_or cs slot no_context ≡ no_context → held_by c ≡ 0
+    → held_by_all (placed cs slot c) ≡ held_by_all cs
 all-placed [] slot c low none holds = omega (arith, holds)
 all-placed (x ∷ cs) zero c low none holds = omega (arith, holds, ap held_by none)
 all-placed (x ∷ cs) (suc slot) c low none holds = omega (arith, all-placed cs slot c (omega (arith, low)) none holds)
@@ -95,7 +103,8 @@ given-one : (b : Bool) (c : Context) → held_by (cond b no_context c) + cond b 
 given-one true c = omega arith
 given-one false c = omega arith
 
-pub all-given : (ls : List (Option Link)) (above place : ℕ) (cs : List Context) → held_by_all (cleared (is_below ls above) no_context place cs) + held_from ls above place cs ≡ held_by_all cs
+pub all-given : (ls : List (Option Link)) (above place : ℕ) (cs : List Context)
+    → held_by_all (cleared (is_below ls above) no_context place cs) + held_from ls above place cs ≡ held_by_all cs
 all-given ls above place [] = refl
 all-given ls above place (c ∷ cs) =
     let here = given-one (is_below ls above place) c in

@@ -1,5 +1,6 @@
 -- Lists by slots, some of which are cleared.
-use Rattle.std.proofs.Common.{◌≡◌, ℕ, zero, suc, ◌+◌, ◌<◌, ◌⊎◌, inl, inr, Bool, true, false, List, [], ◌∷◌, Option, None, length, get_or, cond, set, refl, sym, ap, ◌∙◌, arith, subst}
+use Rattle.std.proofs.Common.{◌≡◌, ℕ, zero, suc, ◌+◌, ◌<◌, ◌⊎◌, inl, inr, Bool, true, false, List, [], ◌∷◌, Option, None, length, get_or}
+use Rattle.std.proofs.Common.{cond, set, refl, sym, ap, ◌∙◌, arith, subst}
 use Rattle.std.specs.Prelude.{◌==◌, ◌||◌, is_some}
 use Rattle.std.proofs.lemmas.Bool.{cases_Bool, cases_eq, cases_lt, cond-true, cond-false, eq-eqb, ne_eqb, false≢true}
 use Rattle.std.proofs.lemmas.List.{get_or-set_same, get_or-set_other, length-set, get_or_past, ext_get_or}
@@ -9,7 +10,8 @@ use Rattle.context_tree.specs.declared.links.Links.TheInside.{Inside}
 use Rattle.chunk_layout.specs.declared.marks.BlockMarks.{BlockMarks}
 use Rattle.std.specs.List.{refill}
 use Rattle.context_tree.proofs.Slots.{refill-whole}
-use Rattle.context_tree.specs.Lemmas.Forest.{root-not-under, root-not-below, below-self, under-past, under-other, under-closed, below-closed, forest-cleared}
+use Rattle.context_tree.specs.Lemmas.Forest.{root-not-under, root-not-below, below-self, under-past, under-other, under-closed}
+use Rattle.context_tree.specs.Lemmas.Forest.{below-closed, forest-cleared}
 
 cond-same : {X : Type 0} (b : Bool) (x : X) → cond b x x ≡ x
 cond-same true x = refl
@@ -30,14 +32,18 @@ module _ {X : Type 0} (gone : ℕ → Bool) (x : X) where
       get_or-cleared_from (place + 1) ys i ∙ ap (λ (k : ℕ). cond (gone k) x (get_or ys i x)) next
 
   pub get_or-cleared : (ys : List X) (i : ℕ) → get_or (cleared gone x 0 ys) i x ≡ cond (gone i) x (get_or ys i x)
-  get_or-cleared ys i = let same : 0 + i ≡ i = omega arith in get_or-cleared_from 0 ys i ∙ ap (λ (k : ℕ). cond (gone k) x (get_or ys i x)) same
+  get_or-cleared ys i = let same : 0 + i ≡ i = omega arith in get_or-cleared_from 0 ys i
+      ∙ ap (λ (k : ℕ). cond (gone k) x (get_or ys i x)) same
 
   -- a list is the cleared one if it is so place by place
-  pub is-cleared : (ys zs : List X) → length zs ≡ length ys → ((i : ℕ) → get_or zs i x ≡ cond (gone i) x (get_or ys i x)) → zs ≡ cleared gone x 0 ys
-  is-cleared ys zs long at = ext_get_or x zs (cleared gone x 0 ys) (long ∙ sym (length-cleared 0 ys)) (λ i _. at i ∙ sym (get_or-cleared ys i))
+  pub is-cleared : (ys zs : List X) → length zs ≡ length ys → ((i : ℕ) → get_or zs i x ≡ cond (gone i) x (get_or ys i x)) → zs
+      ≡ cleared gone x 0 ys
+  is-cleared ys zs long at = ext_get_or x zs (cleared gone x 0 ys) (long ∙ sym (length-cleared 0 ys)) (λ i _. at i
+      ∙ sym (get_or-cleared ys i))
 
 -- a slot is emptied and marked
-pub free-emptied : (ls : List (Option Link)) (marks after : List Bool) (slot : ℕ) → AreFree ls marks → slot < length ls → length after ≡ length marks
+pub free-emptied : (ls : List (Option Link)) (marks after : List Bool) (slot : ℕ) → AreFree ls marks → slot < length ls → length after
+    ≡ length marks
     → ((k : ℕ) → get_or after k false ≡ cond (k == slot) true (get_or marks k false)) → AreFree (set ls slot None) after
 free-emptied ls marks after slot are low long marked = record {
   free = λ k is. elim (cases_eq k slot) [
@@ -62,7 +68,8 @@ free-emptied ls marks after slot are low long marked = record {
 
 -- the slots of the descendants of a context are marked, and then the marked slots are emptied
 module _ (old : List (Option Link)) (forest : IsForest old) (above : ℕ) where
-  module _ (marks now : List Bool) (are : AreFree old marks) (long : length now ≡ length marks) (marked : (k : ℕ) → get_or now k false ≡ (is_under old above k || get_or marks k false)) (ws : List (Option Link))
+  module _ (marks now : List Bool) (are : AreFree old marks) (long : length now ≡ length marks) (marked : (k : ℕ) → get_or now k false
+      ≡ (is_under old above k || get_or marks k false)) (ws : List (Option Link))
       (same : length ws ≡ length old) (emptied : (k : ℕ) → get_or ws k None ≡ cond (get_or now k false) None (get_or old k None)) where
     or-split : (a b : Bool) → (a || b) ≡ true → (a ≡ true) ⊎ (b ≡ true)
     or-split true b e = inl refl
@@ -73,7 +80,8 @@ module _ (old : List (Option Link)) (forest : IsForest old) (above : ℕ) where
     or-true false b e = e
 
     -- where a slot was marked before, it was empty
-    emptied-by : (k : ℕ) (under was : Bool) → is_under old above k ≡ under → get_or marks k false ≡ was → cond (under || was) None (get_or old k None) ≡ cond under None (get_or old k None)
+    emptied-by : (k : ℕ) (under was : Bool) → is_under old above k ≡ under → get_or marks k false ≡ was
+        → cond (under || was) None (get_or old k None) ≡ cond under None (get_or old k None)
     emptied-by k true was is marked = refl
     emptied-by k false true is marked = sym (are.free k marked).1
     emptied-by k false false is marked = refl
@@ -111,23 +119,28 @@ module _ (old : List (Option Link)) (forest : IsForest old) (above : ℕ) where
     }
 
   -- and that one too
-  pub cut-too : (now : List (Option Link)) → now ≡ cleared (is_under old above) None 0 old → above < length old → set now above None ≡ cleared (is_below old above) None 0 old
+  pub cut-too : (now : List (Option Link)) → now ≡ cleared (is_under old above) None 0 old → above < length old → set now above None
+      ≡ cleared (is_below old above) None 0 old
   cut-too now is low =
       let long : length now ≡ length old = ap length is ∙ length-cleared (is_under old above) None 0 old in
       is-cleared (is_below old above) None old (set now above None) (length-set now above None ∙ long) (λ i. elim (cases_eq i above) [
         | inl same ↦
             ap (λ (j : ℕ). get_or (set now above None) j None) same ∙ get_or-set_same now above None None (omega (arith, long, low))
-            ∙ sym (cond-true (is_below old above i) None (get_or old i None) (ap (λ (a : ℕ). is_below old a i) (sym same) ∙ below-self old forest i))
+            ∙ sym (cond-true (is_below old above i) None (get_or old i None) (ap (λ (a : ℕ). is_below old a i) (sym same)
+            ∙ below-self old forest i))
         | inr ne ↦
-            get_or-set_other now above i None None ne ∙ ap (λ (ls : List (Option Link)). get_or ls i None) is ∙ get_or-cleared (is_under old above) None old i
+            get_or-set_other now above i None None ne ∙ ap (λ (ls : List (Option Link)). get_or ls i None) is
+            ∙ get_or-cleared (is_under old above) None old i
             ∙ ap (λ (b : Bool). cond b None (get_or old i None)) (under-other old forest above i ne)
       ])
 
   pub forest-pruned : IsForest (cleared (is_under old above) None 0 old)
-  forest-pruned = forest-cleared old forest (is_under old above) (root-not-under old forest above) (under-closed old forest above) (cleared (is_under old above) None 0 old) (get_or-cleared (is_under old above) None old)
+  forest-pruned = forest-cleared old forest (is_under old above) (root-not-under old forest above) (under-closed old forest above)
+      (cleared (is_under old above) None 0 old) (get_or-cleared (is_under old above) None old)
 
   pub forest-cut : 0 < above → IsForest (cleared (is_below old above) None 0 old)
-  forest-cut some = forest-cleared old forest (is_below old above) (root-not-below old forest above some) (below-closed old forest above) (cleared (is_below old above) None 0 old) (get_or-cleared (is_below old above) None old)
+  forest-cut some = forest-cleared old forest (is_below old above) (root-not-below old forest above some) (below-closed old forest above)
+      (cleared (is_below old above) None 0 old) (get_or-cleared (is_below old above) None old)
 
 -- a slot in which there is a context is one of the list
 pub low-there : (ls : List (Option Link)) (slot : ℕ) → is_some (get_or ls slot None) ≡ true → slot < length ls
@@ -137,7 +150,8 @@ low-there ls slot there = elim (cases_lt slot (length ls)) [
 ]
 
 -- the fields of `Links` when slots are cleared
-module _ (x : Inside) (are : AreFields x) (gone : ℕ → Bool) (forest : IsForest (cleared gone None 0 x.links.items)) (d ws : List (Option Link)) (same : d ≡ x.links.items)
+module _ (x : Inside) (are : AreFields x) (gone : ℕ → Bool) (forest : IsForest (cleared gone None 0 x.links.items))
+    (d ws : List (Option Link)) (same : d ≡ x.links.items)
     (is : ws ≡ cleared gone None 0 d) where
   abbrev ls : List (Option Link)
   ls = x.links.items
@@ -151,7 +165,8 @@ module _ (x : Inside) (are : AreFields x) (gone : ℕ → Bool) (forest : IsFore
   pub items-cleared : refill (length ls) ls ws ≡ cleared gone None 0 ls
   items-cleared = all-written ∙ ws-is
 
-  pub fields-cleared : (marks : BlockMarks) → AreFree ws marks → AreFields (record { links = record { items = refill (length ls) ls ws; capacity = x.links.capacity }; free = marks })
+  pub fields-cleared : (marks : BlockMarks) → AreFree ws marks
+      → AreFields (record { links = record { items = refill (length ls) ls ws; capacity = x.links.capacity }; free = marks })
   fields-cleared marks free = record {
     forest = subst IsForest (sym items-cleared) forest;
     free = subst (λ (l : List (Option Link)). AreFree l marks) (sym all-written) free;

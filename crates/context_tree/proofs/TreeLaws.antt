@@ -1,9 +1,12 @@
 -- What is true of the fields of a tree stays true.
-use Rattle.std.proofs.Common.{◌≡◌, ℕ, zero, suc, ◌+◌, ◌<◌, ◌≤◌, inl, inr, Bool, true, false, List, [], ◌∷◌, Option, Some, None, length, get_or, cond, set, drop, refl, sym, ap, ◌∙◌, subst, arith}
+use Rattle.std.proofs.Common.{◌≡◌, ℕ, zero, suc, ◌+◌, ◌<◌, ◌≤◌, inl, inr, Bool, true, false, List, [], ◌∷◌, Option, Some, None, length}
+use Rattle.std.proofs.Common.{get_or, cond, set, drop, refl, sym, ap, ◌∙◌, subst, arith}
 use Rattle.std.specs.Prelude.{is_some, unwrap_or, Result, Ok, Err, IsErrAnd, IfErr}
 use Rattle.std.proofs.lemmas.Bool.{cases_Bool, cases_eq, cond-true, cond-false, false≢true}
 use Rattle.chunk_contexts.specs.declared.error.ContextError.{ContextError}
-use Rattle.context_tree.proofs.Words.{no_context, new_context, held_by, stamp_of, is_below, cleared, placed, TreeState, Stamped, Emptied, IsRefusedBy, IsNotMade, has_stamp, is_there, context_at, with_context, without_slots, held_from, held_by_all, IsBounded, Context, Link}
+use Rattle.context_tree.proofs.Words.{no_context, new_context, held_by, stamp_of, is_below, cleared, placed, TreeState, Stamped, Emptied}
+use Rattle.context_tree.proofs.Words.{IsRefusedBy, IsNotMade, has_stamp, is_there, context_at, with_context, without_slots, held_from}
+use Rattle.context_tree.proofs.Words.{held_by_all, IsBounded, Context, Link}
 use Rattle.std.specs.List.{refill}
 use Rattle.std.proofs.lemmas.List.{get_or-set_same, get_or-set_other, get_or_default, get_or_read, length-set, set-get_or}
 use Rattle.context_tree.specs.SlotLaws.{placed-here, placed-other}
@@ -27,11 +30,13 @@ stamp-low ls last slot stamps = by (get_or ls slot None) refl
     by (Some l) e = stamps slot l e
 
 -- a context is made
-module _ (ls : List (Option Link)) (cs : List Context) (last slot : ℕ) (low : slot ≤ length ls) (long : length cs ≡ length ls) (link : Link) (c : Context) where
+module _ (ls : List (Option Link)) (cs : List Context) (last slot : ℕ) (low : slot ≤ length ls) (long : length cs ≡ length ls) (link : Link)
+    (c : Context) where
   pub stamps-made : link.stamp ≡ last + 1 → Stamped ls last → Stamped (placed ls slot (Some link)) (last + 1)
   stamps-made next stamps k l e = elim (cases_eq k slot) [
     | inl same ↦
-        let it : Some link ≡ Some l = sym (ap (λ (j : ℕ). get_or (placed ls slot (Some link)) j None) same ∙ placed-here ls slot (Some link) None low) ∙ e in
+        let it : Some link ≡ Some l = sym (ap (λ (j : ℕ). get_or (placed ls slot (Some link)) j None) same
+        ∙ placed-here ls slot (Some link) None low) ∙ e in
         let stamp : link.stamp ≡ l.stamp = ap (λ (o : Option Link). (unwrap_or o link).stamp) it in
         omega (arith, next, stamp)
     | inr ne ↦ omega (arith, stamps k l (sym (placed-other ls slot k (Some link) None low ne) ∙ e))
@@ -39,12 +44,15 @@ module _ (ls : List (Option Link)) (cs : List Context) (last slot : ℕ) (low : 
 
   pub empty-made : Emptied ls cs → Emptied (placed ls slot (Some link)) (placed cs slot c)
   empty-made empty k e = elim (cases_eq k slot) [
-    | inl same ↦ absurd (false≢true (sym (ap is_some e) ∙ ap is_some (ap (λ (j : ℕ). get_or (placed ls slot (Some link)) j None) same ∙ placed-here ls slot (Some link) None low)))
-    | inr ne ↦ placed-other cs slot k c no_context (omega (arith, low, long)) ne ∙ empty k (sym (placed-other ls slot k (Some link) None low ne) ∙ e)
+    | inl same ↦ absurd (false≢true (sym (ap is_some e) ∙ ap is_some (ap (λ (j : ℕ). get_or (placed ls slot (Some link)) j None) same
+        ∙ placed-here ls slot (Some link) None low)))
+    | inr ne ↦ placed-other cs slot k c no_context (omega (arith, low, long)) ne
+        ∙ empty k (sym (placed-other ls slot k (Some link) None low ne) ∙ e)
   ]
 
   -- it holds nothing
-  pub bounded-made : (made : Kind) → c ≡ new_context made → get_or ls slot None ≡ None → Emptied ls cs → IsBounded cs → IsBounded (placed cs slot c)
+  pub bounded-made : (made : Kind) → c ≡ new_context made → get_or ls slot None ≡ None → Emptied ls cs → IsBounded cs
+      → IsBounded (placed cs slot c)
   bounded-made made new free empty bounded =
       let same = all-placed cs slot c (omega (arith, low, long)) (empty slot free) (ap held_by new ∙ nothing-held made) in
       omega (arith, same, bounded)
@@ -54,13 +62,15 @@ module _ (ls : List (Option Link)) (cs : List Context) (last slot : ℕ) (low : 
 
 -- the sum from one slot on
 pub held-step : (ls : List (Option Link)) (above : ℕ) (cs : List Context) (slot first : ℕ) → slot < length cs
-    → held_from ls above first (drop slot cs) ≡ cond (is_below ls above first) (held_by (get_or cs slot no_context)) 0 + held_from ls above (first + 1) (drop (slot + 1) cs)
+    → held_from ls above first (drop slot cs) ≡ cond (is_below ls above first) (held_by (get_or cs slot no_context)) 0
+    + held_from ls above (first + 1) (drop (slot + 1) cs)
 held-step ls above [] slot first low = absurd (omega (arith, low))
 held-step ls above (c ∷ cs) zero first low = refl
 held-step ls above (c ∷ cs) (suc slot) first low =
     let next : suc (slot + 1) ≡ suc slot + 1 = omega arith in
     held-step ls above cs slot first (omega (arith, low))
-    ∙ ap (λ (n : ℕ). cond (is_below ls above first) (held_by (get_or cs slot no_context)) 0 + held_from ls above (first + 1) (drop n (c ∷ cs))) next
+    ∙ ap (λ (n : ℕ). cond (is_below ls above first) (held_by (get_or cs slot no_context)) 0
+    + held_from ls above (first + 1) (drop n (c ∷ cs))) next
 
 -- an id that is there is of a slot of the list
 pub there-some : (link : Option Link) (stamp : ℕ) → has_stamp link stamp ≡ true → is_some link ≡ true
@@ -104,7 +114,15 @@ module _ (x : Inside) (are : AreFields x) (now : TreeState) (view : tree_of x �
 
   -- one of which a chunk is lent holds as much
   pub fields-lent : (was c : Context) → was ≡ get_or cs id.slot was → held_by c ≡ held_by was
-      → AreFields (record { alloc = x.alloc; links = x.links; contexts = record { items = set cs id.slot c; capacity = x.contexts.capacity }; last = x.last })
+      → AreFields (record {
+        alloc = x.alloc;
+        links = x.links;
+        contexts = record {
+          items = set cs id.slot c;
+          capacity = x.contexts.capacity;
+        };
+        last = x.last;
+      })
   fields-lent was c is holds = record {
     long = length-set cs id.slot c ∙ are.long;
     stamps = are.stamps;
@@ -117,7 +135,8 @@ module _ (x : Inside) (are : AreFields x) (now : TreeState) (view : tree_of x �
   }
 
   -- what is read of it in one list is what is changed in another
-  pub read-changed : (e d : List Context) (other read : Context) → e ≡ cs → d ≡ cs → read ≡ get_or e id.slot read → read ≡ get_or d id.slot other
+  pub read-changed : (e d : List Context) (other read : Context) → e ≡ cs → d ≡ cs → read ≡ get_or e id.slot read → read
+      ≡ get_or d id.slot other
   read-changed e d other read is same at =
       get_or_read e id.slot read (omega (arith, slot-low, ap length is)) at other
       ∙ ap (λ (l : List Context). get_or l id.slot other) (is ∙ sym same)
@@ -137,7 +156,15 @@ module _ (x : Inside) (now : TreeState) (id : ContextId) (d : List Context) (is 
   low = slot-low x is.are now is.view id is.there
 
   pub fields-written : held_by_all all + held_by c < 9223372036854775808 + held_by (get_or all id.slot no_context)
-      → AreFields (record { alloc = x.alloc; links = x.links; contexts = record { items = refill (length all) all (set d id.slot c); capacity = x.contexts.capacity }; last = x.last })
+      → AreFields (record {
+        alloc = x.alloc;
+        links = x.links;
+        contexts = record {
+          items = refill (length all) all (set d id.slot c);
+          capacity = x.contexts.capacity;
+        };
+        last = x.last;
+      })
   fields-written fits =
       let put = whole x is.are now is.view id is.there d is.same c in
       record {
@@ -152,43 +179,57 @@ module _ (x : Inside) (now : TreeState) (id : ContextId) (d : List Context) (is 
     old : get_or d id.slot other ≡ context_at now id
     old = old-is x is.are now is.view id is.there d other is.same
 
-    pub said : (P : Context → Context → Type 0) → P (get_or d id.slot other) c → P (context_at now id) (get_or (refill (length all) all (set d id.slot c)) id.slot no_context)
-    said P so = subst (P (context_at now id)) (sym (new-is x is.are now is.view id is.there d is.same c)) (subst (λ (a : Context). P a c) old so)
+    pub said : (P : Context → Context → Type 0) → P (get_or d id.slot other) c
+        → P (context_at now id) (get_or (refill (length all) all (set d id.slot c)) id.slot no_context)
+    said P so = subst (P (context_at now id)) (sym (new-is x is.are now is.view id is.there d is.same c))
+        (subst (λ (a : Context). P a c) old so)
 
-    pub new-by : (f : Context → Context) → c ≡ f (get_or d id.slot other) → (record { links = x.links; contexts = refill (length all) all (set d id.slot c); last = x.last }) ≡ with_context now id (f (context_at now id))
+    pub new-by : (f : Context → Context) → c ≡ f (get_or d id.slot other)
+        → (record { links = x.links; contexts = refill (length all) all (set d id.slot c); last = x.last })
+        ≡ with_context now id (f (context_at now id))
     new-by f by = new-tree x is.are now is.view id is.there d is.same c ∙ ap (with_context now id) (by ∙ ap f old)
 
-    pub unchanged : c ≡ get_or d id.slot other → (record { links = x.links; contexts = refill (length all) all (set d id.slot c); last = x.last }) ≡ now
-    unchanged stays = new-by (λ a. a) stays ∙ ap (λ (l : List Context). record { links = now.links; contexts = l; last = now.last }) (set-get_or now.contexts id.slot no_context)
+    pub unchanged : c ≡ get_or d id.slot other
+        → (record { links = x.links; contexts = refill (length all) all (set d id.slot c); last = x.last }) ≡ now
+    unchanged stays = new-by (λ a. a) stays ∙ ap (λ (l : List Context). record { links = now.links; contexts = l; last = now.last })
+        (set-get_or now.contexts id.slot no_context)
 
     -- it holds no more than it did and a growth for which there is room
     pub fits-grown : (growth : ℕ) → held_by c ≤ held_by (get_or d id.slot other) + growth → held_by_all all + growth < 9223372036854775808
         → held_by_all all + held_by c < 9223372036854775808 + held_by (get_or all id.slot no_context)
     fits-grown growth less room =
-        let was = ap held_by (ap (λ (l : List Context). get_or l id.slot other) is.same ∙ get_or_default all id.slot other no_context low) in
+        let was = ap held_by (ap (λ (l : List Context). get_or l id.slot other) is.same ∙ get_or_default all id.slot other no_context low)
+        in
         omega (arith, less, room, was)
 
     -- where the growth was looked at first, in the same contexts
-    pub fits-asked : (growth : ℕ) (e : List Context) → e ≡ all → held_by c ≤ held_by (get_or d id.slot other) + growth → held_by_all e + growth < 9223372036854775808
+    pub fits-asked : (growth : ℕ) (e : List Context) → e ≡ all → held_by c ≤ held_by (get_or d id.slot other) + growth → held_by_all e
+        + growth < 9223372036854775808
         → held_by_all all + held_by c < 9223372036854775808 + held_by (get_or all id.slot no_context)
-    fits-asked growth e asked less room = fits-grown growth less (subst (λ (l : List Context). held_by_all l + growth < 9223372036854775808) asked room)
+    fits-asked growth e asked less room = fits-grown growth less (subst (λ (l : List Context). held_by_all l + growth < 9223372036854775808)
+        asked room)
 
 -- why a call is refused
 module _ {X : Type 0} (P : ContextError → Type 0) (there : Bool) where
-  pub refused-gone : (result : Result X TreeError) (e : TreeError) → IsErrAnd result (λ f. f ≡ e) → (there ≡ false) × (e ≡ NoSuchContext) → IfErr result (IsRefusedBy there P)
+  pub refused-gone : (result : Result X TreeError) (e : TreeError) → IsErrAnd result (λ f. f ≡ e) → (there ≡ false) × (e ≡ NoSuchContext)
+      → IfErr result (IsRefusedBy there P)
   refused-gone (Ok x) e is gone = tt
   refused-gone (Err f) e is gone = subst (λ (b : Bool). IsRefusedBy b P f) (sym gone.0) (is ∙ gone.1)
 
-  pub refused-own : (result : Result X TreeError) (own : ContextError) → IsErrAnd result (λ f. f ≡ error.Context own) → there ≡ true → P own → IfErr result (IsRefusedBy there P)
+  pub refused-own : (result : Result X TreeError) (own : ContextError) → IsErrAnd result (λ f. f ≡ error.Context own) → there ≡ true → P own
+      → IfErr result (IsRefusedBy there P)
   refused-own (Ok x) own is here so = tt
   refused-own (Err f) own is here so = subst (λ (b : Bool). IsRefusedBy b P f) (sym here) (own, is, so)
 
 -- why no context is made
-pub not-made : {there spent here none : Bool} {refusal why : Option ContextError} (e : TreeError) → there ≡ here → spent ≡ none → refusal ≡ why → IsNotMade here none why e → IsNotMade there spent refusal e
+pub not-made : {there spent here none : Bool} {refusal why : Option ContextError} (e : TreeError) → there ≡ here → spent ≡ none → refusal
+    ≡ why → IsNotMade here none why e → IsNotMade there spent refusal e
 not-made {there = there} {spent = spent} {here = here} {none = none} {refusal = refusal} {why = why} e is last own so =
-    subst (λ (b : Bool). IsNotMade b spent refusal e) (sym is) (subst (λ (b : Bool). IsNotMade here b refusal e) (sym last) (subst (λ (o : Option ContextError). IsNotMade here none o e) (sym own) so))
+    subst (λ (b : Bool). IsNotMade b spent refusal e) (sym is) (subst (λ (b : Bool). IsNotMade here b refusal e) (sym last)
+    (subst (λ (o : Option ContextError). IsNotMade here none o e) (sym own) so))
 
-pub refused-made : {X : Type 0} {there spent here none : Bool} {refusal why : Option ContextError} (result : Result X TreeError) → IsErrAnd result (IsNotMade here none why) → there ≡ here → spent ≡ none → refusal ≡ why → IfErr result (IsNotMade there spent refusal)
+pub refused-made : {X : Type 0} {there spent here none : Bool} {refusal why : Option ContextError} (result : Result X TreeError)
+    → IsErrAnd result (IsNotMade here none why) → there ≡ here → spent ≡ none → refusal ≡ why → IfErr result (IsNotMade there spent refusal)
 refused-made (Ok x) not is last own = tt
 refused-made (Err e) not is last own = not-made e is last own not
 
@@ -201,7 +242,8 @@ pub record AreGivenUp (x : Inside) (gone : ℕ → Bool) (ls : List (Option Link
   pub told : (k : ℕ) → get_or ds k no_context ≡ cond (is_some (get_or ls k None)) (get_or d k no_context) no_context
 
 -- they were as many as the links that stay
-pub given-long : (x : Inside) → AreFields x → (gone : ℕ → Bool) (ls : List (Option Link)) (d : List Context) → ls ≡ cleared gone None 0 x.links → d ≡ x.contexts.items → length d ≡ length ls
+pub given-long : (x : Inside) → AreFields x → (gone : ℕ → Bool) (ls : List (Option Link)) (d : List Context) → ls
+    ≡ cleared gone None 0 x.links → d ≡ x.contexts.items → length d ≡ length ls
 given-long x are gone ls d links same = ap length same ∙ are.long ∙ sym (ap length links ∙ length-cleared gone None 0 x.links)
 
 module _ (x : Inside) (gone : ℕ → Bool) (ls : List (Option Link)) (d ds : List Context) (up : AreGivenUp x gone ls d ds) where
@@ -212,7 +254,8 @@ module _ (x : Inside) (gone : ℕ → Bool) (ls : List (Option Link)) (d ds : Li
   link-is k = ap (λ (l : List (Option Link)). get_or l k None) up.links ∙ get_or-cleared gone None x.links k
 
   -- where the link is kept, the context is, and where there was none, there is none
-  kept : (k : ℕ) (link : Option Link) → get_or x.links k None ≡ link → cond (is_some link) (get_or x.contexts.items k no_context) no_context ≡ get_or x.contexts.items k no_context
+  kept : (k : ℕ) (link : Option Link) → get_or x.links k None ≡ link → cond (is_some link) (get_or x.contexts.items k no_context) no_context
+      ≡ get_or x.contexts.items k no_context
   kept k None free = sym (up.are.empty k free)
   kept k (Some link) free = refl
 
@@ -221,10 +264,12 @@ module _ (x : Inside) (gone : ℕ → Bool) (ls : List (Option Link)) (d ds : Li
       up.told k ∙ ap (λ (cs : List Context). cond (is_some (get_or ls k None)) (get_or cs k no_context) no_context) up.same
       ∙ elim (cases_Bool (gone k)) [
         | inl goes ↦
-            ap (λ (l : Option Link). cond (is_some l) (get_or x.contexts.items k no_context) no_context) (link-is k ∙ cond-true (gone k) None (get_or x.links k None) goes)
+            ap (λ (l : Option Link). cond (is_some l) (get_or x.contexts.items k no_context) no_context) (link-is k
+            ∙ cond-true (gone k) None (get_or x.links k None) goes)
             ∙ sym (cond-true (gone k) no_context (get_or x.contexts.items k no_context) goes)
         | inr stays ↦
-            ap (λ (l : Option Link). cond (is_some l) (get_or x.contexts.items k no_context) no_context) (link-is k ∙ cond-false (gone k) None (get_or x.links k None) stays)
+            ap (λ (l : Option Link). cond (is_some l) (get_or x.contexts.items k no_context) no_context) (link-is k
+            ∙ cond-false (gone k) None (get_or x.links k None) stays)
             ∙ kept k (get_or x.links k None) refl
             ∙ sym (cond-false (gone k) no_context (get_or x.contexts.items k no_context) stays)
       ]
@@ -253,12 +298,20 @@ module _ (x : Inside) (gone : ℕ → Bool) (ls : List (Option Link)) (d ds : Li
   ]
 
   pub long-given : length (cleared gone no_context 0 x.contexts.items) ≡ length ls
-  long-given = length-cleared gone no_context 0 x.contexts.items ∙ up.are.long ∙ sym (ap length up.links ∙ length-cleared gone None 0 x.links)
+  long-given = length-cleared gone no_context 0 x.contexts.items ∙ up.are.long
+      ∙ sym (ap length up.links ∙ length-cleared gone None 0 x.links)
 
-  pub fields-given : AreFields (record { alloc = x.alloc; links = ls; contexts = record { items = refill n x.contexts.items ds; capacity = x.contexts.capacity }; last = x.last })
+  pub fields-given : AreFields
+      (record {
+        alloc = x.alloc;
+        links = ls;
+        contexts = record { items = refill n x.contexts.items ds; capacity = x.contexts.capacity };
+        last = x.last;
+      })
   fields-given = record {
     long = ap length all-given ∙ long-given;
     stamps = stamps-kept;
     empty = subst (Emptied ls) (sym all-given) empty-kept;
-    bounded = subst IsBounded (sym all-given) (let less = all-cleared gone 0 x.contexts.items in let was = up.are.bounded in omega (arith, less, was));
+    bounded = subst IsBounded (sym all-given) (let less = all-cleared gone 0 x.contexts.items in let was = up.are.bounded in omega
+        (arith, less, was));
   }

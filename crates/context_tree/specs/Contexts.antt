@@ -1,7 +1,7 @@
 -- A context of any kind: what is said of the four kinds, by its kind.
 -- (PostgreSQL 17, src/backend/utils/mmgr/README: contexts of several kinds with the same calls; all else is our own)
 use Rattle.std.specs.Prelude.{◌≡◌, ℕ, ◌*◌, nat_lt, Bool, true, false, List, Option, None, length}
-use Rattle.chunk_layout.specs.Pieces.{Piece, total}
+use Rattle.chunk_layout.specs.Pieces.{ChunkContents, total}
 use Rattle.chunk_layout.specs.declared.place.Place.{Place}
 use Rattle.chunk_layout.specs.declared.place.ChunkName.{ChunkName}
 use Rattle.chunk_layout.specs.declared.blocks.TheConstants.{HEADER}
@@ -9,7 +9,8 @@ use Rattle.chunk_contexts.specs.Chunks.{is_live, bytes_of, IsNewBlock}
 use Rattle.chunk_contexts.specs.Rooms.{rounded, over_most}
 use Rattle.chunk_contexts.specs.Set.{new_set, set_room, set_growth, set_taken, set_wrote, set_put, set_freed, set_reset}
 use Rattle.chunk_contexts.specs.SetRules.{GrowsByRule}
-use Rattle.chunk_contexts.specs.Slab.{new_slab, slab_refusal, slab_growth, slab_grows, slab_taken, slab_wrote, slab_freed, slab_reset, has_spare, per_block, block_count}
+use Rattle.chunk_contexts.specs.Slab.{new_slab, slab_refusal, slab_growth, slab_grows, slab_taken, slab_wrote, slab_freed, slab_reset}
+use Rattle.chunk_contexts.specs.Slab.{has_spare, per_block, block_count}
 use Rattle.chunk_contexts.specs.Run.{new_run, run_growth, run_taken, run_wrote, run_put, run_reset, IsBlockOf}
 use Rattle.chunk_contexts.specs.Generation.{gen_freed}
 use Rattle.chunk_contexts.specs.declared.error.ContextError.{ContextError}
@@ -32,7 +33,7 @@ kind_refusal kind.Generation = None
 kind_refusal kind.Bump = None
 
 -- its live chunks, and the size of each block by its number
-abbrev pub chunks_of : Context → List Piece
+abbrev pub chunks_of : Context → List ChunkContents
 chunks_of (AllocSet s) = s.chunks
 chunks_of (Slab s) = s.chunks
 chunks_of (Generation s) = s.chunks
@@ -79,7 +80,7 @@ may_lie_in (Bump s) n block = IsBlockOf s (run_growth 0 s n) block
 
 -- with a chunk more for a request of n bytes; with other bytes in a chunk, as many as it had or not; without a chunk; and
 -- without any
-abbrev pub with_chunk : Context → ℕ → Piece → Context
+abbrev pub with_chunk : Context → ℕ → ChunkContents → Context
 with_chunk (AllocSet s) n p = AllocSet (set_taken s n p)
 with_chunk (Slab s) n p = Slab (slab_taken s p)
 with_chunk (Generation s) n p = Generation (run_taken HEADER s p)

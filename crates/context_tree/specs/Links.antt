@@ -1,6 +1,7 @@
 -- Which contexts of a tree there are, by their slots, and below which other each was made. (Contexts are made below others
 -- in PostgreSQL: `src/backend/utils/mmgr/README`.)
-use Rattle.std.specs.Prelude.{◌≡◌, ℕ, zero, suc, ◌<◌, ◌+◌, ◌==◌, ◌&&◌, ◌||◌, not, Bool, true, false, cond, List, [], ◌∷◌, Option, Some, None, length, get_or, is_some}
+use Rattle.std.specs.Prelude.{◌≡◌, ℕ, zero, suc, ◌<◌, ◌+◌, ◌==◌, ◌&&◌, ◌||◌, not, Bool, true, false, cond, List, [], ◌∷◌, Option, Some}
+use Rattle.std.specs.Prelude.{None, length, get_or, is_some}
 use Rattle.context_tree.specs.declared.links.Link.{Link}
 
 -- the slot of the context below which a context was made

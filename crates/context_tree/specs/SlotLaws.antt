@@ -1,5 +1,6 @@
 -- Laws: what follows from the lists of contexts by their slots; nothing here is a definition.
-use Rattle.std.specs.Prelude.{◌≡◌, ◌≢◌, refl, ℕ, zero, suc, ◌<◌, ◌≤◌, Bool, true, List, [], ◌∷◌, Option, Some, None, length, get_or, is_some}
+use Rattle.std.specs.Prelude.{◌≡◌, ◌≢◌, refl, ℕ, zero, suc, ◌<◌, ◌≤◌, Bool, true, List, [], ◌∷◌, Option, Some, None, length, get_or}
+use Rattle.std.specs.Prelude.{is_some}
 use Rattle.std.proofs.Common.{sym, ap, subst}
 use Rattle.std.proofs.lemmas.Bool.{false≢true}
 use Rattle.std.proofs.Math.Nat.{not-suc-le-zero, le_of_suc-le-suc}
@@ -28,9 +29,11 @@ tests-agree None f g same = refl
 tests-agree (Some x) f g same = same x refl
 
 -- in a forest a parent has a lower stamp, and is there
-pub parent-is : (ls : List (Option Link)) → IsForest ls → (slot : ℕ) (link : Option Link) → get_or ls slot None ≡ link → (p : ℕ) → parent_of link ≡ Some p
+pub parent-is : (ls : List (Option Link)) → IsForest ls → (slot : ℕ) (link : Option Link) → get_or ls slot None ≡ link → (p : ℕ)
+    → parent_of link ≡ Some p
     → (stamp_of (get_or ls p None) < stamp_of (get_or ls slot None)) × (is_some (get_or ls p None) ≡ true)
 parent-is ls forest slot None is p e = absurd (false≢true (ap is_some e))
 parent-is ls forest slot (Some link) is p e =
-    let made : (stamp_of (get_or ls p None) < link.stamp) × (is_some (get_or ls p None) ≡ true) = subst (IsMadeBelow ls slot link.stamp) e (forest.below slot link is) in
+    let made : (stamp_of (get_or ls p None) < link.stamp) × (is_some (get_or ls p None) ≡ true) = subst (IsMadeBelow ls slot link.stamp) e
+    (forest.below slot link is) in
     (subst (λ n. stamp_of (get_or ls p None) < n) (sym (ap stamp_of is)) made.0, made.1)

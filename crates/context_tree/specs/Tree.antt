@@ -1,5 +1,6 @@
 -- A tree of contexts as its users see it.
-use Rattle.std.specs.Prelude.{◌≡◌, ℕ, ◌+◌, ◌^◌, ◌<◌, ◌≤◌, ◌==◌, Bool, true, false, cond, List, [], ◌∷◌, Option, Some, None, length, get_or, slice_set}
+use Rattle.std.specs.Prelude.{◌≡◌, ℕ, ◌+◌, ◌^◌, ◌<◌, ◌≤◌, ◌==◌, Bool, true, false, cond, List, [], ◌∷◌, Option, Some, None, length, get_or}
+use Rattle.std.specs.Prelude.{slice_set}
 use Rattle.chunk_contexts.specs.declared.error.ContextError.{ContextError}
 use Rattle.chunk_contexts.specs.declared.error.ContextError.TheVariants.{NoMemory}
 use Rattle.context_tree.specs.Contexts.{no_context, new_context, reset_context, held_by}

@@ -19,7 +19,8 @@ pub enum Context {
 impl Context {
     /// Makes a context with no block. Refuses a slab of chunks that are too large.
     pub fn new(alloc: Global, kind: Kind) -> Result<Context, ContextError>
-        ensures { MatchResult result (λ context. (kind_refusal kind ≡ None) × (context ≡ new_context kind)) (λ e. kind_refusal kind ≡ Some e) }
+        ensures { MatchResult result (λ context. (kind_refusal kind ≡ None) × (context ≡ new_context kind)) (λ e. kind_refusal kind
+            ≡ Some e) }
     {
         Ok(match kind {
             Kind::AllocSet => Context::AllocSet(AllocSet::new(alloc)),
@@ -63,7 +64,8 @@ impl MadeWith<Global> for Context {
 }
 
 impl ChunkContext for Context {
-    ghost use Rattle.context_tree.specs.Contexts.{chunks_of, blocks_of, room_in, refusal_of, growth_of, can_free, may_lie_in, with_chunk, with_bytes, with_resized, without_chunk, reset_context};
+    ghost use Rattle.context_tree.specs.Contexts.{chunks_of, blocks_of, room_in, refusal_of, growth_of, can_free, may_lie_in, with_chunk};
+    ghost use Rattle.context_tree.specs.Contexts.{with_bytes, with_resized, without_chunk, reset_context};
 
     ghost chunks = { chunks_of };
 

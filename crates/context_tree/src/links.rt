@@ -1,6 +1,8 @@
 //! Which contexts of a tree there are, and below which other each was made.
-ghost use Rattle.std.specs.Prelude.{◌≡◌, ◌<◌, ◌≤◌, ◌+◌, ◌==◌, ◌||◌, ◌-◌, ◌^◌, ℕ, true, false, Some, None, [], ◌∷◌, IfOk, OnErr, OnOk, IsTrue, length, get_or, is_some, slice_set, cond, ◌++◌};
-ghost use Rattle.context_tree.specs.Links.{parent_of, stamp_of, is_below, is_under, cleared, placed, IsForest, IsFull, IsMadeBelow, AreFree};
+ghost use Rattle.std.specs.Prelude.{◌≡◌, ◌<◌, ◌≤◌, ◌+◌, ◌==◌, ◌||◌, ◌-◌, ◌^◌, ℕ, true, false, Some, None, [], ◌∷◌, IfOk, OnErr, OnOk};
+ghost use Rattle.std.specs.Prelude.{IsTrue, length, get_or, is_some, slice_set, cond, ◌++◌};
+ghost use Rattle.context_tree.specs.Links.{parent_of, stamp_of, is_below, is_under, cleared, placed, IsForest, IsFull, IsMadeBelow};
+ghost use Rattle.context_tree.specs.Links.{AreFree};
 
 use chunk_layout::BlockMarks;
 use smallvec::SmallVec;

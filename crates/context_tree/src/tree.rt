@@ -1,13 +1,18 @@
 //! A tree of contexts.
-ghost use Rattle.std.specs.Prelude.{◌≡◌, ◌+◌, ◌*◌, ◌-◌, ◌<◌, ◌≤◌, ◌==◌, ◌^◌, ℕ, List, true, false, cond, None, IfOk, IfErr, OnOk, OnErr, IsTrue, MatchResult, length, get_or, is_some, slice_set};
+ghost use Rattle.std.specs.Prelude.{◌≡◌, ◌+◌, ◌*◌, ◌-◌, ◌<◌, ◌≤◌, ◌==◌, ◌^◌, ℕ, List, true, false, cond, None, IfOk, IfErr, OnOk, OnErr};
+ghost use Rattle.std.specs.Prelude.{IsTrue, MatchResult, length, get_or, is_some, slice_set};
 ghost use Rattle.smallvec.specs.SmallVec.{HasRoomFor};
 ghost use Rattle.block_memory.specs.Cells.{zeros};
 ghost use Rattle.chunk_layout.specs.Pieces.{place_of, without, piece_at, resized, total, AreLaid};
 ghost use Rattle.chunk_contexts.specs.Chunks.{lengths, chunk_of, Adds, Keeps, KeepsOthers, IsRefused, IsResizeRefused, IsResized};
 ghost use Rattle.chunk_contexts.specs.declared.error.ContextError.TheVariants.{NoMemory, NotSupported};
-ghost use Rattle.context_tree.specs.Contexts.{chunks_of, blocks_of, room_in, refusal_of, growth_of, can_free, may_lie_in, with_chunk, with_bytes, with_resized, without_chunk, kind_refusal, no_context, has_chunk, chunk_bytes, held_by, IsCounted, IsGrownByRule};
+ghost use Rattle.context_tree.specs.Contexts.{chunks_of, blocks_of, room_in, refusal_of, growth_of, can_free, may_lie_in, with_chunk};
+ghost use Rattle.context_tree.specs.Contexts.{with_bytes, with_resized, without_chunk, kind_refusal, no_context, has_chunk, chunk_bytes};
+ghost use Rattle.context_tree.specs.Contexts.{held_by, IsCounted, IsGrownByRule};
 ghost use Rattle.context_tree.specs.Links.{is_under, placed, IsFull};
-ghost use Rattle.context_tree.specs.Tree.{new_tree, is_there, context_at, parent_id, id_in, with_context, with_new, without_slots, deleted, reset, held_below, held_from, held_by_all, IsBounded, IsWhole, IsRefusedBy, IsKept, IsNotMade, TreeState};
+ghost use Rattle.context_tree.specs.Tree.{new_tree, is_there, context_at, parent_id, id_in, with_context, with_new, without_slots, deleted};
+ghost use Rattle.context_tree.specs.Tree.{reset, held_below, held_from, held_by_all, IsBounded, IsWhole, IsRefusedBy, IsKept, IsNotMade};
+ghost use Rattle.context_tree.specs.Tree.{TreeState};
 ghost use Rattle.context_tree.specs.declared.error.TreeError.TheVariants.{NoSuchContext};
 ghost use Rattle.context_tree.specs.declared.error.TreeError.TheVariants as error;
 ghost use Rattle.context_tree.specs.TreeFields.{tree_of, AreFields};
@@ -73,7 +78,8 @@ fn put_context(contexts: &mut SmallVec<Context, 1>, slot: usize, context: Contex
 /// Gives up the contexts of the slots that are free.
 fn give_up_free(contexts: &mut [Context], links: &Links, alloc: Global)
     requires { length contexts.old ≡ length links.now }
-    ensures { (slot : ℕ) → get_or contexts.new slot no_context ≡ cond (is_some (get_or links.now slot None)) (get_or contexts.old slot no_context) no_context }
+    ensures { (slot : ℕ) → get_or contexts.new slot no_context
+        ≡ cond (is_some (get_or links.now slot None)) (get_or contexts.old slot no_context) no_context }
 {
     for slot in 0..links.len() {
         if links.get(slot as u32).is_none() {
@@ -231,7 +237,9 @@ impl Tree {
 
     /// The id of the context below which one was made. The root has none.
     pub fn parent(&self, id: ContextId) -> Result<Option<ContextId>, TreeError>
-        ensures { MatchResult result (λ parent. (is_there self.now id ≡ true) × (parent ≡ parent_id self.now.links (get_or self.now.links id.slot None))) (λ e. (is_there self.now id ≡ false) × (e ≡ NoSuchContext)) }
+        ensures { MatchResult result (λ parent. (is_there self.now id ≡ true)
+            × (parent ≡ parent_id self.now.links (get_or self.now.links id.slot None))) (λ e. (is_there self.now id ≡ false)
+            × (e ≡ NoSuchContext)) }
     {
         self.check(id)?;
         Ok(self.id_in(self.links.parent(id.slot)))
@@ -323,7 +331,8 @@ impl Tree {
 
     /// The bytes of a context's blocks.
     pub fn held(&self, id: ContextId) -> Result<u64, TreeError>
-        ensures { MatchResult result (λ held. (is_there self.now id ≡ true) × (held ≡ held_by (context_at self.now id))) (λ e. (is_there self.now id ≡ false) × (e ≡ NoSuchContext)) }
+        ensures { MatchResult result (λ held. (is_there self.now id ≡ true) × (held ≡ held_by (context_at self.now id)))
+            (λ e. (is_there self.now id ≡ false) × (e ≡ NoSuchContext)) }
     {
         self.check(id)?;
         Ok(self.contexts[id.slot as usize].held())
@@ -332,7 +341,8 @@ impl Tree {
     /// The bytes of the blocks of a context and of all its descendants.
     pub fn held_below(&self, id: ContextId) -> Result<u128, TreeError>
         ensures bound { IfOk result (λ held. held < 2 ^ 63) }
-        ensures value { MatchResult result (λ held. (is_there self.now id ≡ true) × (held ≡ held_below self.now id)) (λ e. (is_there self.now id ≡ false) × (e ≡ NoSuchContext)) }
+        ensures value { MatchResult result (λ held. (is_there self.now id ≡ true) × (held ≡ held_below self.now id))
+            (λ e. (is_there self.now id ≡ false) × (e ≡ NoSuchContext)) }
     {
         self.check(id)?;
         Ok(sum_below(&self.links, &self.contexts, id.slot))
@@ -340,7 +350,8 @@ impl Tree {
 
     /// How many bytes of blocks `alloc` of `n` bytes would take now: 0 where it would be refused for what it asks.
     pub fn growth_for(&self, id: ContextId, n: u32) -> Result<u64, TreeError>
-        ensures { MatchResult result (λ growth. (is_there self.now id ≡ true) × (growth ≡ growth_of (context_at self.now id) n)) (λ e. (is_there self.now id ≡ false) × (e ≡ NoSuchContext)) }
+        ensures { MatchResult result (λ growth. (is_there self.now id ≡ true) × (growth ≡ growth_of (context_at self.now id) n))
+            (λ e. (is_there self.now id ≡ false) × (e ≡ NoSuchContext)) }
     {
         self.check(id)?;
         Ok(self.contexts[id.slot as usize].growth_for(n))
@@ -349,15 +360,21 @@ impl Tree {
     /// Takes a chunk of a context that holds `bytes`, as `ChunkContext::alloc`.
     pub fn alloc(&mut self, id: ContextId, bytes: &[u8]) -> Result<ChunkName, TreeError>
         ensures there { OnOk result ((is_there self.old id ≡ true) × (refusal_of (context_at self.old id) (length bytes.now) ≡ None)) }
-        ensures added { IfOk result (λ name. Adds (chunks_of (context_at self.old id)) (chunks_of (context_at self.new id)) name (room_in (context_at self.old id) (length bytes.now)) bytes.now) }
+        ensures added { IfOk result (λ name. Adds (chunks_of (context_at self.old id)) (chunks_of (context_at self.new id)) name
+            (room_in (context_at self.old id) (length bytes.now)) bytes.now) }
         ensures lives { IfOk result (λ name. IsTrue (has_chunk (context_at self.new id) name)) }
         ensures holds { IfOk result (λ name. chunk_bytes (context_at self.new id) name ≡ bytes.now) }
         ensures block { IfOk result (λ name. IsTrue (is_some (get_or (blocks_of (context_at self.new id)) name.block None))) }
         ensures lies { IfOk result (λ name. may_lie_in (context_at self.old id) (length bytes.now) name.block) }
         ensures keeps { IfOk result (Keeps (chunks_of (context_at self.old id)) (chunks_of (context_at self.new id))) }
-        ensures space { IfOk result (λ name. self.new ≡ with_context self.old id (with_chunk (context_at self.old id) (length bytes.now) (chunk_of name (room_in (context_at self.old id) (length bytes.now)) bytes.now))) }
-        ensures grown { OnOk result (held_by (context_at self.new id) ≡ held_by (context_at self.old id) + growth_of (context_at self.old id) (length bytes.now)) }
-        ensures refused { IfErr result (IsRefusedBy (is_there self.old id) (IsRefused (refusal_of (context_at self.old id) (length bytes.now)) (growth_of (context_at self.old id) (length bytes.now)))) }
+        ensures space { IfOk result (λ name. self.new
+            ≡ with_context self.old id (with_chunk (context_at self.old id) (length bytes.now)
+            (chunk_of name (room_in (context_at self.old id) (length bytes.now)) bytes.now))) }
+        ensures grown { OnOk result (held_by (context_at self.new id) ≡ held_by (context_at self.old id)
+            + growth_of (context_at self.old id) (length bytes.now)) }
+        ensures refused { IfErr result
+            (IsRefusedBy (is_there self.old id) (IsRefused (refusal_of (context_at self.old id) (length bytes.now))
+            (growth_of (context_at self.old id) (length bytes.now)))) }
         ensures unchanged { OnErr result (self.new ≡ self.old) }
     {
         self.check(id)?;
@@ -369,16 +386,21 @@ impl Tree {
     /// Takes a chunk of `n` zeros, as `ChunkContext::alloc_zeroed`.
     pub fn alloc_zeroed(&mut self, id: ContextId, n: u32) -> Result<ChunkName, TreeError>
         ensures there { OnOk result ((is_there self.old id ≡ true) × (refusal_of (context_at self.old id) n ≡ None)) }
-        ensures added { IfOk result (λ name. Adds (chunks_of (context_at self.old id)) (chunks_of (context_at self.new id)) name (room_in (context_at self.old id) n) (zeros n)) }
+        ensures added { IfOk result (λ name. Adds (chunks_of (context_at self.old id)) (chunks_of (context_at self.new id)) name
+            (room_in (context_at self.old id) n) (zeros n)) }
         ensures len { IfOk result (λ name. name.len ≡ n) }
         ensures lives { IfOk result (λ name. IsTrue (has_chunk (context_at self.new id) name)) }
         ensures holds { IfOk result (λ name. chunk_bytes (context_at self.new id) name ≡ zeros n) }
         ensures block { IfOk result (λ name. IsTrue (is_some (get_or (blocks_of (context_at self.new id)) name.block None))) }
         ensures lies { IfOk result (λ name. may_lie_in (context_at self.old id) n name.block) }
         ensures keeps { IfOk result (Keeps (chunks_of (context_at self.old id)) (chunks_of (context_at self.new id))) }
-        ensures space { IfOk result (λ name. self.new ≡ with_context self.old id (with_chunk (context_at self.old id) n (chunk_of name (room_in (context_at self.old id) n) (zeros n)))) }
-        ensures grown { OnOk result (held_by (context_at self.new id) ≡ held_by (context_at self.old id) + growth_of (context_at self.old id) n) }
-        ensures refused { IfErr result (IsRefusedBy (is_there self.old id) (IsRefused (refusal_of (context_at self.old id) n) (growth_of (context_at self.old id) n))) }
+        ensures space { IfOk result (λ name. self.new
+            ≡ with_context self.old id
+            (with_chunk (context_at self.old id) n (chunk_of name (room_in (context_at self.old id) n) (zeros n)))) }
+        ensures grown { OnOk result (held_by (context_at self.new id) ≡ held_by (context_at self.old id)
+            + growth_of (context_at self.old id) n) }
+        ensures refused { IfErr result
+            (IsRefusedBy (is_there self.old id) (IsRefused (refusal_of (context_at self.old id) n) (growth_of (context_at self.old id) n))) }
         ensures unchanged { OnErr result (self.new ≡ self.old) }
     {
         self.check(id)?;
@@ -406,7 +428,8 @@ impl Tree {
         ensures gone { OnOk result (chunks_of (context_at self.new id) ≡ without (chunks_of (context_at self.old id)) (place_of name)) }
         ensures keeps { OnOk result (KeepsOthers (chunks_of (context_at self.old id)) (chunks_of (context_at self.new id)) name name) }
         ensures space { OnOk result (self.new ≡ with_context self.old id (without_chunk (context_at self.old id) (place_of name))) }
-        ensures refused { IfErr result (IsRefusedBy (is_there self.old id) (λ own. (own ≡ NotSupported) × (can_free (context_at self.old id) ≡ false))) }
+        ensures refused { IfErr result (IsRefusedBy (is_there self.old id) (λ own. (own ≡ NotSupported)
+            × (can_free (context_at self.old id) ≡ false))) }
         ensures unchanged { OnErr result (self.new ≡ self.old) }
     {
         self.check(id)?;
@@ -416,14 +439,27 @@ impl Tree {
     /// Makes a live chunk of a context `n` bytes long, as `ChunkContext::resize`.
     pub fn resize(&mut self, id: ContextId, name: ChunkName, n: u32) -> Result<ChunkName, TreeError>
         requires { is_there self.old id ≡ true → IsTrue (has_chunk (context_at self.old id) name) }
-        ensures there { OnOk result ((is_there self.old id ≡ true) × (can_free (context_at self.old id) ≡ true) × (refusal_of (context_at self.old id) n ≡ None)) }
-        ensures resized { IfOk result (λ new. IsResized (chunks_of (context_at self.old id)) (chunks_of (context_at self.new id)) name new n) }
+        ensures there { OnOk result ((is_there self.old id ≡ true) × (can_free (context_at self.old id) ≡ true)
+            × (refusal_of (context_at self.old id) n ≡ None)) }
+        ensures resized { IfOk result (λ new. IsResized (chunks_of (context_at self.old id)) (chunks_of (context_at self.new id)) name new
+            n) }
         ensures keeps { IfOk result (KeepsOthers (chunks_of (context_at self.old id)) (chunks_of (context_at self.new id)) name) }
-        ensures stays { IfOk result (λ new. n ≤ (piece_at (chunks_of (context_at self.old id)) (place_of name)).room → self.new ≡ with_context self.old id (with_resized (context_at self.old id) (place_of name) (resized (chunk_bytes (context_at self.old id) name) n))) }
-        ensures moved { IfOk result (λ new. (piece_at (chunks_of (context_at self.old id)) (place_of name)).room < n → self.new ≡ with_context self.old id (without_chunk (with_chunk (context_at self.old id) n (chunk_of new (room_in (context_at self.old id) n) (resized (chunk_bytes (context_at self.old id) name) n))) (place_of name))) }
-        ensures lies { IfOk result (λ new. (piece_at (chunks_of (context_at self.old id)) (place_of name)).room < n → may_lie_in (context_at self.old id) n new.block) }
-        ensures grown { IfOk result (λ new. (piece_at (chunks_of (context_at self.old id)) (place_of name)).room < n → held_by (with_chunk (context_at self.old id) n (chunk_of new (room_in (context_at self.old id) n) (resized (chunk_bytes (context_at self.old id) name) n))) ≡ held_by (context_at self.old id) + growth_of (context_at self.old id) n) }
-        ensures refused { IfErr result (IsRefusedBy (is_there self.old id) (IsResizeRefused (can_free (context_at self.old id)) (refusal_of (context_at self.old id) n) (growth_of (context_at self.old id) n) (piece_at (chunks_of (context_at self.old id)) (place_of name)).room n)) }
+        ensures stays { IfOk result (λ new. n ≤ (piece_at (chunks_of (context_at self.old id)) (place_of name)).room → self.new
+            ≡ with_context self.old id (with_resized (context_at self.old id) (place_of name)
+            (resized (chunk_bytes (context_at self.old id) name) n))) }
+        ensures moved { IfOk result (λ new. (piece_at (chunks_of (context_at self.old id)) (place_of name)).room < n → self.new
+            ≡ with_context self.old id
+            (without_chunk (with_chunk (context_at self.old id) n (chunk_of new (room_in (context_at self.old id) n)
+            (resized (chunk_bytes (context_at self.old id) name) n))) (place_of name))) }
+        ensures lies { IfOk result (λ new. (piece_at (chunks_of (context_at self.old id)) (place_of name)).room < n
+            → may_lie_in (context_at self.old id) n new.block) }
+        ensures grown { IfOk result (λ new. (piece_at (chunks_of (context_at self.old id)) (place_of name)).room < n
+            → held_by (with_chunk (context_at self.old id) n (chunk_of new (room_in (context_at self.old id) n)
+            (resized (chunk_bytes (context_at self.old id) name) n))) ≡ held_by (context_at self.old id)
+            + growth_of (context_at self.old id) n) }
+        ensures refused { IfErr result
+            (IsRefusedBy (is_there self.old id) (IsResizeRefused (can_free (context_at self.old id)) (refusal_of (context_at self.old id) n)
+            (growth_of (context_at self.old id) n) (piece_at (chunks_of (context_at self.old id)) (place_of name)).room n)) }
         ensures unchanged { OnErr result (self.new ≡ self.old) }
     {
         self.check(id)?;
@@ -459,8 +495,11 @@ impl Tree {
         ensures bytes { result.now ≡ chunk_bytes (context_at self.old id) name }
         ensures len { length result.now ≡ name.len }
         ensures lives { (ws : List ℕ) → IsTrue (has_chunk (with_bytes (context_at self.old id) (place_of name) ws) name) }
-        ensures holds { (ws : List ℕ) → length ws ≡ name.len → chunk_bytes (with_bytes (context_at self.old id) (place_of name) ws) name ≡ ws }
-        ensures keeps { (ws : List ℕ) → KeepsOthers (chunks_of (context_at self.old id)) (chunks_of (with_bytes (context_at self.old id) (place_of name) ws)) name name }
+        ensures holds { (ws : List ℕ) → length ws ≡ name.len → chunk_bytes (with_bytes (context_at self.old id) (place_of name) ws) name
+            ≡ ws }
+        ensures keeps { (ws : List ℕ)
+            → KeepsOthers (chunks_of (context_at self.old id)) (chunks_of (with_bytes (context_at self.old id) (place_of name) ws)) name
+            name }
     {
         let context = self.contexts.get_mut(id.slot as usize).unwrap();
         context.get_mut(name)

@@ -6,7 +6,7 @@ use crate::lines::{count_records, first_line, line_of, open_quote, record_at};
 use crate::quoted::Quoted;
 use batch_reader::BatchError;
 use csv::ByteRecord;
-use grouping_model::limits::{LAST_NUMBER, LAST_ORIGIN, MOST_ROWS};
+use grouping_model::limits::{LAST_NUMBER, LAST_ORIGIN, MAX_ROWS};
 use packed_rows::Schema;
 use script_io::{read_digits, read_row_count};
 use std::alloc::{AllocError, Global};
@@ -31,11 +31,11 @@ struct Head<'h> {
 }
 
 /// The most digits of an origin or a number.
-const MOST_DIGITS: usize = 10;
+const MAX_DIGITS: usize = 10;
 
 /// Whether a field is a number of a range.
 fn is_within(field: &[u8], least: u64, most: u64) -> bool {
-    match read_digits(field, MOST_DIGITS) {
+    match read_digits(field, MAX_DIGITS) {
         Some(number) => least <= number && number <= most,
         None => false,
     }
@@ -194,7 +194,7 @@ impl<'b> BatchText<'b> {
     /// Says that too many rows are told.
     fn say_too_many(&self, alloc: Global, head: Option<&ByteRecord>) -> Result<String, AllocError> {
         let told = self.told(head);
-        format!(in alloc; "rows told: {told}, and a batch has at most {MOST_ROWS}")
+        format!(in alloc; "rows told: {told}, and a batch has at most {MAX_ROWS}")
     }
 
     /// Says how many fields a record has, and which are wanted.

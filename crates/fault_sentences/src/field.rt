@@ -1,6 +1,6 @@
 //! Why a field stands for no value of its column.
 
-use grouping_model::limits::LONGEST_TEXT;
+use grouping_model::limits::MAX_TEXT_LEN;
 use packed_rows::{ValueKind, read_value};
 use std::str;
 use thiserror::Error;
@@ -70,7 +70,7 @@ fn word_fault(field: &[u8], kind: ValueKind, last: FieldFault) -> FieldFault {
 
 /// Why a field is no text.
 fn text_fault(field: &[u8]) -> FieldFault {
-    if field.len() > LONGEST_TEXT {
+    if field.len() > MAX_TEXT_LEN {
         return FieldFault::TooLong { len: field.len() };
     }
     match str::from_utf8(field) {

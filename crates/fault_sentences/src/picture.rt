@@ -4,7 +4,7 @@ use crate::quoted::is_hidden;
 use std::alloc::{AllocError, Global};
 
 /// How many bytes of a text are shown, and how many before the place.
-const MOST_SHOWN: usize = 72;
+const MAX_SHOWN: usize = 72;
 
 const BEFORE: usize = 48;
 
@@ -18,12 +18,12 @@ pub(crate) fn picture(alloc: Global, text: &str, at: usize) -> Result<String, Al
     if text.is_empty() {
         return Ok(String::new(alloc));
     }
-    let front = if text.len() <= MOST_SHOWN {
+    let front = if text.len() <= MAX_SHOWN {
         0
     } else {
         at.saturating_sub(BEFORE)
     };
-    let back = front.saturating_add(MOST_SHOWN);
+    let back = front.saturating_add(MAX_SHOWN);
     let mut shown = String::from_str(alloc, "\n  ")?;
     let mut under = String::from_str(alloc, "\n  ")?;
     if front > 0 {

@@ -9,7 +9,7 @@ use crate::reason::Reason;
 use crate::wanted::Wanted;
 use group_parser::ParseError;
 use grouping_model::limits::{
-    DEEPEST_CONDITION, LONGEST_NAME, LONGEST_QUERY, MOST_CALLS, MOST_ITEMS, MOST_KEYS, MOST_OPEN,
+    DEEPEST_CONDITION, MAX_CALLS, MAX_ITEMS, MAX_KEYS, MAX_NAME_LEN, MAX_OPEN, MAX_QUERY_LEN,
 };
 use having_filter::QueryError;
 use packed_rows::Schema;
@@ -81,7 +81,7 @@ impl<'t> Refused<'t> {
             Some('0'..='9') => "a letter stands directly behind digits",
             Some('a'..='z' | 'A'..='Z' | '_') => {
                 let said = format!(in self.alloc;
-                    "a name of {len} bytes, and the longest has {LONGEST_NAME}"
+                    "a name of {len} bytes, and the longest has {MAX_NAME_LEN}"
                 )?;
                 return Ok(Some(said));
             }
@@ -321,14 +321,14 @@ impl<'t> Refused<'t> {
         let alloc = self.alloc;
         let items = self.reader.items.len();
         let (keys, calls) = (self.count_keys(), self.count_calls());
-        let said = if items > MOST_ITEMS {
-            format!(in alloc; "{items} items, and there may be {MOST_ITEMS}")?
-        } else if keys > MOST_KEYS {
-            format!(in alloc; "{keys} columns of GROUP BY, and there may be {MOST_KEYS}")?
-        } else if calls > MOST_CALLS {
-            format!(in alloc; "{calls} different calls, and there may be {MOST_CALLS}")?
+        let said = if items > MAX_ITEMS {
+            format!(in alloc; "{items} items, and there may be {MAX_ITEMS}")?
+        } else if keys > MAX_KEYS {
+            format!(in alloc; "{keys} columns of GROUP BY, and there may be {MAX_KEYS}")?
+        } else if calls > MAX_CALLS {
+            format!(in alloc; "{calls} different calls, and there may be {MAX_CALLS}")?
         } else {
-            format!(in alloc; "the canonical text is longer than {LONGEST_QUERY} bytes")?
+            format!(in alloc; "the canonical text is longer than {MAX_QUERY_LEN} bytes")?
         };
         Ok(Reason::whole(alloc, said))
     }
@@ -336,7 +336,7 @@ impl<'t> Refused<'t> {
     /// Says which condition is too deep, or has too many parentheses.
     fn say_too_deep(&self) -> Result<Reason, AllocError> {
         if let Some(at) = self.reader.too_open {
-            let said = format!(in self.alloc; "more than {MOST_OPEN} parentheses are open here")?;
+            let said = format!(in self.alloc; "more than {MAX_OPEN} parentheses are open here")?;
             return self.at(at, said);
         }
         let (depth, at) = self.reader.deepest;
@@ -368,7 +368,7 @@ pub fn say_query<'t>(
     text: &'t str,
     why: ParseError,
 ) -> Result<Option<Reason>, AllocError> {
-    if text.len() > LONGEST_QUERY {
+    if text.len() > MAX_QUERY_LEN {
         return Ok(Some(Reason::whole(alloc, say_long(alloc, text)?)));
     }
     let lexed = Lexed::of(alloc, text)?;
@@ -398,7 +398,7 @@ pub fn say_query<'t>(
 /// Says that a text is too long.
 fn say_long(alloc: Global, text: &str) -> Result<String, AllocError> {
     let len = text.len();
-    format!(in alloc; "a text of {len} bytes, and the longest has {LONGEST_QUERY}")
+    format!(in alloc; "a text of {len} bytes, and the longest has {MAX_QUERY_LEN}")
 }
 
 /// The tokens that stand before a place.

@@ -3,7 +3,7 @@
 use std::{fmt, str};
 
 /// How many characters of a value are shown, or bytes where it is no text.
-const MOST_SHOWN: usize = 40;
+const MAX_SHOWN: usize = 40;
 
 /// Bytes in single quotes, cut short, in which what does not show on a line is told by numbers: what a user wrote, in a
 /// sentence of one line.
@@ -43,10 +43,10 @@ fn write_byte<W: fmt::Write>(byte: u8, f: &mut fmt::Formatter<W>) -> fmt::Result
 
 /// Writes the front of a text, and whether more stands behind it.
 fn write_text<W: fmt::Write>(text: &str, f: &mut fmt::Formatter<W>) -> fmt::Result {
-    for c in text.chars().take(MOST_SHOWN) {
+    for c in text.chars().take(MAX_SHOWN) {
         write_shown(c, f)?;
     }
-    if text.chars().nth(MOST_SHOWN).is_some() {
+    if text.chars().nth(MAX_SHOWN).is_some() {
         f.write_str("..")?;
     }
     Ok(())
@@ -54,10 +54,10 @@ fn write_text<W: fmt::Write>(text: &str, f: &mut fmt::Formatter<W>) -> fmt::Resu
 
 /// Writes the front of bytes that are no text, and whether more stand behind it.
 fn write_bytes<W: fmt::Write>(bytes: &[u8], f: &mut fmt::Formatter<W>) -> fmt::Result {
-    for byte in bytes.iter().take(MOST_SHOWN) {
+    for byte in bytes.iter().take(MAX_SHOWN) {
         write_byte(*byte, f)?;
     }
-    if bytes.len() > MOST_SHOWN {
+    if bytes.len() > MAX_SHOWN {
         f.write_str("..")?;
     }
     Ok(())

@@ -4,7 +4,7 @@ use crate::clash::Clash;
 use crate::frame::{Clashing, Context, Frame, Operand};
 use crate::places::{Sign, sign_of};
 use agg_protocol::{AggKind, Argument};
-use grouping_model::limits::MOST_OPEN;
+use grouping_model::limits::MAX_OPEN;
 use having_filter::Comparison;
 use packed_rows::{Schema, ValueKind};
 use query_tokens::{Symbol, Token, is_reserved};
@@ -294,7 +294,7 @@ impl<'t> Reader<'t> {
                 .rev()
                 .take_while(|frame| frame.context == Context::Parenthesis)
                 .count();
-            if open >= MOST_OPEN && self.too_open.is_none() {
+            if open >= MAX_OPEN && self.too_open.is_none() {
                 self.too_open = Some(at);
             }
         }

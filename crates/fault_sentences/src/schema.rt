@@ -3,7 +3,7 @@
 use crate::places::{Lexed, Sign, piece_at, sign_of};
 use crate::quoted::Quoted;
 use crate::reason::Reason;
-use grouping_model::limits::{LONGEST_QUERY, MOST_COLUMNS};
+use grouping_model::limits::{MAX_COLUMNS, MAX_QUERY_LEN};
 use packed_rows::ValueKind;
 use query_tokens::{Symbol, Token, is_reserved};
 use std::alloc::{AllocError, Global};
@@ -75,9 +75,9 @@ impl<'t> Columns<'t> {
     fn name_fault(&self, alloc: Global, name: &str) -> Result<Option<String>, AllocError> {
         let column = self.names.len().saturating_add(1);
         let shown = Quoted(name.as_bytes());
-        if self.names.len() >= MOST_COLUMNS {
+        if self.names.len() >= MAX_COLUMNS {
             return Ok(Some(format!(in alloc;
-                "column {column}, {shown}: there are at most {MOST_COLUMNS}"
+                "column {column}, {shown}: there are at most {MAX_COLUMNS}"
             )?));
         }
         if is_reserved(name) {
@@ -151,9 +151,9 @@ fn found_wanted(alloc: Global, text: &str, at: usize, next: Next) -> Result<Stri
 /// Says why a text is no schema: which column fails, and why.
 pub fn say_schema(alloc: Global, text: &str) -> Result<Reason, AllocError> {
     let len = text.len();
-    if len > LONGEST_QUERY {
+    if len > MAX_QUERY_LEN {
         let said = format!(in alloc;
-            "a text of {len} bytes, and a schema has 1 to {MOST_COLUMNS} columns"
+            "a text of {len} bytes, and a schema has 1 to {MAX_COLUMNS} columns"
         )?;
         return Ok(Reason::whole(alloc, said));
     }

@@ -11,7 +11,7 @@ use crate::schema::say_schema;
 use batch_reader::BatchError;
 use csv::ByteRecord;
 use group_parser::ParseError;
-use grouping_model::limits::LONGEST_NAME;
+use grouping_model::limits::MAX_NAME_LEN;
 use packed_rows::Schema;
 use script_commands::{Request, next_command};
 use script_io::{Records, read_limit, read_row_count};
@@ -97,7 +97,7 @@ fn form_of(word: &[u8]) -> Option<&'static Form> {
 /// Whether a field is the name of a replica.
 fn is_name(field: &[u8]) -> bool {
     !field.is_empty()
-        && field.len() <= LONGEST_NAME
+        && field.len() <= MAX_NAME_LEN
         && field
             .iter()
             .all(|byte| byte.is_ascii_alphanumeric() || *byte == b'_')

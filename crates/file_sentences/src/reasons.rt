@@ -84,12 +84,12 @@ fn batch_reason(
 }
 
 /// How many bytes of a query are shown.
-const MOST_OF_QUERY: usize = 400;
+const MAX_OF_QUERY: usize = 400;
 
 /// The front of a text, whole where it is short.
 fn front_of(text: &str) -> &str {
-    match text.get(..text.floor_char_boundary(MOST_OF_QUERY)) {
-        Some(front) if text.len() > MOST_OF_QUERY => front,
+    match text.get(..text.floor_char_boundary(MAX_OF_QUERY)) {
+        Some(front) if text.len() > MAX_OF_QUERY => front,
         _ => text,
     }
 }

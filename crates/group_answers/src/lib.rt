@@ -3,4 +3,4 @@
 
 mod showing;
 
-pub use showing::show;
+pub use showing::finalize_and_project;

@@ -17,7 +17,7 @@ ghost use Rattle.group_runs.specs.Standing.{StandsFor, AreGroups};
 
 use agg_library::{AggKind, StateRow};
 use agg_protocol::ResultValue;
-use group_runs::{Run, first_states};
+use group_runs::{Run, initial_states};
 use having_filter::{Answer, AnswerRows, Query, Source};
 use packed_rows::{RowError, Value, unpack_into};
 use std::alloc::{AllocError, Global};
@@ -144,7 +144,7 @@ fn rows_of_none(alloc: Global, query: &Query) -> Result<AnswerRows, AllocError>
     if !query.keys().is_empty() {
         return Ok(rows);
     }
-    let states = first_states(alloc, query)?;
+    let states = initial_states(alloc, query)?;
     push_group(query, &[], &states, &mut Scratch::new(alloc), &mut rows)?;
     Ok(rows)
 }
@@ -167,7 +167,7 @@ fn rows_of_run(alloc: Global, query: &Query, run: &Run) -> Result<AnswerRows, Al
 
 /// The answer that the groups of a run give, in the order of the query: a row of its items for each group of which HAVING is true. Without
 /// GROUP BY there is one group, over no rows too. The only error is a failed allocation.
-pub fn show(alloc: Global, query: &Query, run: &Run) -> Result<Answer, AllocError>
+pub fn finalize_and_project(alloc: Global, query: &Query, run: &Run) -> Result<Answer, AllocError>
     requires { (most : ℕ) × (groups : List Group)
         × AreGroups (meaning query.now) most run.now groups × (most ≤ most_rows) }
     ensures { IfOk result (λ answer. (most : ℕ) (groups : List Group) → most ≤ most_rows →

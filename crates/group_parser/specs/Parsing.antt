@@ -8,7 +8,7 @@ use Rattle.query_tokens.specs.declared.fault.TokenError.TheVariants as tokens
 use Rattle.query_tokens.specs.Words.{Placed}
 use Rattle.query_tokens.specs.Tokens.{tokens_in}
 use Rattle.query_tokens.specs.Spelling.{lexemes_of}
-use Rattle.grouping_model.specs.declared.limits.TheConstants.{LONGEST_QUERY}
+use Rattle.grouping_model.specs.declared.limits.TheConstants.{MAX_QUERY_LEN}
 use Rattle.packed_rows.specs.Columns.{Column}
 use Rattle.query_checks.specs.declared.error.QueryError.{QueryError}
 use Rattle.query_checks.specs.declared.error.QueryError.TheVariants as checks
@@ -23,7 +23,7 @@ use Rattle.group_parser.specs.declared.error.ParseError.TheVariants.{Syntax, Num
 
 -- how many bytes a query's text may have
 abbrev pub most_bytes : ℕ
-most_bytes = LONGEST_QUERY
+most_bytes = MAX_QUERY_LEN
 
 -- want of memory, which is no fault of a text
 abbrev pub no_memory : ParseError
@@ -58,7 +58,8 @@ pub data Refuses (columns : List Column) (text : List ℕ) : ParseError → Type
   -- it has no tokens
   no_tokens : (fault : Fault) → length text ≤ most_bytes → tokens_in text ≡ Err fault → Refuses columns text (of_fault fault)
   -- a token can't stand where it does, or the text ends where a query can't end
-  unexpected : (ts : List Placed) (left : ℕ) → length text ≤ most_bytes → tokens_in text ≡ Ok ts → IsUnexpected most_open (lexemes_of ts) left
+  unexpected : (ts : List Placed) (left : ℕ) → length text ≤ most_bytes → tokens_in text ≡ Ok ts
+      → IsUnexpected most_open (lexemes_of ts) left
       → Refuses columns text (Syntax (place_of_left (length text) ts left))
   -- a parenthesis is one too many
   too_deep : (ts : List Placed) (left : ℕ) → length text ≤ most_bytes → tokens_in text ≡ Ok ts → IsTooDeep most_open (lexemes_of ts) left

@@ -4,14 +4,15 @@ ghost use Rattle.std.specs.Prelude.{◌≡◌, ◌<◌, ◌≤◌, option_map, I
 ghost use Rattle.agg_protocol.specs.Kinds.{function_of};
 ghost use Rattle.query_grammar.specs.Terminals.{function_named};
 ghost use Rattle.query_grammar.specs.Queries.{most_open};
-ghost use Rattle.query_grammar.specs.Reading.{is_count, argument_at, filter_at, call_at, function_or_column, word_at, enclosed_at, prim_at, conditions};
+ghost use Rattle.query_grammar.specs.Reading.{is_count, argument_at, filter_at, call_at, function_or_column, word_at, enclosed_at, prim_at};
+ghost use Rattle.query_grammar.specs.Reading.{conditions};
 ghost use Rattle.group_parser.specs.Views.{lexemes, condition_read, call_read, item_read, alias_read, Gives};
 
 use crate::conditions::condition;
 use crate::cursor::{after_symbol, after_word, expect_symbol, expect_word, name};
 use crate::fault::{Read, ReadError};
 use agg_protocol::AggKind;
-use grouping_model::limits::MOST_OPEN;
+use grouping_model::limits::MAX_OPEN;
 use having_filter::{AggCall, Cond, Item};
 use query_tokens::{Symbol, Token, Word, is_reserved};
 use std::alloc::{AllocError, Global};
@@ -79,7 +80,7 @@ fn filtered<'a>(
     };
     let behind = expect_symbol(behind, Symbol::Open)?;
     let behind = expect_word(behind, "where")?;
-    let (filter, behind) = condition(alloc, MOST_OPEN, behind)?;
+    let (filter, behind) = condition(alloc, MAX_OPEN, behind)?;
     let rest = expect_symbol(behind, Symbol::Close)?;
     let call = AggCall {
         kind,

@@ -15,7 +15,7 @@ ghost use Rattle.group_parser.specs.Parsing.{no_memory, Accepts, Refuses, place_
 use crate::error::ParseError;
 use crate::fault::ReadError;
 use crate::query::query;
-use grouping_model::limits::LONGEST_QUERY;
+use grouping_model::limits::MAX_QUERY_LEN;
 use having_filter::{Query, QueryError, RawQuery};
 use packed_rows::Schema;
 use query_tokens::{Token, tokens};
@@ -54,7 +54,7 @@ fn read_text(alloc: Global, text: &str) -> Result<RawQuery, ParseError>
     ensures read { IfOk result (λ raw. asked_in text.now ≡ Ok (asked_of raw)) }
     ensures refused { IfErr result (λ e. e ≢ no_memory → asked_in text.now ≡ Err e) }
 {
-    if text.len() > LONGEST_QUERY {
+    if text.len() > MAX_QUERY_LEN {
         return Err(ParseError::Query(QueryError::TooMany));
     }
     match tokens(alloc, text) {

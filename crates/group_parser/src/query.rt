@@ -14,7 +14,7 @@ use crate::fault::{Read, ReadError};
 use crate::lists::{Listed, list};
 use crate::operands::column_or_call;
 use crate::order::order;
-use grouping_model::limits::MOST_OPEN;
+use grouping_model::limits::MAX_OPEN;
 use having_filter::{Cond, Item, RawQuery};
 use query_tokens::{Symbol, Token, Word, is_reserved};
 use std::alloc::Global;
@@ -142,7 +142,7 @@ fn clause<'a>(alloc: Global, word: &str, tokens: &'a [Token]) -> Read<'a, Option
 {
     match after_word(tokens, word) {
         Some(behind) => {
-            let (found, rest) = condition(alloc, MOST_OPEN, behind)?;
+            let (found, rest) = condition(alloc, MAX_OPEN, behind)?;
             Ok((Some(found), rest))
         }
         None => Ok((None, tokens)),

@@ -1,4 +1,4 @@
--- Which chunks groups come into.
+-- Which segments groups come into.
 use Rattle.std.specs.Prelude.{◌≡◌, refl, ℕ, ◌+◌, ◌-◌, ◌<◌, ◌≤◌, List, ◌∷◌, length, take, drop, Some, slice_get, slice_range}
 use Rattle.std.proofs.Common.{sym, ◌∙◌, ap, subst, arith}
 use Rattle.std.proofs.lemmas.List.{take-append-drop, length-append, take_all, drop_all}
@@ -7,11 +7,13 @@ use Rattle.std.specs.declared.cmp.Ordering.TheVariants.{Less, Equal, Greater}
 use Rattle.std.specs.Ordering.{nat_cmp, ordering_reverse}
 use Rattle.std.specs.Cmp.Lexicographic.{slice_cmp}
 use Rattle.std.specs.List.{AllByRecursion}
-use Rattle.group_runs.proofs.Words.{each_append, each_front, each_weaker, Entry, Rises, IsBelow, IsNotBelow, IsPlaceOf, on_end, IsAmong, AreBefore, ComeInto}
+use Rattle.group_runs.proofs.Words.{each_append, each_front, each_weaker, Entry, Rises, IsBelow, IsNotBelow, IsPlaceOf, concatenated}
+use Rattle.group_runs.proofs.Words.{IsAmong, AreBefore, ComeInto}
 use Rattle.group_runs.specs.Places.{AllBelow}
 use Rattle.group_runs.specs.PlaceLaws.{key_total, drop_at, all_at}
 use Rattle.group_runs.proofs.JoinLaws.{rises_before}
-use Rattle.group_runs.proofs.ChunkLaws.{got, got_low, get_taken, get_dropped, next_start, front_on_end, back_on_end, front_few, on_end-append}
+use Rattle.group_runs.proofs.SegmentLaws.{got, got_low, get_taken, get_dropped, next_start, front_concatenated, back_concatenated}
+use Rattle.group_runs.proofs.SegmentLaws.{front_few, concatenated-append}
 use Rattle.group_runs.proofs.PartLaws.{taken_parts}
 
 -- ---- keys in order
@@ -22,7 +24,8 @@ above_below key x y low high = cases (slice_cmp nat_cmp y.0 key) refl
   where
     cases : (r : Ordering) → slice_cmp nat_cmp y.0 key ≡ r → IsBelow y.0 x
     cases Less is = absurd (high is)
-    cases Equal is = key_total.antisymm x.0 y.0 ∙ ap ordering_reverse (key_total.congr y.0 key x.0 is) ∙ sym (key_total.antisymm x.0 key) ∙ low
+    cases Equal is = key_total.antisymm x.0 y.0 ∙ ap ordering_reverse (key_total.congr y.0 key x.0 is) ∙ sym (key_total.antisymm x.0 key)
+        ∙ low
     cases Greater is = key_total.trans x.0 key y.0 low (key_total.antisymm key y.0 ∙ ap ordering_reverse is)
 
 -- a key is below what comes behind a group that is not below it
@@ -36,15 +39,23 @@ below_next key x y high low = cases (slice_cmp nat_cmp x.0 key) refl
 
 -- what is below a key is before what is not below it
 pub before_past : (key : List ℕ) (xs ys : List Entry) → AllBelow key xs → AllByRecursion (IsNotBelow key) ys → AreBefore xs ys
-before_past key xs ys below past = each_weaker (IsNotBelow key) (λ (y : Entry). AllBelow y.0 xs) (λ y high. each_weaker (IsBelow key) (IsBelow y.0) (λ x low. above_below key x y low high) xs below) ys past
+before_past key xs ys below past = each_weaker (IsNotBelow key) (λ (y : Entry). AllBelow y.0 xs)
+    (λ y high. each_weaker (IsBelow key) (IsBelow y.0) (λ x low. above_below key x y low high) xs below) ys past
 
 -- what is below the key of a group is before all from there on
-pub before_from : (xs run : List Entry) (i : ℕ) (e : Entry) → Rises run → slice_get run i ≡ Some e → AllBelow e.0 xs → AreBefore xs (drop i run)
+pub before_from : (xs run : List Entry) (i : ℕ) (e : Entry) → Rises run → slice_get run i ≡ Some e → AllBelow e.0 xs
+    → AreBefore xs (drop i run)
 before_from xs run i e rises at below =
     let left : drop i run ≡ e ∷ drop (i + 1) run = drop_at run i e at in
-    let behind : AreBefore (take (i + 1) run) (drop (i + 1) run) = rises_before (take (i + 1) run) (drop (i + 1) run) (subst Rises (sym (take-append-drop (i + 1) run)) rises) in
-    subst (AreBefore xs) (sym left)
-    (below, each_weaker (λ (y : Entry). AllBelow y.0 (take (i + 1) run)) (λ (y : Entry). AllBelow y.0 xs) (λ y all. each_weaker (IsBelow e.0) (IsBelow y.0) (λ x low. key_total.trans x.0 e.0 y.0 low (all_at (IsBelow y.0) (take (i + 1) run) i e all (taken_at run i e at))) xs below) (drop (i + 1) run) behind)
+    let behind : AreBefore (take (i + 1) run) (drop (i + 1) run) = rises_before (take (i + 1) run) (drop (i + 1) run)
+    (subst Rises (sym (take-append-drop (i + 1) run)) rises) in
+    subst (AreBefore xs) (sym left) (
+      below,
+      each_weaker (λ (y : Entry). AllBelow y.0 (take (i + 1) run)) (λ (y : Entry). AllBelow y.0 xs)
+          (λ y all. each_weaker (IsBelow e.0) (IsBelow y.0)
+          (λ x low. key_total.trans x.0 e.0 y.0 low (all_at (IsBelow y.0) (take (i + 1) run) i e all (taken_at run i e at))) xs below)
+          (drop (i + 1) run) behind,
+    )
   where
     taken_at : (run : List Entry) (i : ℕ) (e : Entry) → slice_get run i ≡ Some e → slice_get (take (i + 1) run) i ≡ Some e
     taken_at run i e at = get_taken run (i + 1) i (omega arith) ∙ at
@@ -52,107 +63,137 @@ before_from xs run i e rises at below =
 -- those before a group are below its key
 pub below_here : (run : List Entry) (i : ℕ) (e : Entry) → Rises run → slice_get run i ≡ Some e → AllBelow e.0 (take i run)
 below_here run i e rises at =
-    let all : AreBefore (take i run) (drop i run) = rises_before (take i run) (drop i run) (subst Rises (sym (take-append-drop i run)) rises) in
+    let all : AreBefore (take i run) (drop i run) = rises_before (take i run) (drop i run)
+    (subst Rises (sym (take-append-drop i run)) rises) in
     (subst (AreBefore (take i run)) (drop_at run i e at) all).0
 
 -- one group of a run is below a later one
-rising_pair : (run : List Entry) (i j : ℕ) (x y : Entry) → Rises run → i < j → slice_get run i ≡ Some x → slice_get run j ≡ Some y → slice_cmp nat_cmp x.0 y.0 ≡ Less
-rising_pair run i j x y rises low at there = all_at (IsBelow y.0) (take j run) i x (below_here run j y rises there) (get_taken run j i low ∙ at)
+rising_pair : (run : List Entry) (i j : ℕ) (x y : Entry) → Rises run → i < j → slice_get run i ≡ Some x → slice_get run j ≡ Some y
+    → slice_cmp nat_cmp x.0 y.0 ≡ Less
+rising_pair run i j x y rises low at there = all_at (IsBelow y.0) (take j run) i x (below_here run j y rises there) (get_taken run j i low
+    ∙ at)
 
--- ---- where chunks begin
+-- ---- where segments begin
 
-pub starts_rise : (chunks : List (List Entry)) (i j : ℕ) → i ≤ j → length (on_end (take i chunks)) ≤ length (on_end (take j chunks))
-starts_rise chunks i j low =
-    let both = ap length (ap on_end (taken_parts chunks i j low) ∙ on_end-append (take i chunks) (slice_range chunks i j)) ∙ length-append (on_end (take i chunks)) (on_end (slice_range chunks i j)) in
+pub starts_rise : (segments : List (List Entry)) (i j : ℕ) → i ≤ j
+    → length (concatenated (take i segments)) ≤ length (concatenated (take j segments))
+starts_rise segments i j low =
+    let both = ap length (ap concatenated (taken_parts segments i j low) ∙ concatenated-append (take i segments) (slice_range segments i j))
+    ∙ length-append (concatenated (take i segments)) (concatenated (slice_range segments i j)) in
     omega (arith, both)
 
--- the chunk of a key: no group before it is above the key, and none behind it is up to the key
-pub record IsFor (chunks : List (List Entry)) (first : ℕ) (key : List ℕ) (at : ℕ) : Type 0 where
-  pub chunk : List Entry
-  pub is : slice_get chunks at ≡ Some chunk
+-- the segment of a key: no group before it is above the key, and none behind it is up to the key
+pub record IsFor (segments : List (List Entry)) (first : ℕ) (key : List ℕ) (at : ℕ) : Type 0 where
+  pub segment : List Entry
+  pub is : slice_get segments at ≡ Some segment
   pub order : first ≤ at
-  pub low : AllBelow key (on_end (take at chunks))
-  pub high : (e : Entry) → slice_get (on_end chunks) (length (on_end (take (at + 1) chunks))) ≡ Some e → slice_cmp nat_cmp key e.0 ≡ Less
+  pub low : AllBelow key (concatenated (take at segments))
+  pub high : (e : Entry) → slice_get (concatenated segments) (length (concatenated (take (at + 1) segments))) ≡ Some e
+      → slice_cmp nat_cmp key e.0 ≡ Less
 
 -- all groups up to the place of a key are below it
-below_place : (chunks : List (List Entry)) (first start : ℕ) (key : List ℕ) (place : ℕ) → start ≡ length (on_end (take first chunks)) → AllBelow key (on_end (take first chunks)) → IsPlaceOf (on_end chunks) start key place → AllBelow key (take place (on_end chunks))
-below_place chunks first start key place started before is =
-    subst (AllBelow key) (sym (taken_parts (on_end chunks) start place is.behind))
-    (each_append (IsBelow key) (take start (on_end chunks)) (slice_range (on_end chunks) start place)
-    (subst (AllBelow key) (sym (ap (λ n. take n (on_end chunks)) started ∙ front_on_end chunks first)) before) is.below)
+below_place : (segments : List (List Entry)) (first start : ℕ) (key : List ℕ) (place : ℕ) → start
+    ≡ length (concatenated (take first segments)) → AllBelow key (concatenated (take first segments))
+    → IsPlaceOf (concatenated segments) start key place → AllBelow key (take place (concatenated segments))
+below_place segments first start key place started before is =
+    subst (AllBelow key) (sym (taken_parts (concatenated segments) start place is.behind))
+    (each_append (IsBelow key) (take start (concatenated segments)) (slice_range (concatenated segments) start place)
+    (subst (AllBelow key) (sym (ap (λ n. take n (concatenated segments)) started ∙ front_concatenated segments first)) before) is.below)
 
-front_below : (chunks : List (List Entry)) (at place : ℕ) (key : List ℕ) → length (on_end (take at chunks)) ≤ place → AllBelow key (take place (on_end chunks)) → AllBelow key (on_end (take at chunks))
-front_below chunks at place key low below =
-    let n : ℕ = length (on_end (take at chunks)) in
-    subst (AllBelow key) (front_on_end chunks at)
-    (each_front (IsBelow key) (take n (on_end chunks)) (slice_range (on_end chunks) n place) (subst (AllBelow key) (taken_parts (on_end chunks) n place low) below))
+front_below : (segments : List (List Entry)) (at place : ℕ) (key : List ℕ) → length (concatenated (take at segments)) ≤ place
+    → AllBelow key (take place (concatenated segments)) → AllBelow key (concatenated (take at segments))
+front_below segments at place key low below =
+    let n : ℕ = length (concatenated (take at segments)) in
+    subst (AllBelow key) (front_concatenated segments at)
+    (each_front (IsBelow key) (take n (concatenated segments)) (slice_range (concatenated segments) n place)
+    (subst (AllBelow key) (taken_parts (concatenated segments) n place low) below))
 
--- the chunk of the place of a key
-pub for_place : (chunks : List (List Entry)) (first start : ℕ) (key : List ℕ) (place at : ℕ) → Rises (on_end chunks) → start ≡ length (on_end (take first chunks)) → AllBelow key (on_end (take first chunks)) → IsPlaceOf (on_end chunks) start key place → place < length (on_end chunks) → IsAmong chunks place at → IsFor chunks first key at
-for_place chunks first start key place at rises started before is within among =
+-- the segment of the place of a key
+pub for_place : (segments : List (List Entry)) (first start : ℕ) (key : List ℕ) (place at : ℕ) → Rises (concatenated segments) → start
+    ≡ length (concatenated (take first segments)) → AllBelow key (concatenated (take first segments))
+    → IsPlaceOf (concatenated segments) start key place → place < length (concatenated segments) → IsAmong segments place at
+    → IsFor segments first key at
+for_place segments first start key place at rises started before is within among =
     let behind = is.behind in
     let here = among.behind in
     let past = among.within in
-    let next = next_start chunks at among.chunk among.is in
-    let no : at + 1 ≤ first → ⊥ = λ low. let more = starts_rise chunks (at + 1) first low in omega (arith, more, next, past, behind, started) in
-    let found = got (on_end chunks) place within in
+    let next = next_start segments at among.segment among.is in
+    let no : at + 1 ≤ first → ⊥ = λ low. let more = starts_rise segments (at + 1) first low in omega
+    (arith, more, next, past, behind, started) in
+    let found = got (concatenated segments) place within in
     record {
-      chunk = among.chunk;
+      segment = among.segment;
       is = among.is;
       order = omega (arith, no);
-      low = front_below chunks at place key here (below_place chunks first start key place started before is);
-      high = λ e at_end. below_next key found.0 e (subst (AllByRecursion (IsNotBelow key)) (drop_at (on_end chunks) place found.0 found.1) is.not_below).0 (rising_pair (on_end chunks) place (length (on_end (take (at + 1) chunks))) found.0 e rises (omega (arith, next, past)) found.1 at_end);
+      low = front_below segments at place key here (below_place segments first start key place started before is);
+      high = λ e at_end. below_next key found.0 e
+          (subst (AllByRecursion (IsNotBelow key)) (drop_at (concatenated segments) place found.0 found.1) is.not_below).0
+          (rising_pair (concatenated segments) place (length (concatenated (take (at + 1) segments))) found.0 e rises
+          (omega (arith, next, past)) found.1 at_end);
     }
 
--- where all groups are below a key, that is the last chunk
-pub for_last : (chunks : List (List Entry)) (first start : ℕ) (key : List ℕ) (place at : ℕ) → start ≡ length (on_end (take first chunks)) → AllBelow key (on_end (take first chunks)) → IsPlaceOf (on_end chunks) start key place → length (on_end chunks) ≤ place → first < length chunks → at + 1 ≡ length chunks → IsFor chunks first key at
-for_last chunks first start key place at started before is past there last =
-    let found = got chunks at (omega (arith, last)) in
-    let few = front_few chunks at in
+-- where all groups are below a key, that is the last segment
+pub for_last : (segments : List (List Entry)) (first start : ℕ) (key : List ℕ) (place at : ℕ) → start
+    ≡ length (concatenated (take first segments)) → AllBelow key (concatenated (take first segments))
+    → IsPlaceOf (concatenated segments) start key place → length (concatenated segments) ≤ place → first < length segments → at + 1
+    ≡ length segments → IsFor segments first key at
+for_last segments first start key place at started before is past there last =
+    let found = got segments at (omega (arith, last)) in
+    let few = front_few segments at in
     record {
-      chunk = found.0;
+      segment = found.0;
       is = found.1;
       order = omega (arith, there, last);
-      low = front_below chunks at place key (omega (arith, few, past)) (below_place chunks first start key place started before is);
+      low = front_below segments at place key (omega (arith, few, past)) (below_place segments first start key place started before is);
       high =
           λ e at_end.
-          let low = got_low (on_end chunks) (length (on_end (take (at + 1) chunks))) e at_end in
-          let all = ap (λ cs. length (on_end cs)) (take_all (at + 1) chunks (omega (arith, last))) in
+          let low = got_low (concatenated segments) (length (concatenated (take (at + 1) segments))) e at_end in
+          let all = ap (λ cs. length (concatenated cs)) (take_all (at + 1) segments (omega (arith, last))) in
           absurd (omega (arith, low, all));
     }
 
-module _ (chunks : List (List Entry)) (first at : ℕ) (more : List Entry) (from : ℕ) (e : Entry) (rises : Rises (on_end chunks)) (up : Rises more) (here : slice_get more from ≡ Some e) (for : IsFor chunks first e.0 at) where
-  -- what comes in is what is below the key behind the chunk
-  pub comes_up_to : (end : ℕ) (next : Entry) (to : ℕ) → end ≡ length (on_end (take (at + 1) chunks)) → slice_get (on_end chunks) end ≡ Some next → IsPlaceOf more 0 next.0 to → ComeInto chunks first more from at to
+module _ (segments : List (List Entry)) (first at : ℕ) (more : List Entry) (from : ℕ) (e : Entry) (rises : Rises (concatenated segments))
+    (up : Rises more) (here : slice_get more from ≡ Some e) (for : IsFor segments first e.0 at) where
+  -- what comes in is what is below the key behind the segment
+  pub comes_up_to : (end : ℕ) (next : Entry) (to : ℕ) → end ≡ length (concatenated (take (at + 1) segments))
+      → slice_get (concatenated segments) end ≡ Some next → IsPlaceOf more 0 next.0 to → ComeInto segments first more from at to
   comes_up_to end next to ended at_end is =
-      let below : AllBelow next.0 (take to more) = let same : to - 0 ≡ to = omega arith in subst (λ n. AllBelow next.0 (take n more)) same is.below in
+      let below : AllBelow next.0 (take to more) = let same : to - 0 ≡ to = omega arith in subst (λ n. AllBelow next.0 (take n more)) same
+      is.below in
       let no : to ≤ from → ⊥ =
-      λ low. all_at (IsNotBelow next.0) (drop to more) (from - to) e is.not_below (get_dropped more to (from - to) from (omega (arith, low)) ∙ here) (for.high next (ap (slice_get (on_end chunks)) (sym ended) ∙ at_end)) in
-      let low = got_low (on_end chunks) end next at_end in
-      let last : length chunks ≤ at + 1 → ⊥ = λ past. let all = ap (λ cs. length (on_end cs)) (take_all (at + 1) chunks past) in omega (arith, low, ended, all) in
+      λ low. all_at (IsNotBelow next.0) (drop to more) (from - to) e is.not_below (get_dropped more to (from - to) from (omega (arith, low))
+      ∙ here) (for.high next (ap (slice_get (concatenated segments)) (sym ended) ∙ at_end)) in
+      let low = got_low (concatenated segments) end next at_end in
+      let last : length segments ≤ at + 1 → ⊥ = λ past. let all = ap (λ cs. length (concatenated cs)) (take_all (at + 1) segments past) in
+      omega (arith, low, ended, all) in
       record {
-        chunk = for.chunk;
+        segment = for.segment;
         is = for.is;
         order = for.order;
         some = omega (arith, no);
         within = is.within;
-        before = before_from (on_end (take at chunks)) more from e up here for.low;
-        behind = subst (AreBefore (take to more)) (ap (λ n. drop n (on_end chunks)) ended ∙ back_on_end chunks (at + 1)) (before_from (take to more) (on_end chunks) end next rises at_end below);
-        beyond = before_past next.0 (on_end (take (at + 1) chunks)) (drop to more) (subst (AllBelow next.0) (ap (λ n. take n (on_end chunks)) ended ∙ front_on_end chunks (at + 1)) (below_here (on_end chunks) end next rises at_end)) is.not_below;
+        before = before_from (concatenated (take at segments)) more from e up here for.low;
+        behind = subst (AreBefore (take to more)) (ap (λ n. drop n (concatenated segments)) ended ∙ back_concatenated segments (at + 1))
+            (before_from (take to more) (concatenated segments) end next rises at_end below);
+        beyond = before_past next.0 (concatenated (take (at + 1) segments)) (drop to more)
+            (subst (AllBelow next.0) (ap (λ n. take n (concatenated segments)) ended ∙ front_concatenated segments (at + 1))
+            (below_here (concatenated segments) end next rises at_end)) is.not_below;
         left = λ _. omega (arith, last);
       }
 
-  -- all comes into the last chunk that has groups
-  pub comes_all : (end : ℕ) → end ≡ length (on_end (take (at + 1) chunks)) → length (on_end chunks) ≤ end → ComeInto chunks first more from at (length more)
+  -- all comes into the last segment that has groups
+  pub comes_all : (end : ℕ) → end ≡ length (concatenated (take (at + 1) segments)) → length (concatenated segments) ≤ end
+      → ComeInto segments first more from at (length more)
   comes_all end ended past =
       record {
-        chunk = for.chunk;
+        segment = for.segment;
         is = for.is;
         order = for.order;
         some = got_low more from e here;
         within = omega arith;
-        before = before_from (on_end (take at chunks)) more from e up here for.low;
-        behind = subst (AreBefore (take (length more) more)) (sym (drop_all end (on_end chunks) past) ∙ ap (λ n. drop n (on_end chunks)) ended ∙ back_on_end chunks (at + 1)) tt;
-        beyond = subst (AreBefore (on_end (take (at + 1) chunks))) (sym (drop_all (length more) more (omega arith))) tt;
+        before = before_from (concatenated (take at segments)) more from e up here for.low;
+        behind = subst (AreBefore (take (length more) more)) (sym (drop_all end (concatenated segments) past)
+            ∙ ap (λ n. drop n (concatenated segments)) ended ∙ back_concatenated segments (at + 1)) tt;
+        beyond = subst (AreBefore (concatenated (take (at + 1) segments))) (sym (drop_all (length more) more (omega arith))) tt;
         left = λ low. absurd (omega (arith, low));
       }

@@ -6,7 +6,7 @@ pub mod FlatLaws
 pub mod PlaceLaws
 pub mod SpliceLaws
 pub mod JoinLaws
-pub mod ChunkLaws
+pub mod SegmentLaws
 pub mod PartLaws
 pub mod ComeLaws
 pub mod SeekLaws

@@ -11,10 +11,12 @@ pub use Rattle.grouping_model.specs.Query.{Aggregate, Query}
 pub use Rattle.having_filter.specs.Kept.{TakesRows, key_kinds}
 pub use Rattle.having_filter.specs.Meaning.{meaning}
 pub use Rattle.list_laws.specs.Each.{each_append, each_behind, each_front, each_weaker}
-pub use Rattle.packed_rows.specs.RowsOnEnd.{on_end}
+pub use Rattle.packed_rows.specs.ConcatenatedRows.{concatenated}
 pub use Rattle.group_runs.specs.Adding.{group_added, groups_added, merged, partial_after_row}
-pub use Rattle.group_runs.specs.Chunks.{AddChunks, AreBefore, AreChunks, ComeInto, IsAmong, replaced}
-pub use Rattle.group_runs.specs.Places.{AllAbove, AreUpTo, CombinesAt, HasKey, HasKeyAt, HasStatesFor, IsBelow, IsBetween, IsNotBelow, IsPlaceOf}
+pub use Rattle.group_runs.specs.Segments.{AddSegments, AreBefore, AreSegments, ComeInto, IsAmong, replaced}
+pub use Rattle.group_runs.specs.Places.{AllAbove, AreUpTo, CombinesAt, HasKey, HasKeyAt, HasStatesFor, IsBelow, IsBetween, IsNotBelow}
+pub use Rattle.group_runs.specs.Places.{IsPlaceOf}
 pub use Rattle.group_runs.specs.Runs.{Entry, LieAs, Rises, packed_keys}
 pub use Rattle.group_runs.specs.Standing.{AreGroups, AreStates, StandsFor}
-pub use Rattle.group_runs.specs.Steps.{AddsGroup, AddsRun, AreAdvanced, CombineWith, HasRoomForGroup, HasRoomForRun, HaveRoomForMore, HaveRoomForRow}
+pub use Rattle.group_runs.specs.Steps.{AddsGroup, AddsRun, AreAdvanced, CombineWith, HasRoomForGroup, HasRoomForRun, HaveRoomForMore}
+pub use Rattle.group_runs.specs.Steps.{HaveRoomForRow}

@@ -3,7 +3,7 @@ pub mod Standing
 pub mod Adding
 pub mod Steps
 pub mod Places
-pub mod Chunks
+pub mod Segments
 pub mod MergeLaws
 pub mod PlaceLaws
 pub mod StandingLaws

@@ -34,23 +34,28 @@ nothing_rises = tt
 pub keys_of-insert : (gs : List Group) (k : Row) (ps : List Partial) → keys_of (insert_entry row_cmp gs k ps) ≡ put row_cmp k (keys_of gs)
 keys_of-insert [] k ps = refl
 keys_of-insert (g ∷ gs) k ps =
-    elim (row_cmp k g.0) as (λ r. keys_of (match_ordering r ((k, ps) ∷ g ∷ gs) ((g.0, ps) ∷ gs) (g ∷ insert_entry row_cmp gs k ps)) ≡ match_ordering r (k ∷ keys_of (g ∷ gs)) (keys_of (g ∷ gs)) (g.0 ∷ put row_cmp k (keys_of gs))) [
+    elim (row_cmp k g.0) as (λ r. keys_of (match_ordering r ((k, ps) ∷ g ∷ gs) ((g.0, ps) ∷ gs) (g ∷ insert_entry row_cmp gs k ps))
+    ≡ match_ordering r (k ∷ keys_of (g ∷ gs)) (keys_of (g ∷ gs)) (g.0 ∷ put row_cmp k (keys_of gs))) [
       | Less ↦ refl
       | Equal ↦ refl
       | Greater ↦ ap (λ ks. g.0 ∷ ks) (keys_of-insert gs k ps)
     ]
 
-pub keys_of-rows_added : (q : Query) (gs : List Group) (rows : List Row) → keys_of (rows_added q gs rows) ≡ puts (keys_of gs) (map (key_of q) (selected q rows))
+pub keys_of-rows_added : (q : Query) (gs : List Group) (rows : List Row) → keys_of (rows_added q gs rows)
+    ≡ puts (keys_of gs) (map (key_of q) (selected q rows))
 keys_of-rows_added q gs [] = refl
 keys_of-rows_added q gs (row ∷ rows) =
-    elim (is_met (column_of row) q.condition) as (λ b. keys_of (rows_added q (cond b (with_row q gs row) gs) rows) ≡ puts (keys_of gs) (map (key_of q) (cond b (row ∷ selected q rows) (selected q rows)))) [
-      | true ↦ keys_of-rows_added q (with_row q gs row) rows ∙ ap (λ ks. puts ks (map (key_of q) (selected q rows))) (keys_of-insert gs (key_of q row) _)
+    elim (is_met (column_of row) q.condition) as (λ b. keys_of (rows_added q (cond b (with_row q gs row) gs) rows)
+    ≡ puts (keys_of gs) (map (key_of q) (cond b (row ∷ selected q rows) (selected q rows)))) [
+      | true ↦ keys_of-rows_added q (with_row q gs row) rows
+          ∙ ap (λ ks. puts ks (map (key_of q) (selected q rows))) (keys_of-insert gs (key_of q row) _)
       | false ↦ keys_of-rows_added q gs rows
     ]
 
 pub keys_of-groups_added : (q : Query) (gs more : List Group) → keys_of (groups_added q gs more) ≡ puts (keys_of gs) (keys_of more)
 keys_of-groups_added q gs [] = refl
-keys_of-groups_added q gs (g ∷ more) = keys_of-groups_added q (group_added q gs g) more ∙ ap (λ ks. puts ks (keys_of more)) (keys_of-insert gs g.0 _)
+keys_of-groups_added q gs (g ∷ more) = keys_of-groups_added q (group_added q gs g) more
+    ∙ ap (λ ks. puts ks (keys_of more)) (keys_of-insert gs g.0 _)
 
 -- each key is apart from those behind it
 abbrev pub AreApart : List Row → Type 0

@@ -18,11 +18,11 @@ abbrev pub Rises : List Entry → Type 0
 Rises run = IsStrictlySortedBy (slice_cmp nat_cmp) (packed_keys run)
 
 -- the packed keys on end, and the states on end
-abbrev pub keys_on_end : List Entry → List ℕ
-keys_on_end run = flat_map (λ (e : Entry). e.0) run
+abbrev pub keys_concatenated : List Entry → List ℕ
+keys_concatenated run = flat_map (λ (e : Entry). e.0) run
 
-abbrev pub states_on_end : List Entry → List ℕ
-states_on_end run = flat_map (λ (e : Entry). e.1) run
+abbrev pub states_concatenated : List Entry → List ℕ
+states_concatenated run = flat_map (λ (e : Entry). e.1) run
 
 -- where a group that begins at these places ends, in the keys and in the states
 abbrev pub end_of : ℕ × ℕ → Entry → ℕ × ℕ
@@ -43,8 +43,8 @@ all_cut keys states ends = cut keys states (0, 0) ends
 
 -- keys on end, states on end and where each group ends are those of a run
 pub record LieAs (keys states : List ℕ) (ends : List (ℕ × ℕ)) (run : List Entry) : Type 0 where
-  pub keys_are : keys ≡ keys_on_end run
-  pub states_are : states ≡ states_on_end run
+  pub keys_are : keys ≡ keys_concatenated run
+  pub states_are : states ≡ states_concatenated run
   pub ends_are : ends ≡ ends_of (0, 0) run
 
 -- they are those of the run that they make up, whose keys rise

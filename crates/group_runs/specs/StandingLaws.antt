@@ -16,7 +16,8 @@ use Rattle.agg_protocol.specs.States.{shape_of}
 use Rattle.agg_protocol.specs.declared.kind.AggKind.{AggKind}
 use Rattle.agg_protocol.specs.Kinds.{functions_of, kind_for}
 use Rattle.agg_library.specs.StateRows.{ArePartials, DenotesAll}
-use Rattle.agg_library.specs.StateRowLaws.{all_raised, by_functions, bytes_states, name_all, narrow, states_bytes, states_wide, widths_named}
+use Rattle.agg_library.specs.StateRowLaws.{all_raised, by_functions, bytes_states, name_all, narrow, states_bytes, states_wide}
+use Rattle.agg_library.specs.StateRowLaws.{widths_named}
 use Rattle.having_filter.specs.Kept.{IsWellFormed, key_kinds}
 use Rattle.group_runs.specs.Runs.{Entry, packed_keys}
 use Rattle.group_runs.specs.Standing.{AreStates, StandsFor, AreGroups, IsGroupOf, group_bytes, run_bytes, states_width}
@@ -24,31 +25,45 @@ use Rattle.group_runs.specs.Standing.{AreStates, StandsFor, AreGroups, IsGroupOf
 -- ---- the states of a group
 
 -- the states of kinds that name the functions
-pub states_by : (these : List Function) (m : ℕ) (kinds : List AggKind) (bytes : List ℕ) (ps : List Partial) → functions_of kinds ≡ these → AreStates these m bytes ps → DenotesAll m kinds bytes ps
+pub states_by : (these : List Function) (m : ℕ) (kinds : List AggKind) (bytes : List ℕ) (ps : List Partial) → functions_of kinds ≡ these
+    → AreStates these m bytes ps → DenotesAll m kinds bytes ps
 states_by these m kinds bytes ps named are = by_functions m are.kinds kinds bytes ps (are.named ∙ sym named) are.denote
 
 -- the same states with a higher bound
-pub states_raised : (these : List Function) (m most : ℕ) (bytes : List ℕ) (ps : List Partial) → m ≤ most → AreStates these m bytes ps → AreStates these most bytes ps
-states_raised these m most bytes ps low are = record { kinds = are.kinds; named = are.named; denote = all_raised m most are.kinds bytes ps low are.denote }
+pub states_raised : (these : List Function) (m most : ℕ) (bytes : List ℕ) (ps : List Partial) → m ≤ most → AreStates these m bytes ps
+    → AreStates these most bytes ps
+states_raised these m most bytes ps low are = record {
+  kinds = are.kinds;
+  named = are.named;
+  denote = all_raised m most are.kinds bytes ps
+      low are.denote;
+}
 
 -- states of a query are all as long
-pub states_long : (q : Query) (m : ℕ) (bytes : List ℕ) (ps : List Partial) → AreStates (functions q) m bytes ps → length bytes ≡ states_width q
-states_long q m bytes ps are = states_wide m are.kinds bytes ps are.denote ∙ widths_named are.kinds ∙ ap (λ these. sum_by (λ function. states.width_of (shape_of function)) these) are.named
+pub states_long : (q : Query) (m : ℕ) (bytes : List ℕ) (ps : List Partial) → AreStates (functions q) m bytes ps → length bytes
+    ≡ states_width q
+states_long q m bytes ps are = states_wide m are.kinds bytes ps are.denote ∙ widths_named are.kinds
+    ∙ ap (λ these. sum_by (λ function. states.width_of (shape_of function)) these) are.named
 
 -- states are not too long for a table
-pub states_short : (q : Query) (m : ℕ) (bytes : List ℕ) (ps : List Partial) → IsWellFormed q → AreStates (functions q) m bytes ps → length bytes ≤ 8184
+pub states_short : (q : Query) (m : ℕ) (bytes : List ℕ) (ps : List Partial) → IsWellFormed q → AreStates (functions q) m bytes ps
+    → length bytes ≤ 8184
 states_short q m bytes ps formed are =
     let many : length are.kinds ≡ length q.aggregates = sym (length-map are.kinds _) ∙ ap length are.named ∙ length-map q.aggregates _ in
     let few : length are.kinds ≤ 32 = subst (λ n. n ≤ 32) (sym many) formed.few_aggregates in
-    subst (λ n. n ≤ 8184) (sym (states_wide m are.kinds bytes ps are.denote)) (le_trans (narrow are.kinds) (le_trans (mul-le-mul_right 24 few) (leb-true 768 8184 refl)))
+    subst (λ n. n ≤ 8184) (sym (states_wide m are.kinds bytes ps are.denote))
+    (le_trans (narrow are.kinds) (le_trans (mul-le-mul_right 24 few) (leb-true 768 8184 refl)))
 
 -- ---- the groups of a run
 
 -- the same groups with a higher bound
 pub groups_raised : (q : Query) (m n : ℕ) (es : List Entry) (gs : List Group) → m ≤ n → AreGroups q m es gs → AreGroups q n es gs
 groups_raised q m n [] [] low are = tt
-groups_raised q m n (e ∷ es) (g ∷ gs) low (first, rest) =
-    (record { key = first.key; of_kinds = first.of_kinds; states = states_raised (functions q) m n e.1 g.1 low first.states }, groups_raised q m n es gs low rest)
+groups_raised q m n (e ∷ es) (g ∷ gs) low (first, rest) = (
+  record { key = first.key; of_kinds = first.of_kinds; states = states_raised (functions q) m n e.1 g.1 low first.states },
+  groups_raised
+      q m n es gs low rest,
+)
 groups_raised q m n _ _ low are = absurd are
 
 -- an entry at a place, and the group that it stands for
@@ -57,7 +72,8 @@ pub record GroupAt (q : Query) (most : ℕ) (groups : List Group) (i : ℕ) (ent
   pub at : slice_get groups i ≡ Some group
   pub stands : StandsFor q most entry group
 
-pub group_at : (q : Query) (most : ℕ) (run : List Entry) (groups : List Group) (i : ℕ) (entry : Entry) → AreGroups q most run groups → slice_get run i ≡ Some entry → GroupAt q most groups i entry
+pub group_at : (q : Query) (most : ℕ) (run : List Entry) (groups : List Group) (i : ℕ) (entry : Entry) → AreGroups q most run groups
+    → slice_get run i ≡ Some entry → GroupAt q most groups i entry
 group_at q most [] groups i entry are at = absurd (none-some entry at)
 group_at q most (e ∷ run) [] i entry are at = absurd are
 group_at q most (e ∷ run) (g ∷ groups) zero entry (first, rest) at =
@@ -72,31 +88,46 @@ groups_long q most (e ∷ run) (g ∷ groups) (first, rest) = ap suc (groups_lon
 groups_long q most _ _ are = absurd are
 
 -- the keys of a run
-pub keys_packed : (q : Query) (most : ℕ) (run : List Entry) (groups : List Group) → AreGroups q most run groups → packed_keys run ≡ map packing (keys_of groups)
+pub keys_packed : (q : Query) (most : ℕ) (run : List Entry) (groups : List Group) → AreGroups q most run groups → packed_keys run
+    ≡ map packing (keys_of groups)
 keys_packed q most [] [] are = refl
 keys_packed q most (e ∷ run) (g ∷ groups) (first, rest) = λ i. first.key i ∷ keys_packed q most run groups rest i
 keys_packed q most _ _ are = absurd are
 
-pub keys_of_kinds : (q : Query) (most : ℕ) (run : List Entry) (groups : List Group) → AreGroups q most run groups → AllByRecursion (HasKinds (key_kinds q)) (keys_of groups)
+pub keys_of_kinds : (q : Query) (most : ℕ) (run : List Entry) (groups : List Group) → AreGroups q most run groups
+    → AllByRecursion (HasKinds (key_kinds q)) (keys_of groups)
 keys_of_kinds q most [] [] are = tt
 keys_of_kinds q most (e ∷ run) (g ∷ groups) (first, rest) = (first.of_kinds, keys_of_kinds q most run groups rest)
 keys_of_kinds q most _ _ are = absurd are
 
 -- what stands for groups is their bytes
-one_stands : (query : Query) (most : ℕ) (entry : Entry) (group : Group) → StandsFor query most entry group → (entry ≡ group_bytes group) × IsGroupOf query most group
+one_stands : (query : Query) (most : ℕ) (entry : Entry) (group : Group) → StandsFor query most entry group → (entry ≡ group_bytes group)
+    × IsGroupOf query most group
 one_stands query most entry group stands =
-    let found = states_bytes most stands.states.kinds entry.1 group.1 stands.states.denote in
-    (λ i. (stands.key i, found.0 i), record { key = stands.of_kinds; partials = subst (λ fs. ArePartials most fs group.1) stands.states.named found.1 })
+    let found = states_bytes most stands.states.kinds entry.1 group.1 stands.states.denote in (
+      λ i. (stands.key i, found.0 i),
+      record {
+        key = stands.of_kinds;
+        partials = subst (λ fs. ArePartials most fs group.1)
+            stands.states.named found.1;
+      },
+    )
 
 one_spelled : (query : Query) (most : ℕ) (group : Group) → IsGroupOf query most group → StandsFor query most (group_bytes group) group
 one_spelled query most group is =
     record {
       key = refl;
       of_kinds = is.key;
-      states = record { kinds = map kind_for (functions query); named = name_all (functions query); denote = bytes_states most (functions query) group.1 is.partials };
+      states = record {
+        kinds = map kind_for (functions query);
+        named = name_all (functions query);
+        denote = bytes_states most
+            (functions query) group.1 is.partials;
+      };
     }
 
-pub stands_spelled : (query : Query) (most : ℕ) (run : List Entry) (groups : List Group) → AreGroups query most run groups → (run ≡ run_bytes groups) × AllByRecursion (IsGroupOf query most) groups
+pub stands_spelled : (query : Query) (most : ℕ) (run : List Entry) (groups : List Group) → AreGroups query most run groups
+    → (run ≡ run_bytes groups) × AllByRecursion (IsGroupOf query most) groups
 stands_spelled query most [] [] are = (refl, tt)
 stands_spelled query most (entry ∷ run) (group ∷ groups) (one, are) =
     let first = one_stands query most entry group one in
@@ -104,6 +135,7 @@ stands_spelled query most (entry ∷ run) (group ∷ groups) (one, are) =
     (λ i. first.0 i ∷ rest.0 i, (first.1, rest.1))
 stands_spelled query most _ _ are = absurd are
 
-pub spelled_stands : (query : Query) (most : ℕ) (groups : List Group) → AllByRecursion (IsGroupOf query most) groups → AreGroups query most (run_bytes groups) groups
+pub spelled_stands : (query : Query) (most : ℕ) (groups : List Group) → AllByRecursion (IsGroupOf query most) groups
+    → AreGroups query most (run_bytes groups) groups
 spelled_stands query most [] all = tt
 spelled_stands query most (group ∷ groups) (one, all) = (one_spelled query most group one, spelled_stands query most groups all)

@@ -1,19 +1,19 @@
-//! Merging groups into a chunk.
+//! Merging groups into a segment.
 
 ghost use Rattle.std.specs.Prelude.{◌≡◌, ◌+◌, ◌^◌, ◌<◌, ◌≤◌, ◌++◌, ◌↔◌, IfOk, IsTrue, OnOk, length, drop, slice_range};
 ghost use Rattle.having_filter.specs.Meaning.{meaning};
 ghost use Rattle.group_runs.specs.Runs.{Rises};
 ghost use Rattle.group_runs.specs.Places.{AllBelow, AreUpTo, HasKeyAt, IsPlaceOf};
 ghost use Rattle.group_runs.specs.Steps.{HasRoomForGroup, AddsGroup, HasRoomForRun, AddsRun};
-ghost use Rattle.packed_rows.specs.RowsOnEnd.{on_end};
+ghost use Rattle.packed_rows.specs.ConcatenatedRows.{concatenated};
 
-use crate::chunk::Chunk;
-use crate::chunks::Chunks;
 use crate::seeking::{gap, is_below};
+use crate::segment::Segment;
+use crate::segments::Segments;
 use having_filter::Query;
 use std::alloc::{AllocError, Global};
 
-impl Chunk {
+impl Segment {
     /// The place of a key among the groups from a place on: that of the first one whose key is not below it. It is sought by steps
     /// that begin with a guess of how far it is, double and then halve, so that what is about there is found soon.
     pub(crate) fn seek(&self, from: usize, step: usize, key: &[u8]) -> usize
@@ -50,7 +50,7 @@ impl Chunk {
     fn merge_group(
         &mut self,
         query: &Query,
-        old: &Chunk,
+        old: &Segment,
         from: usize,
         step: usize,
         key: &[u8],
@@ -78,25 +78,25 @@ impl Chunk {
         Ok(place)
     }
 
-    /// A chunk of the groups of this one, and of those of a run from a place up to another.
+    /// A segment of the groups of this one, and of those of a run from a place up to another.
     pub(crate) fn merged(
         &self,
         alloc: Global,
         query: &Query,
-        more: &Chunks,
+        more: &Segments,
         from: usize,
         to: usize,
-    ) -> Result<Chunk, AllocError>
+    ) -> Result<Segment, AllocError>
         requires order { from ≤ to }
-        requires within { to ≤ length (on_end more.now) }
+        requires within { to ≤ length (concatenated more.now) }
         requires room { HasRoomForRun (meaning query.now) self.now
-            (slice_range (on_end more.now) from to) }
+            (slice_range (concatenated more.now) from to) }
         ensures { IfOk result (AddsRun (meaning query.now) self.now
-            (slice_range (on_end more.now) from to)) }
+            (slice_range (concatenated more.now) from to)) }
     {
         let count = self.len();
         let step = gap(count, to - from);
-        let mut merged = Chunk::with_room_of(alloc, self, to - from)?;
+        let mut merged = Segment::with_room_of(alloc, self, to - from)?;
         let mut left = 0;
         for place in 0..to - from {
             let (key, states) = more.group(from + place);
@@ -107,14 +107,14 @@ impl Chunk {
     }
 
     /// The first half of the groups, and the second. The only error is a failed allocation.
-    pub(crate) fn halves(&self, alloc: Global) -> Result<(Chunk, Chunk), AllocError>
+    pub(crate) fn halves(&self, alloc: Global) -> Result<(Segment, Segment), AllocError>
         ensures { IfOk result (λ both. both.0 ++ both.1 ≡ self.now) }
     {
         let count = self.len();
         let middle = count / 2;
-        let mut first = Chunk::with_capacity(alloc, 0, 0, 0)?;
+        let mut first = Segment::with_capacity(alloc, 0, 0, 0)?;
         first.push_range(self, 0, middle)?;
-        let mut second = Chunk::with_capacity(alloc, 0, 0, 0)?;
+        let mut second = Segment::with_capacity(alloc, 0, 0, 0)?;
         second.push_range(self, middle, count)?;
         Ok((first, second))
     }

@@ -5,27 +5,27 @@ ghost use Rattle.having_filter.specs.Meaning.{meaning};
 ghost use Rattle.group_runs.specs.Runs.{Rises};
 ghost use Rattle.group_runs.specs.Steps.{HasRoomForRun, AddsRun};
 
-use crate::chunks::Chunks;
+use crate::segments::Segments;
 use having_filter::Query;
 use std::alloc::{AllocError, Global};
 use std::marker::Model;
 
 /// Groups in the order of their keys, each with the bytes of its key and of its states. No two have the same key.
 ///
-/// They lie in chunks, so that a group which enters moves those of one chunk alone.
+/// They lie in segments, so that a group which enters moves those of one segment alone.
 #[derive(Drop)]
 pub struct Run {
-    chunks: Chunks,
+    segments: Segments,
 }
 
 impl Model for Run {
     ghost use Rattle.std.specs.Prelude.{List};
     ghost use Rattle.group_runs.specs.Runs.{Entry};
-    ghost use Rattle.packed_rows.specs.RowsOnEnd.{on_end};
+    ghost use Rattle.packed_rows.specs.ConcatenatedRows.{concatenated};
 
     ghost Value = { List Entry };
 
-    ghost view = { λ r. on_end r.chunks };
+    ghost view = { λ r. concatenated r.segments };
 }
 
 impl Run {
@@ -34,7 +34,7 @@ impl Run {
         ensures { result ≡ [] }
     {
         Run {
-            chunks: Chunks::new(alloc),
+            segments: Segments::new(alloc),
         }
     }
 
@@ -49,7 +49,7 @@ impl Run {
         ensures { IfOk result (λ run. run ≡ []) }
     {
         Ok(Run {
-            chunks: Chunks::with_capacity(alloc, groups, keys, states)?,
+            segments: Segments::with_capacity(alloc, groups, keys, states)?,
         })
     }
 
@@ -60,7 +60,7 @@ impl Run {
         ensures pushed { OnOk result (self.new ≡ self.old ++ (key.now, states.now) ∷ []) }
         ensures refused { OnErr result (self.new ≡ self.old) }
     {
-        self.chunks.push(key, states)
+        self.segments.push(key, states)
     }
 
     /// How many groups there are.
@@ -68,7 +68,7 @@ impl Run {
         ensures length { result ≡ length self.now }
         ensures rises { Rises self.now }
     {
-        self.chunks.len()
+        self.segments.len()
     }
 
     /// Whether there are no groups.
@@ -83,7 +83,7 @@ impl Run {
         requires { place < length self.now }
         ensures { slice_get self.now place ≡ Some (result.0.now, result.1.now) }
     {
-        self.chunks.group(place)
+        self.segments.group(place)
     }
 
     /// The same groups again. The only error is a failed allocation.
@@ -91,7 +91,7 @@ impl Run {
         ensures { IfOk result (λ copy. copy ≡ self.now) }
     {
         Ok(Run {
-            chunks: self.chunks.try_clone(alloc)?,
+            segments: self.segments.try_clone(alloc)?,
         })
     }
 
@@ -114,11 +114,11 @@ impl Run {
 
     /// Adds the groups of another run. Where all its keys are there, this takes no memory. The only error is a failed
     /// allocation, which leaves the run as it was.
-    pub fn absorb(&mut self, alloc: Global, query: &Query, more: &Run) -> Result<(), AllocError>
+    pub fn merge_from(&mut self, alloc: Global, query: &Query, more: &Run) -> Result<(), AllocError>
         requires { HasRoomForRun (meaning query.now) self.old more.now }
         ensures added { OnOk result (AddsRun (meaning query.now) self.old more.now self.new) }
         ensures refused { OnErr result (self.new ≡ self.old) }
     {
-        self.chunks.absorb(alloc, query, &more.chunks)
+        self.segments.merge_from(alloc, query, &more.segments)
     }
 }

@@ -6,10 +6,10 @@ ghost use Rattle.std.specs.Cmp.Lexicographic.{slice_cmp};
 ghost use Rattle.byteorder.specs.Endian.{big_from};
 ghost use Rattle.group_runs.specs.Runs.{Rises};
 ghost use Rattle.group_runs.specs.Places.{HasKeyAt, IsBetween, IsPlaceOf};
-ghost use Rattle.packed_rows.specs.RowsOnEnd.{on_end};
-ghost use Rattle.group_runs.specs.Chunks.{AreBefore, ComeInto};
+ghost use Rattle.packed_rows.specs.ConcatenatedRows.{concatenated};
+ghost use Rattle.group_runs.specs.Segments.{AreBefore, ComeInto};
 
-use crate::chunks::{Chunks, MOST_GROUPS};
+use crate::segments::{MAX_GROUPS, Segments};
 
 /// How many groups stand before the next of some keys, where these are spread evenly over all groups. It is a guess, and no
 /// result depends on it.
@@ -18,7 +18,7 @@ pub(crate) fn gap(groups: usize, keys: usize) -> usize {
 }
 
 /// The first eight bytes of a key of at least as many, as a number.
-fn first_bytes(key: &[u8]) -> u64
+fn abbreviated_key(key: &[u8]) -> u64
     requires { 8 ≤ length key.now }
     ensures number { result ≡ big_from 0 8 key.now }
     ensures bytes { (place : ℕ) → slice_index key.now place < 256 }
@@ -33,8 +33,8 @@ pub(crate) fn is_below(key: &[u8], other: &[u8]) -> bool
     ensures { result ≡ is_lt (slice_cmp nat_cmp key.now other.now) }
 {
     if key.len() >= 8 && other.len() >= 8 {
-        let first = first_bytes(key);
-        let second = first_bytes(other);
+        let first = abbreviated_key(key);
+        let second = abbreviated_key(other);
         if first != second {
             return first < second;
         }
@@ -42,50 +42,50 @@ pub(crate) fn is_below(key: &[u8], other: &[u8]) -> bool
     key.cmp(other).is_lt()
 }
 
-impl Chunks {
-    /// The chunk of the group at a place, or how many chunks there are where there is no group.
-    fn chunk_from(&self, place: usize) -> usize
-        requires { place ≤ length (on_end self.now) }
-        ensures { length (on_end (take result self.now)) ≤ place }
+impl Segments {
+    /// The segment of the group at a place, or how many segments there are where there is no group.
+    fn segment_from(&self, place: usize) -> usize
+        requires { place ≤ length (concatenated self.now) }
+        ensures { length (concatenated (take result self.now)) ≤ place }
     {
         if place < self.len() {
-            return self.chunk_of(place);
+            return self.segment_of(place);
         }
         self.count()
     }
 
-    /// The last group before the end of a chunk, which is that place.
+    /// The last group before the end of a segment, which is that place.
     fn last_group(&self, at: usize, end: usize) -> (&[u8], &[u8])
         requires there { at < length self.now }
-        requires end { end ≡ length (on_end (take (at + 1) self.now)) }
+        requires end { end ≡ length (concatenated (take (at + 1) self.now)) }
         requires some { 0 < end }
-        ensures { slice_get (on_end self.now) (end - 1) ≡ Some (result.0.now, result.1.now) }
+        ensures { slice_get (concatenated self.now) (end - 1) ≡ Some (result.0.now, result.1.now) }
     {
         let start = self.start(at);
         if start < end {
-            return self.chunk(at).group(end - 1 - start);
+            return self.segment(at).group(end - 1 - start);
         }
         self.group(end - 1)
     }
 
-    /// Two places between which the place of a key lies, and the chunk that all groups from the one to the other are in. The last
-    /// groups of chunks tell, by steps that begin with a guess, double and then halve.
+    /// Two places between which the place of a key lies, and the segment that all groups from the one to the other are in. The last
+    /// groups of segments tell, by steps that begin with a guess, double and then halve.
     fn narrow(&self, from: usize, step: usize, key: &[u8]) -> (usize, usize, usize)
-        requires { from ≤ length (on_end self.now) }
-        ensures between { IsBetween (on_end self.now) from result.0 result.1 key.now }
-        ensures begun { length (on_end (take result.2 self.now)) ≤ result.0 }
-        ensures ended { result.1 ≤ length (on_end (take (result.2 + 1) self.now)) }
+        requires { from ≤ length (concatenated self.now) }
+        ensures between { IsBetween (concatenated self.now) from result.0 result.1 key.now }
+        ensures begun { length (concatenated (take result.2 self.now)) ≤ result.0 }
+        ensures ended { result.1 ≤ length (concatenated (take (result.2 + 1) self.now)) }
     {
         let mut low = from;
         let mut high = self.len();
         let mut last = self.count();
-        let mut first = self.chunk_from(from);
-        let mut step = step / MOST_GROUPS;
+        let mut first = self.segment_from(from);
+        let mut step = step / MAX_GROUPS;
         while first < last {
             let middle = first + step.min((last - first) / 2);
             let end = self.start(middle + 1);
             if end <= low {
-                first = middle + 1; // There is nothing left of this chunk.
+                first = middle + 1; // There is nothing left of this segment.
                 continue;
             }
             if end > high {
@@ -107,8 +107,8 @@ impl Chunks {
     /// Whether a place is that of a key among the groups from it on, since the group there is not below the key. So keys that
     /// follow one another as the groups do are found at once.
     fn is_next(&self, from: usize, key: &[u8]) -> bool
-        requires { from ≤ length (on_end self.now) }
-        ensures { IsTrue result → IsPlaceOf (on_end self.now) from key.now from }
+        requires { from ≤ length (concatenated self.now) }
+        ensures { IsTrue result → IsPlaceOf (concatenated self.now) from key.now from }
     {
         from < self.len() && !is_below(self.group(from).0, key)
     }
@@ -116,10 +116,10 @@ impl Chunks {
     /// The place of a key among the groups from a place on: that of the first one whose key is not below it. `step` is a guess of
     /// how far it is.
     pub(crate) fn seek(&self, from: usize, step: usize, key: &[u8]) -> usize
-        requires { from ≤ length (on_end self.now) }
-        ensures place { IsPlaceOf (on_end self.now) from key.now result }
-        ensures rises { Rises (on_end self.now) }
-        ensures few { length (on_end self.now) < 2 ^ 64 }
+        requires { from ≤ length (concatenated self.now) }
+        ensures place { IsPlaceOf (concatenated self.now) from key.now result }
+        ensures rises { Rises (concatenated self.now) }
+        ensures few { length (concatenated self.now) < 2 ^ 64 }
     {
         let _count = self.len();
         if step == 0 && self.is_next(from, key) {
@@ -130,31 +130,31 @@ impl Chunks {
             return low;
         }
         let start = self.start(at);
-        let step = if low == from { step } else { MOST_GROUPS }; // In a chunk further on it may be anywhere.
-        start + self.chunk(at).seek(low - start, step, key)
+        let step = if low == from { step } else { MAX_GROUPS }; // In a segment further on it may be anywhere.
+        start + self.segment(at).seek(low - start, step, key)
     }
 
     /// Whether the group at a place is there and has a key.
     pub(crate) fn has_at(&self, place: usize, key: &[u8]) -> bool
-        ensures { IsTrue result ↔ HasKeyAt (on_end self.now) place key.now }
+        ensures { IsTrue result ↔ HasKeyAt (concatenated self.now) place key.now }
     {
         place < self.len() && self.group(place).0 == key
     }
 
-    /// Which chunk the groups of another run from a place on begin to come into, and up to which place they do. None of them comes
-    /// into one of the first chunks, so many of them.
-    pub(crate) fn part(&self, first: usize, more: &Chunks, from: usize) -> (usize, usize)
+    /// Which segment the groups of another run from a place on begin to come into, and up to which place they do. None of them comes
+    /// into one of the first segments, so many of them.
+    pub(crate) fn part(&self, first: usize, more: &Segments, from: usize) -> (usize, usize)
         requires there { first < length self.now }
-        requires within { from < length (on_end more.now) }
-        requires above { AreBefore (on_end (take first self.now)) (drop from (on_end more.now)) }
-        ensures { ComeInto self.now first (on_end more.now) from result.0 result.1 }
+        requires within { from < length (concatenated more.now) }
+        requires above { AreBefore (concatenated (take first self.now)) (drop from (concatenated more.now)) }
+        ensures { ComeInto self.now first (concatenated more.now) from result.0 result.1 }
     {
         let (key, _) = more.group(from);
         let count = self.len();
         let last = self.count() - 1;
         let place = self.seek(self.start(first), gap(count, more.len()), key);
         let at = if place < count {
-            self.chunk_of(place)
+            self.segment_of(place)
         } else {
             last
         };

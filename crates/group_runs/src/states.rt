@@ -1,6 +1,7 @@
 //! The states of one group.
 
-ghost use Rattle.std.specs.Prelude.{◌≡◌, ◌<◌, ◌≤◌, [], map, length, drop, option_map, Some, None, slice_get, if◌then◌else◌, IfOk, OnOk, OnErr};
+ghost use Rattle.std.specs.Prelude.{◌≡◌, ◌<◌, ◌≤◌, [], map, length, drop, option_map, Some, None, slice_get, if◌then◌else◌, IfOk, OnOk};
+ghost use Rattle.std.specs.Prelude.{OnErr};
 ghost use Rattle.grouping_model.specs.Datum.{HasKinds};
 ghost use Rattle.grouping_model.specs.Condition.{is_met};
 ghost use Rattle.grouping_model.specs.Query.{Aggregate};
@@ -14,7 +15,7 @@ ghost use Rattle.having_filter.specs.Meaning.{meaning};
 ghost use Rattle.group_runs.specs.Standing.{AreStates};
 ghost use Rattle.group_runs.specs.Steps.{HaveRoomForRow, AreAdvanced, HaveRoomWithin, AreCombined, HaveRoomForMore, CombineWith};
 
-use agg_library::{AggKind, MOST_COUNTED, StateRow};
+use agg_library::{AggKind, MAX_COUNTED, StateRow};
 use agg_protocol::BadState;
 use having_filter::Query;
 use packed_rows::Value;
@@ -91,7 +92,7 @@ pub fn advance_slice(
 }
 
 /// The bytes of a group's states before any row. The only error is a failed allocation.
-pub fn first_states(alloc: Global, query: &Query) -> Result<Vec<u8>, AllocError>
+pub fn initial_states(alloc: Global, query: &Query) -> Result<Vec<u8>, AllocError>
     ensures { IfOk result (λ states. AreStates (functions (meaning query.now)) 0 states.items
         (partials (meaning query.now) [])) }
 {
@@ -120,5 +121,5 @@ pub(crate) fn combine_slice(query: &Query, states: &mut [u8], more: &[u8])
     requires { HaveRoomForMore (functions (meaning query.now)) states.old more.now }
     ensures { CombineWith (functions (meaning query.now)) states.old more.now states.new }
 {
-    combine_within(query, states, more, MOST_COUNTED).unwrap();
+    combine_within(query, states, more, MAX_COUNTED).unwrap();
 }

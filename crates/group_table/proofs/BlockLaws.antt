@@ -1,8 +1,12 @@
 -- What the set of a table holds while its array grows.
-use Rattle.std.specs.Prelude.{◌≡◌, ◌≢◌, refl, ℕ, zero, suc, ◌+◌, ◌*◌, ◌/◌, ◌<◌, ◌≤◌, ◌⊎◌, ◌==◌, nat_le, nat_lt, Bool, true, false, cond, if◌then◌else◌, List, [], ◌∷◌, Option, Some, None, get_or, slice_set, is_some, unwrap_or}
+use Rattle.std.specs.Prelude.{◌≡◌, ◌≢◌, refl, ℕ, zero, suc, ◌+◌, ◌*◌, ◌/◌, ◌<◌, ◌≤◌, ◌⊎◌, ◌==◌, nat_le, nat_lt, Bool, true, false, cond}
+use Rattle.std.specs.Prelude.{if◌then◌else◌, List, [], ◌∷◌, Option, Some, None, get_or, slice_set, is_some, unwrap_or}
 use Rattle.std.proofs.Common.{inl, inr, sym, ◌∙◌, ap, subst, arith, add-one}
 use Rattle.std.proofs.lemmas.Bool.{cases_lt, lt-ltb, le-ltb, le-leb, eq-eqb, ne_eqb, false≢true}
-use Rattle.group_table.proofs.Words.{Piece, place_of, piece_at, size_at, total, with_block, ChunkName, rounded, rooms, room_of, class_of, SetState, new_set, set_room, set_growth, set_taken, set_freed, growth_by, taken_by, grown, buckets, array_block, bucket_blocks, buckets_in, buckets_for, most_buckets, IsFirst, HasSpace, HasFirst, IsArrayHeld, HoldsArray, AreArraysHeld, LARGEST}
+use Rattle.group_table.proofs.Words.{ChunkContents, place_of, piece_at, size_at, total, with_block, ChunkName, rounded, rooms, room_of}
+use Rattle.group_table.proofs.Words.{class_of, SetState, new_set, set_room, set_growth, set_taken, set_freed, growth_by, taken_by, grown}
+use Rattle.group_table.proofs.Words.{buckets, array_block, bucket_blocks, buckets_in, buckets_for, most_buckets, IsFirst, HasSpace}
+use Rattle.group_table.proofs.Words.{HasFirst, IsArrayHeld, HoldsArray, AreArraysHeld, LARGEST}
 use Rattle.chunk_contexts.specs.Free.{is_in}
 use Rattle.group_table.proofs.SetFacts.{sum_with, not_classed, size_beside}
 use Rattle.std.proofs.lemmas.Bool.Decides.{nat_tests}
@@ -26,7 +30,10 @@ short_room n short = grind (arith, nat_tests, common_steps)
 
 -- ---- how many buckets there are
 grown_by : (n b : ℕ) → (grown n b ≡ b) ⊎ ((grown n b ≡ 2 * b) × (3 * b < 4 * n))
-grown_by n b = elim (cases_lt (3 * b) (4 * n)) [ inl less ↦ inr (grind (arith, nat_tests), less) | inr past ↦ inl (grind (arith, nat_tests)) ]
+grown_by n b = elim (cases_lt (3 * b) (4 * n)) [
+  | inl less ↦ inr (grind (arith, nat_tests), less)
+  | inr past ↦ inl (grind (arith, nat_tests))
+]
 
 pub some_buckets : (n : ℕ) → 256 ≤ buckets n
 some_buckets zero = omega arith
@@ -42,7 +49,8 @@ same_or_twice n = rw (add-one n) (elim (grown_by (suc n) (buckets n)) [ inl same
 wanted_by : (n b : ℕ) → 256 ≤ b → buckets_for b n ≡ grown (suc n) b
 wanted_by n b some = grind (arith, nat_tests)
 
-pub wanted_is : (array : Option ChunkName) (n : ℕ) (s : SetState) → HoldsArray array n s → buckets_for (buckets_in array) n ≡ buckets (n + 1)
+pub wanted_is : (array : Option ChunkName) (n : ℕ) (s : SetState) → HoldsArray array n s → buckets_for (buckets_in array) n
+    ≡ buckets (n + 1)
 wanted_is None n s is = subst (λ m. buckets_for 0 m ≡ buckets (m + 1)) (sym is) refl
 wanted_is (Some name) n s is =
     let count : name.len / 32 ≡ buckets n = omega (arith, is.size.len) in
@@ -92,13 +100,17 @@ large_room : (n : ℕ) → 8192 < n → set_room n ≡ rounded n
 large_room n large = ap (λ (b : Bool). if b then room_of (class_of n) else rounded n) (not_classed n large)
 
 -- what the next array takes
-twice_grows : (s : SetState) (b : ℕ) → 256 ≤ b → 2 * b ≤ most_buckets → total s.blocks ≡ bucket_blocks b b → total s.blocks + set_growth s (2 * b * 32) ≡ bucket_blocks b (2 * b)
+twice_grows : (s : SetState) (b : ℕ) → 256 ≤ b → 2 * b ≤ most_buckets → total s.blocks ≡ bucket_blocks b b → total s.blocks
+    + set_growth s (2 * b * 32) ≡ bucket_blocks b (2 * b)
 twice_grows s b some few held = grind (arith, nat_tests, common_steps)
 
-pub array_grows : (array : Option ChunkName) (n : ℕ) (s : SetState) → IsFirst s → HasSpace array s → HoldsArray array n s → buckets (n + 1) ≤ most_buckets
-    → total s.blocks + cond (buckets (n + 1) == buckets_in array) 0 (set_growth s (buckets (n + 1) * 32)) ≡ bucket_blocks (buckets n) (buckets (n + 1))
+pub array_grows : (array : Option ChunkName) (n : ℕ) (s : SetState) → IsFirst s → HasSpace array s → HoldsArray array n s
+    → buckets (n + 1) ≤ most_buckets
+    → total s.blocks + cond (buckets (n + 1) == buckets_in array) 0 (set_growth s (buckets (n + 1) * 32))
+    ≡ bucket_blocks (buckets n) (buckets (n + 1))
 array_grows None n s first space is few =
-    subst (λ m. total s.blocks + cond (buckets (m + 1) == 0) 0 (set_growth s (buckets (m + 1) * 32)) ≡ bucket_blocks (buckets m) (buckets (m + 1))) (sym is) (first_grows s first space)
+    subst (λ m. total s.blocks + cond (buckets (m + 1) == 0) 0 (set_growth s (buckets (m + 1) * 32))
+    ≡ bucket_blocks (buckets m) (buckets (m + 1))) (sym is) (first_grows s first space)
 array_grows (Some name) n s first space is few =
     ap (λ b. total s.blocks + cond (buckets (n + 1) == b) 0 (set_growth s (buckets (n + 1) * 32))) (count_is name n s is)
     ∙ elim (same_or_twice n) [
@@ -108,34 +120,41 @@ array_grows (Some name) n s first space is few =
           ∙ omega (arith, is.held)
           ∙ ap (λ b. bucket_blocks (buckets n) b) (sym same)
       | inr twice ↦
-          let other : (buckets (n + 1) == buckets n) ≡ false = ne_eqb (buckets (n + 1)) (buckets n) (λ same. omega (arith, same, twice, some_buckets n)) in
+          let other : (buckets (n + 1) == buckets n)
+          ≡ false = ne_eqb (buckets (n + 1)) (buckets n) (λ same. omega (arith, same, twice, some_buckets n)) in
           ap (λ b. total s.blocks + cond b 0 (set_growth s (buckets (n + 1) * 32))) other
-          ∙ subst (λ b. total s.blocks + set_growth s (b * 32) ≡ bucket_blocks (buckets n) b) (sym twice) (twice_grows s (buckets n) (some_buckets n) (omega (arith, twice, few)) is.held)
+          ∙ subst (λ b. total s.blocks + set_growth s (b * 32) ≡ bucket_blocks (buckets n) b) (sym twice)
+          (twice_grows s (buckets n) (some_buckets n) (omega (arith, twice, few)) is.held)
     ]
 
 -- ---- the next array is taken
 -- the array of so many groups is that of one more
-pub still_held : (array : Option ChunkName) (n : ℕ) (s : SetState) → HoldsArray array n s → buckets_in array ≡ buckets (n + 1) → HoldsArray array (n + 1) s
+pub still_held : (array : Option ChunkName) (n : ℕ) (s : SetState) → HoldsArray array n s → buckets_in array ≡ buckets (n + 1)
+    → HoldsArray array (n + 1) s
 still_held None n s is same = absurd (omega (arith, same, some_buckets (n + 1)))
 still_held (Some name) n s is same = grind (arith, nat_tests, common_steps)
 
-size_with : (bs : List (Option ℕ)) (block x : ℕ) → is_some (get_or (with_block bs block x) block None) ≡ true → size_at (with_block bs block x) block ≡ x
+size_with : (bs : List (Option ℕ)) (block x : ℕ) → is_some (get_or (with_block bs block x) block None) ≡ true
+    → size_at (with_block bs block x) block ≡ x
 size_with [] zero x there = refl
 size_with [] (suc block) x there = absurd (false≢true there)
 size_with (b ∷ bs) zero x there = refl
 size_with (b ∷ bs) (suc block) x there = size_with bs block x there
 
-module _ (s : SetState) (n : ℕ) (name : ChunkName) (p : Piece) where
+module _ (s : SetState) (n : ℕ) (name : ChunkName) (p : ChunkContents) where
   abbrev taken : SetState
   taken = set_taken s (buckets (n + 1) * 32) p
 
   -- the first array
-  pub first_taken : n ≡ 0 → name.len ≡ buckets (n + 1) * 32 → total taken.blocks ≡ bucket_blocks (buckets n) (buckets (n + 1)) → AreArraysHeld taken None name n
+  pub first_taken : n ≡ 0 → name.len ≡ buckets (n + 1) * 32 → total taken.blocks ≡ bucket_blocks (buckets n) (buckets (n + 1))
+      → AreArraysHeld taken None name n
   first_taken none len held = grind (arith, nat_tests, common_steps)
 
   -- a larger one
-  module _ (twice : buckets (n + 1) ≡ 2 * buckets n) (room : p.room ≡ set_room (buckets (n + 1) * 32)) (at : p.place.block ≡ name.block) (len : name.len ≡ buckets (n + 1) * 32)
-      (there : is_some (get_or taken.blocks name.block None) ≡ true) (held : total taken.blocks ≡ bucket_blocks (buckets n) (buckets (n + 1))) where
+  module _ (twice : buckets (n + 1) ≡ 2 * buckets n) (room : p.room ≡ set_room (buckets (n + 1) * 32)) (at : p.place.block ≡ name.block)
+      (len : name.len ≡ buckets (n + 1) * 32)
+      (there : is_some (get_or taken.blocks name.block None) ≡ true) (held : total taken.blocks
+      ≡ bucket_blocks (buckets n) (buckets (n + 1))) where
     large : 8192 < buckets (n + 1) * 32
     large = omega (arith, twice, some_buckets n)
 
@@ -143,7 +162,15 @@ module _ (s : SetState) (n : ℕ) (name : ChunkName) (p : Piece) where
     size = p.room + 8
 
     size_is : size ≡ array_block (buckets (n + 1))
-    size_is = omega (arith, room, large_room (buckets (n + 1) * 32) large, own_block (buckets (n + 1)) (omega (arith, twice, some_buckets n)), twice, some_buckets n)
+    size_is = omega (
+      arith,
+      room,
+      large_room (buckets (n + 1) * 32) large,
+      own_block (buckets (n + 1))
+          (omega (arith, twice, some_buckets n)),
+      twice,
+      some_buckets n,
+    )
 
     blocks_are : taken.blocks ≡ with_block s.blocks name.block size
     blocks_are =
@@ -162,9 +189,23 @@ module _ (s : SetState) (n : ℕ) (name : ChunkName) (p : Piece) where
         let block : array_block (buckets n) ≡ 32 * buckets n + 8 = own_block (buckets n) long in
         let was : size_at s.blocks old.block ≡ array_block (buckets n) = is.size.own long in
         let sum : total taken.blocks ≡ total (with_block s.blocks name.block size) = ap total blocks_are in
-        let both : bucket_blocks (buckets n) (buckets (n + 1)) ≡ 16384 + array_block (buckets (n + 1)) + array_block (buckets n) = array_beside (buckets n) (buckets (n + 1)) (λ same. omega (arith, same, twice, some_buckets n)) in
-        let differ : old.block ≢ name.block = λ same. omega (arith, block, was, sum, held, is.held, both, size_is, array_alone (buckets n), sum_with s.blocks name.block size, ap (size_at s.blocks) same) in
-        ap (λ bs. size_at bs old.block) blocks_are ∙ size_beside s.blocks name.block size old.block (omega (arith, block, was)) differ ∙ was in
+        let both : bucket_blocks (buckets n) (buckets (n + 1)) ≡ 16384 + array_block (buckets (n + 1))
+        + array_block (buckets n) = array_beside (buckets n) (buckets (n + 1)) (λ same. omega (arith, same, twice, some_buckets n)) in
+        let differ : old.block ≢ name.block = λ same. omega (
+          arith,
+          block,
+          was,
+          sum,
+          held,
+          is.held,
+          both,
+          size_is,
+          array_alone (buckets n),
+          sum_with s.blocks name.block size,
+          ap (size_at s.blocks) same,
+        ) in
+        ap (λ bs. size_at bs old.block) blocks_are ∙ size_beside s.blocks name.block size old.block (omega (arith, block, was)) differ
+        ∙ was in
         record {
           older = (record { len = is.size.len; own = own }, omega (arith, twice, some_buckets n));
           size = record { len = omega (arith, len); own = λ long. new_size };
@@ -176,10 +217,12 @@ pub total_without : (bs : List (Option ℕ)) (block : ℕ) → total (slice_set 
 total_without bs block = total-set_none bs block
 
 pub size_without : (bs : List (Option ℕ)) (block other : ℕ) → other ≢ block → size_at (slice_set bs block None) other ≡ size_at bs other
-size_without bs block other differ = ap (λ o. unwrap_or o 0) (Rattle.std.proofs.lemmas.List.get_or-set_other bs block other None None differ)
+size_without bs block other differ = ap (λ o. unwrap_or o 0) (Rattle.std.proofs.lemmas.List.get_or-set_other bs block other None None
+    differ)
 
 -- there was none
-module _ (s m : SetState) (old name : ChunkName) (n : ℕ) (is : AreArraysHeld s (Some old) name n) (same : m.blocks ≡ s.blocks) (room : (piece_at m.chunks (place_of old)).room ≡ set_room old.len) where
+module _ (s m : SetState) (old name : ChunkName) (n : ℕ) (is : AreArraysHeld s (Some old) name n) (same : m.blocks ≡ s.blocks)
+    (room : (piece_at m.chunks (place_of old)).room ≡ set_room old.len) where
   abbrev r : ℕ
   r = (piece_at m.chunks (place_of old)).room
 
@@ -197,11 +240,16 @@ module _ (s m : SetState) (old name : ChunkName) (n : ℕ) (is : AreArraysHeld s
       let was : size_at s.blocks old.block ≡ array_block (buckets n) = is.older.0.own long in
       let now : size_at s.blocks name.block ≡ array_block (buckets (n + 1)) = is.size.own (omega (arith, long, is.older.1)) in
       let small : array_block (buckets n) ≡ 32 * buckets n + 8 = own_block (buckets n) long in
-      let large : array_block (buckets (n + 1)) ≡ 32 * buckets (n + 1) + 8 = own_block (buckets (n + 1)) (omega (arith, long, is.older.1)) in
+      let large : array_block (buckets (n + 1)) ≡ 32 * buckets (n + 1) + 8 = own_block (buckets (n + 1)) (omega (arith, long, is.older.1))
+      in
       let differ : name.block ≢ old.block = λ equal. omega (arith, was, now, small, large, is.older.1, ap (size_at s.blocks) equal) in
       record {
         some = omega arith;
-        size = record { len = is.size.len; own = λ more. ap (λ bs. size_at bs name.block) kept ∙ size_without s.blocks old.block name.block differ ∙ now };
+        size = record {
+          len = is.size.len;
+          own = λ more. ap (λ bs. size_at bs name.block) kept
+              ∙ size_without s.blocks old.block name.block differ ∙ now;
+        };
         held = omega (arith, ap total kept, total_without s.blocks old.block, was, is.held, sum, array_alone (buckets (n + 1)));
       }
 
@@ -214,5 +262,6 @@ module _ (s m : SetState) (old name : ChunkName) (n : ℕ) (is : AreArraysHeld s
     | inr least ↦
         let short : old.len ≤ 8192 = omega (arith, is.older.0.len, least) in
         let kept : nat_lt LARGEST r ≡ false = le-ltb LARGEST r (omega (arith, room, short_room old.len short)) in
-        settled_by (ap (λ b. cond b (slice_set m.blocks old.block None) m.blocks) kept ∙ same) (ap (λ (c : Bool). if c then 32 * buckets n + 8 else 0) (le-ltb 256 (buckets n) least))
+        settled_by (ap (λ b. cond b (slice_set m.blocks old.block None) m.blocks) kept ∙ same) (ap (λ (c : Bool). if c then 32 * buckets n
+        + 8 else 0) (le-ltb 256 (buckets n) least))
   ]

@@ -1,10 +1,13 @@
 -- A table is cleared.
-use Rattle.std.specs.Prelude.{◌≡◌, ◌≢◌, refl, ℕ, zero, suc, ◌+◌, ◌<◌, ◌⊎◌, ◌==◌, ◌&&◌, not, Bool, true, false, List, [], ◌∷◌, Option, Some, None, length, get_or, slice_set, replicate, unwrap_or, is_some}
+use Rattle.std.specs.Prelude.{◌≡◌, ◌≢◌, refl, ℕ, zero, suc, ◌+◌, ◌<◌, ◌⊎◌, ◌==◌, ◌&&◌, not, Bool, true, false, List, [], ◌∷◌, Option, Some}
+use Rattle.std.specs.Prelude.{None, length, get_or, slice_set, replicate, unwrap_or, is_some}
 use Rattle.std.proofs.Common.{inl, inr, sym, ◌∙◌, ap, subst, arith}
 use Rattle.std.proofs.lemmas.Bool.{cond-false, eq-eqb, false≢true}
 use Rattle.std.proofs.lemmas.List.{get_or-set_same, get_or-set_other}
 use Rattle.context_tree.specs.SlotLaws.{parent-is}
-use Rattle.group_table.proofs.Words.{size_at, total, only, SetState, new_set, set_reset, no_context, reset_context, held_by, parent_of, stamp_of, is_below, is_under, cleared, TreeState, IsWhole, context_at, reset, Context, Slab, Bump, ContextId, IsBump, IsSlabOf, IsFirst, HasSpace}
+use Rattle.group_table.proofs.Words.{size_at, total, only, SetState, new_set, set_reset, no_context, reset_context, held_by, parent_of}
+use Rattle.group_table.proofs.Words.{stamp_of, is_below, is_under, cleared, TreeState, IsWhole, context_at, reset, Context, Slab, Bump}
+use Rattle.group_table.proofs.Words.{ContextId, IsBump, IsSlabOf, IsFirst, HasSpace}
 use Rattle.group_table.proofs.ChildLaws.{cleared_at, not_above}
 use Rattle.std.proofs.Math.Bool.{and-false}
 
@@ -20,7 +23,8 @@ module _ (tree : TreeState) (id : ContextId) where
   pub link_kept : (k : ℕ) → gone k ≡ false → get_or (reset tree id).links k None ≡ get_or tree.links k None
   link_kept k stays = cleared_at gone None tree.links k ∙ cond-false (gone k) None (get_or tree.links k None) stays
 
-  pub context_kept : (other : ContextId) → gone other.slot ≡ false → other.slot ≢ id.slot → context_at (reset tree id) other ≡ context_at tree other
+  pub context_kept : (other : ContextId) → gone other.slot ≡ false → other.slot ≢ id.slot → context_at (reset tree id) other
+      ≡ context_at tree other
   context_kept other stays differ =
       get_or-set_other (cleared gone no_context 0 tree.contexts) id.slot other.slot (reset_context (context_at tree id)) no_context differ
       ∙ cleared_at gone no_context tree.contexts other.slot ∙ cond-false (gone other.slot) no_context (context_at tree other) stays
@@ -32,12 +36,14 @@ module _ (tree : TreeState) (id : ContextId) where
 
   -- it is not below itself, and what it was made below is not below it
   pub not_self : gone id.slot ≡ false
-  not_self = ap (λ b. is_below tree.links id.slot id.slot && not b) (eq-eqb id.slot id.slot refl) ∙ and-false (is_below tree.links id.slot id.slot)
+  not_self = ap (λ b. is_below tree.links id.slot id.slot && not b) (eq-eqb id.slot id.slot refl)
+      ∙ and-false (is_below tree.links id.slot id.slot)
 
   pub not_parent : IsWhole tree → (p : ℕ) → parent_of (get_or tree.links id.slot None) ≡ Some p → gone p ≡ false
   unfolding is_below
   not_parent whole p up =
-      ap (λ b. b && not (p == id.slot)) (not_above tree.links whole.forest (stamp_of (get_or tree.links p None)) id.slot p (parent-is tree.links whole.forest id.slot (get_or tree.links id.slot None) refl p up).0)
+      ap (λ b. b && not (p == id.slot)) (not_above tree.links whole.forest (stamp_of (get_or tree.links p None)) id.slot p
+      (parent-is tree.links whole.forest id.slot (get_or tree.links id.slot None) refl p up).0)
 
 -- a set that is reset has its first block alone
 pub total_none : (n : ℕ) → total (replicate n None) ≡ 0
@@ -63,9 +69,22 @@ reset_by : (s : SetState) (f : Option ℕ) → s.first ≡ f → IsFirst s → I
 reset_by s None none first =
     let blocks : s.blocks ≡ [] = first.none none in
     let new : set_reset s ≡ new_set =
-    ap (λ f. record { chunks = []; blocks = only s.blocks f; free = []; left = Rattle.chunk_contexts.specs.Set.first_size s.blocks f; next = Rattle.std.specs.Prelude.if◌then◌else◌ (is_some f) 16384 8192; first = f }) none
+    ap (λ f. record {
+      chunks = [];
+      blocks = only s.blocks f;
+      free = [];
+      left = Rattle.chunk_contexts.specs.Set.first_size s.blocks f;
+      next =
+          Rattle.std.specs.Prelude.if◌then◌else◌ (is_some f) 16384 8192;
+      first = f;
+    }) none
     ∙ ap (λ (bs : List (Option ℕ)). record { chunks = []; blocks = only bs None; free = []; left = 0; next = 8192; first = None }) blocks in
-    subst IsReset (sym new) (record { first = record { none = λ e. refl; size = λ block e. absurd (false≢true (ap is_some e)) }; space = inl refl; held = inl refl })
+    subst IsReset (sym new) (record {
+      first = record { none = λ e. refl; size = λ block e. absurd (false≢true (ap is_some e)) };
+      space = inl
+          refl;
+      held = inl refl;
+    })
 reset_by s (Some f) some first =
     let size : size_at s.blocks f ≡ 16384 = first.size f some in
     let low : f < length s.blocks = size_low s.blocks f size in
@@ -78,7 +97,8 @@ reset_by s (Some f) some first =
         size = λ block e.
             let one : f ≡ block = ap (λ o. unwrap_or o block) (sym some ∙ e) in
             ap (λ bs. size_at bs block) blocks ∙ ap (λ n. size_at (only s.blocks (Some f)) n) (sym one)
-            ∙ ap (λ o. unwrap_or o 0) (get_or-set_same (replicate (length s.blocks) None) f (get_or s.blocks f None) None (subst (λ n. f < n) (sym (Rattle.std.proofs.lemmas.List.length-replicate (length s.blocks) None)) low)) ∙ size;
+            ∙ ap (λ o. unwrap_or o 0) (get_or-set_same (replicate (length s.blocks) None) f (get_or s.blocks f None) None
+            (subst (λ n. f < n) (sym (Rattle.std.proofs.lemmas.List.length-replicate (length s.blocks) None)) low)) ∙ size;
       };
       space = inr (record { some = ap is_some some; left = omega (arith, left); most = omega (arith, all) });
       held = inr all;

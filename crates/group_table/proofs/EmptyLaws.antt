@@ -1,11 +1,16 @@
 -- What the clearing of a table leaves of its tree, and what is held then.
-use Rattle.std.specs.Prelude.{◌≡◌, ◌≢◌, refl, ℕ, ◌+◌, ◌≤◌, ◌==◌, ◌&&◌, not, Bool, false, List, [], None, length, get_or, ◌⊎◌, slice_get, is_some, Some}
+use Rattle.std.specs.Prelude.{◌≡◌, ◌≢◌, refl, ℕ, ◌+◌, ◌≤◌, ◌==◌, ◌&&◌, not, Bool, false, List, [], None, length, get_or, ◌⊎◌, slice_get}
+use Rattle.std.specs.Prelude.{is_some, Some}
 use Rattle.std.proofs.Common.{sym, ◌∙◌, ap, subst, arith, inl, inr}
 use Rattle.std.proofs.lemmas.Bool.{false≢true}
 use Rattle.std.proofs.lemmas.List.{length-set}
-use Rattle.group_table.proofs.Words.{no_context, reset_context, held_by, is_below, is_under, cleared, TreeState, IsWhole, context_at, reset, held_below, ContextId, TableState, held_in, IsEmptied, IsFirst, HasArray, IsPlaced, IsTableIn, KeepsBeside, IsBump, IsSlabOf, HasSpace, IsRunWith, IsSlabWith, HoldsArray, HoldsKeyBlocks, HoldsStates, HoldsKeys, total, SetState, set_reset, AllocSet, IsCleared, Slot}
+use Rattle.group_table.proofs.Words.{no_context, reset_context, held_by, is_below, is_under, cleared, TreeState, IsWhole, context_at, reset}
+use Rattle.group_table.proofs.Words.{held_below, ContextId, TableState, held_in, IsEmptied, IsFirst, HasArray, IsPlaced, IsTableIn}
+use Rattle.group_table.proofs.Words.{KeepsBeside, IsBump, IsSlabOf, HasSpace, IsRunWith, IsSlabWith, HoldsArray, HoldsKeyBlocks}
+use Rattle.group_table.proofs.Words.{HoldsStates, HoldsKeys, total, SetState, set_reset, AllocSet, IsCleared, Slot}
 use Rattle.group_table.proofs.ChildLaws.{below_self, placed_alike}
-use Rattle.group_table.proofs.ClearLaws.{length_cleared, link_kept, context_kept, not_self, not_parent, context_reset, IsReset, set_is_reset, bump_reset, slab_reset_of}
+use Rattle.group_table.proofs.ClearLaws.{length_cleared, link_kept, context_kept, not_self, not_parent, context_reset, IsReset}
+use Rattle.group_table.proofs.ClearLaws.{set_is_reset, bump_reset, slab_reset_of}
 use Rattle.group_table.proofs.SpaceLaws.{set_map, run_empty, slab_empty}
 use Rattle.group_table.proofs.HeldLaws.{below_less, held_at_least, held_reset}
 use Rattle.group_table.proofs.StandLaws.{SetOf, set_of, set_with}
@@ -18,14 +23,16 @@ module _ (tree after : TreeState) (id : ContextId) (is : after ≡ reset tree id
   pub link_beside : (slot : ℕ) → is_below tree.links id.slot slot ≡ false → get_or after.links slot None ≡ get_or tree.links slot None
   link_beside slot beside = ap (λ (x : TreeState). get_or x.links slot None) is ∙ link_kept tree id slot (not_under slot beside)
 
-  pub context_beside : (slot : ℕ) → is_below tree.links id.slot slot ≡ false → get_or after.contexts slot no_context ≡ get_or tree.contexts slot no_context
+  pub context_beside : (slot : ℕ) → is_below tree.links id.slot slot ≡ false → get_or after.contexts slot no_context
+      ≡ get_or tree.contexts slot no_context
   context_beside slot beside =
       ap (λ (x : TreeState). get_or x.contexts slot no_context) is
       ∙ context_kept tree id (record { slot = slot; stamp = 0 }) (not_under slot beside)
       (λ same. false≢true (sym beside ∙ ap (λ (k : ℕ). is_below tree.links id.slot k) same ∙ below_self tree.links id.slot))
 
   pub still_beside : (above slot : ℕ) → is_below tree.links above slot ≡ false → is_below after.links above slot ≡ false
-  still_beside above slot beside = ap (λ (x : TreeState). is_below x.links above slot) is ∙ below_less (is_under tree.links id.slot) tree.links above slot beside
+  still_beside above slot beside = ap (λ (x : TreeState). is_below x.links above slot) is
+      ∙ below_less (is_under tree.links id.slot) tree.links above slot beside
 
   pub last_kept : after.last ≡ tree.last
   last_kept = ap (λ (x : TreeState). x.last) is
@@ -36,11 +43,24 @@ module _ (tree after : TreeState) (id : ContextId) (is : after ≡ reset tree id
       ∙ length-set (cleared (is_under tree.links id.slot) no_context 0 tree.contexts) id.slot (reset_context (context_at tree id))
       ∙ length_cleared tree id (is_under tree.links id.slot) no_context 0 tree.contexts
 
-  pub other_kept : (other : ContextId) → is_under tree.links id.slot other.slot ≡ false → other.slot ≢ id.slot → held_by (context_at after other) ≡ held_by (context_at tree other)
-  other_kept other stays differ = ap (λ (x : TreeState). held_by (context_at x other)) is ∙ ap held_by (context_kept tree id other stays differ)
+  pub other_kept : (other : ContextId) → is_under tree.links id.slot other.slot ≡ false → other.slot ≢ id.slot
+      → held_by (context_at after other) ≡ held_by (context_at tree other)
+  other_kept other stays differ = ap (λ (x : TreeState). held_by (context_at x other)) is
+      ∙ ap held_by (context_kept tree id other stays differ)
 
 abbrev pub cleared_with : {H : Type 0} → TableState H → ℕ → TableState H
-cleared_with t n = record { parent = t.parent; buckets = t.buckets; keys = t.keys; states = t.states; width = t.width; hash = t.hash; array = None; slots = []; spare = n }
+cleared_with t n = record {
+  parent = t.parent;
+  buckets = t.buckets;
+  keys = t.keys;
+  states = t.states;
+  width = t.width;
+  hash = t.hash;
+  array
+      = None;
+  slots = [];
+  spare = n;
+}
 
 -- what is so once a table was cleared
 pub record Clears {H : Type 0} (hash_of : H → List ℕ → ℕ) (t : TableState H) (before after : TreeState) : Type 0 where
@@ -57,19 +77,29 @@ module _ {H : Type 0} (hash_of : H → List ℕ → ℕ) (t : TableState H) (t0 
   p0 = is.standing.placed
 
   pub p1 : IsPlaced t t1
-  p1 = rw e1 (placed_alike t t0 (reset t0 t.buckets) (subst IsWhole e1 w1) (link_kept t0 t.buckets t.parent.slot (not_parent t0 t.buckets w0 t.parent.slot p0.buckets.up)) (link_kept t0 t.buckets t.buckets.slot (not_self t0 t.buckets)) (link_kept t0 t.buckets t.keys.slot p0.keys_apart.not_first) (link_kept t0 t.buckets t.states.slot p0.states_apart.not_first) p0)
+  p1 = rw e1 (placed_alike t t0 (reset t0 t.buckets) (subst IsWhole e1 w1)
+      (link_kept t0 t.buckets t.parent.slot (not_parent t0 t.buckets w0 t.parent.slot p0.buckets.up))
+      (link_kept t0 t.buckets t.buckets.slot (not_self t0 t.buckets)) (link_kept t0 t.buckets t.keys.slot p0.keys_apart.not_first)
+      (link_kept t0 t.buckets t.states.slot p0.states_apart.not_first) p0)
 
   module _ (e2 : t2 ≡ reset t1 t.keys) (w2 : IsWhole t2) where
     pub p2 : IsPlaced t t2
-    p2 = rw e2 (placed_alike t t1 (reset t1 t.keys) (subst IsWhole e2 w2) (link_kept t1 t.keys t.parent.slot (not_parent t1 t.keys w1 t.parent.slot p1.keys.up)) (link_kept t1 t.keys t.buckets.slot p1.keys_apart.not_last) (link_kept t1 t.keys t.keys.slot (not_self t1 t.keys)) (link_kept t1 t.keys t.states.slot p1.both_apart.not_first) p1)
+    p2 = rw e2 (placed_alike t t1 (reset t1 t.keys) (subst IsWhole e2 w2)
+        (link_kept t1 t.keys t.parent.slot (not_parent t1 t.keys w1 t.parent.slot p1.keys.up))
+        (link_kept t1 t.keys t.buckets.slot p1.keys_apart.not_last) (link_kept t1 t.keys t.keys.slot (not_self t1 t.keys))
+        (link_kept t1 t.keys t.states.slot p1.both_apart.not_first) p1)
 
     module _ (e3 : t3 ≡ reset t2 t.states) (w3 : IsWhole t3) where
       p3 : IsPlaced t t3
-      p3 = rw e3 (placed_alike t t2 (reset t2 t.states) (subst IsWhole e3 w3) (link_kept t2 t.states t.parent.slot (not_parent t2 t.states w2 t.parent.slot p2.states.up)) (link_kept t2 t.states t.buckets.slot p2.states_apart.not_last) (link_kept t2 t.states t.keys.slot p2.both_apart.not_last) (link_kept t2 t.states t.states.slot (not_self t2 t.states)) p2)
+      p3 = rw e3 (placed_alike t t2 (reset t2 t.states) (subst IsWhole e3 w3)
+          (link_kept t2 t.states t.parent.slot (not_parent t2 t.states w2 t.parent.slot p2.states.up))
+          (link_kept t2 t.states t.buckets.slot p2.states_apart.not_last) (link_kept t2 t.states t.keys.slot p2.both_apart.not_last)
+          (link_kept t2 t.states t.states.slot (not_self t2 t.states)) p2)
 
       b3 : context_at t3 t.buckets ≡ reset_context (context_at t0 t.buckets)
       b3 =
-          ap (λ (x : TreeState). context_at x t.buckets) e3 ∙ context_kept t2 t.states t.buckets p2.states_apart.not_last p2.states_apart.differ
+          ap (λ (x : TreeState). context_at x t.buckets) e3 ∙ context_kept t2 t.states t.buckets p2.states_apart.not_last
+          p2.states_apart.differ
           ∙ ap (λ (x : TreeState). context_at x t.buckets) e2 ∙ context_kept t1 t.keys t.buckets p1.keys_apart.not_last p1.keys_apart.differ
           ∙ ap (λ (x : TreeState). context_at x t.buckets) e1 ∙ context_reset t0 t.buckets p0.buckets.within
 
@@ -77,13 +107,16 @@ module _ {H : Type 0} (hash_of : H → List ℕ → ℕ) (t : TableState H) (t0 
       k3 =
           ap (λ (x : TreeState). context_at x t.keys) e3 ∙ context_kept t2 t.states t.keys p2.both_apart.not_last p2.both_apart.differ
           ∙ ap (λ (x : TreeState). context_at x t.keys) e2 ∙ context_reset t1 t.keys p1.keys.within
-          ∙ ap reset_context (ap (λ (x : TreeState). context_at x t.keys) e1 ∙ context_kept t0 t.buckets t.keys p0.keys_apart.not_first (λ same. p0.keys_apart.differ (sym same)))
+          ∙ ap reset_context (ap (λ (x : TreeState). context_at x t.keys) e1
+          ∙ context_kept t0 t.buckets t.keys p0.keys_apart.not_first (λ same. p0.keys_apart.differ (sym same)))
 
       s3 : context_at t3 t.states ≡ reset_context (context_at t0 t.states)
       s3 =
           ap (λ (x : TreeState). context_at x t.states) e3 ∙ context_reset t2 t.states p2.states.within
-          ∙ ap reset_context (ap (λ (x : TreeState). context_at x t.states) e2 ∙ context_kept t1 t.keys t.states p1.both_apart.not_first (λ same. p1.both_apart.differ (sym same))
-          ∙ ap (λ (x : TreeState). context_at x t.states) e1 ∙ context_kept t0 t.buckets t.states p0.states_apart.not_first (λ same. p0.states_apart.differ (sym same)))
+          ∙ ap reset_context (ap (λ (x : TreeState). context_at x t.states) e2
+          ∙ context_kept t1 t.keys t.states p1.both_apart.not_first (λ same. p1.both_apart.differ (sym same))
+          ∙ ap (λ (x : TreeState). context_at x t.states) e1 ∙ context_kept t0 t.buckets t.states p0.states_apart.not_first
+          (λ same. p0.states_apart.differ (sym same)))
 
       abbrev P : SetState → Type 0
       P s = IsFirst s × HasArray hash_of t (context_at t0 t.keys) t.array s
@@ -109,9 +142,18 @@ module _ {H : Type 0} (hash_of : H → List ℕ → ℕ) (t : TableState H) (t0 
       table_cleared : (n : ℕ) → IsTableIn hash_of (cleared_with t n) t3
       table_cleared n = record {
         standing = record {
-          placed = record { parent = p3.parent; buckets = p3.buckets; keys = p3.keys; states = p3.states; keys_apart = p3.keys_apart; states_apart = p3.states_apart; both_apart = p3.both_apart };
+          placed = record {
+            parent = p3.parent;
+            buckets = p3.buckets;
+            keys = p3.keys;
+            states = p3.states;
+            keys_apart = p3.keys_apart;
+            states_apart = p3.states_apart;
+            both_apart = p3.both_apart;
+          };
           stands = record {
-            set = set_with (λ s. IsFirst s × HasArray hash_of (cleared_with t n) (context_at t3 t.keys) None s) (context_at t3 t.buckets) (set_reset set.state) set_now (now.first, refl);
+            set = set_with (λ s. IsFirst s × HasArray hash_of (cleared_with t n) (context_at t3 t.keys) None s) (context_at t3 t.buckets)
+                (set_reset set.state) set_now (now.first, refl);
             run = subst IsBump (sym k3) run.0;
             slab = subst (IsSlabOf t.width) (sym s3) slab.0;
             width = is.standing.stands.width;
@@ -127,7 +169,8 @@ module _ {H : Type 0} (hash_of : H → List ℕ → ℕ) (t : TableState H) (t0 
         space = set_with (HasSpace None) (context_at t3 t.buckets) (set_reset set.state) set_now now.space;
       }
 
-      held_of : (total (set_reset set.state).blocks ≡ 0) ⊎ (total (set_reset set.state).blocks ≡ 16384) → (held_by (context_at t3 t.buckets) ≡ 0) ⊎ (held_by (context_at t3 t.buckets) ≡ 16384)
+      held_of : (total (set_reset set.state).blocks ≡ 0) ⊎ (total (set_reset set.state).blocks ≡ 16384)
+          → (held_by (context_at t3 t.buckets) ≡ 0) ⊎ (held_by (context_at t3 t.buckets) ≡ 16384)
       held_of (inl nothing) = inl (ap held_by set_now ∙ nothing)
       held_of (inr block) = inr (ap held_by set_now ∙ block)
 
@@ -139,11 +182,13 @@ module _ {H : Type 0} (hash_of : H → List ℕ → ℕ) (t : TableState H) (t0 
         last = last_kept t2 t3 t.states e3 ∙ last_kept t1 t2 t.keys e2 ∙ last_kept t0 t1 t.buckets e1;
         number = number_kept t2 t3 t.states e3 ∙ number_kept t1 t2 t.keys e2 ∙ number_kept t0 t1 t.buckets e1;
         links = λ slot beside.
-            link_beside t2 t3 t.states e3 slot (still_beside t1 t2 t.keys e2 t.states.slot slot (still_beside t0 t1 t.buckets e1 t.states.slot slot beside.states))
+            link_beside t2 t3 t.states e3 slot
+            (still_beside t1 t2 t.keys e2 t.states.slot slot (still_beside t0 t1 t.buckets e1 t.states.slot slot beside.states))
             ∙ link_beside t1 t2 t.keys e2 slot (still_beside t0 t1 t.buckets e1 t.keys.slot slot beside.keys)
             ∙ link_beside t0 t1 t.buckets e1 slot beside.buckets;
         contexts = λ slot beside.
-            context_beside t2 t3 t.states e3 slot (still_beside t1 t2 t.keys e2 t.states.slot slot (still_beside t0 t1 t.buckets e1 t.states.slot slot beside.states))
+            context_beside t2 t3 t.states e3 slot
+            (still_beside t1 t2 t.keys e2 t.states.slot slot (still_beside t0 t1 t.buckets e1 t.states.slot slot beside.states))
             ∙ context_beside t1 t2 t.keys e2 slot (still_beside t0 t1 t.buckets e1 t.keys.slot slot beside.keys)
             ∙ context_beside t0 t1 t.buckets e1 slot beside.buckets;
       }
@@ -166,16 +211,34 @@ module _ {H : Type 0} (hash_of : H → List ℕ → ℕ) (t : TableState H) (t0 
         array = refl;
         keys = is_cleared.keys;
         states = is_cleared.states;
-        buckets = omega (arith, alone, less_held, is_cleared.keys, is_cleared.states, held_at_least t3 t.parent t.buckets p3.buckets.below p3.buckets.within);
+        buckets = omega (
+          arith,
+          alone,
+          less_held,
+          is_cleared.keys,
+          is_cleared.states,
+          held_at_least t3 t.parent t.buckets p3.buckets.below
+              p3.buckets.within,
+        );
       }
 
       holds_none : (n : ℕ) → held_below t0 t.parent ≡ held_in t t0 → HoldsKeys (cleared_with t n) t3
       holds_none n alone = record {
         alone = omega (arith, (is_emptied n alone).buckets, is_cleared.keys, is_cleared.states);
-        in_buckets = set_map (λ s. IsFirst s × HasArray hash_of (cleared_with t n) (context_at t3 t.keys) None s) (HoldsArray None 0) (context_at t3 t.buckets) (λ s held. refl) (table_cleared n).standing.stands.set;
+        in_buckets = set_map (λ s. IsFirst s × HasArray hash_of (cleared_with t n) (context_at t3 t.keys) None s) (HoldsArray None 0)
+            (context_at t3 t.buckets) (λ s held. refl) (table_cleared n).standing.stands.set;
         in_keys = subst (IsRunWith (HoldsKeyBlocks [])) (sym k3) (run_empty (context_at t0 t.keys) is.standing.stands.run);
-        in_states = subst (IsSlabWith (HoldsStates t.width 0)) (sym s3) (slab_empty t.width (context_at t0 t.states) is.standing.stands.slab);
+        in_states = subst (IsSlabWith (HoldsStates t.width 0)) (sym s3)
+            (slab_empty t.width (context_at t0 t.states) is.standing.stands.slab);
       }
 
       pub clears : Clears hash_of t t0 t3
-      clears = record { table = table_cleared; held = is_cleared; beside = keeps_beside; rest = less_held; emptied = is_emptied; holds = holds_none }
+      clears = record {
+        table = table_cleared;
+        held = is_cleared;
+        beside = keeps_beside;
+        rest = less_held;
+        emptied = is_emptied;
+        holds =
+            holds_none;
+      }

@@ -1,7 +1,9 @@
 -- A group is taken, step by step.
 use Rattle.std.specs.Prelude.{◌≡◌, refl, ℕ, ◌+◌, ◌/◌, ◌≤◌, List, [], ◌∷◌, ◌++◌, Option, Some, None, option_map, slice_get}
 use Rattle.std.proofs.Common.{sym, ◌∙◌, ap, subst, arith, rules}
-use Rattle.group_table.proofs.Words.{ChunkName, growth_of, held_by, TreeState, context_at, held_below, Context, TableState, group_in, groups, HasNo, IsSameBut, array_growth, group_growth, IsSetWith, HasSpace, IsArrayOf, HasArray, IsPlaced, IsTableIn, OnlyIn, HasNext, IsNext, with_next, with_slot, with_spare, Slot}
+use Rattle.group_table.proofs.Words.{ChunkName, growth_of, held_by, TreeState, context_at, held_below, Context, TableState, group_in}
+use Rattle.group_table.proofs.Words.{groups, HasNo, IsSameBut, array_growth, group_growth, IsSetWith, HasSpace, IsArrayOf, HasArray}
+use Rattle.group_table.proofs.Words.{IsPlaced, IsTableIn, OnlyIn, HasNext, IsNext, with_next, with_slot, with_spare, Slot}
 use Rattle.group_table.specs.Standing.{KeepsOthers}
 use Rattle.group_table.proofs.StandLaws.{set_of, set_with}
 use Rattle.group_table.proofs.TreeFacts.{at_other, held_changed, only_its_own}
@@ -19,8 +21,17 @@ module _ {H : Type 0} (t : TableState H) where
       absent slot (place, there) (sym (ap (λ o. (Rattle.std.specs.Prelude.unwrap_or o (group_in t b slot)).0) both) ∙ is)
 
   -- the next array changes no group
-  pub next_next : (next : Option ChunkName) (tree : TreeState) (key state : List ℕ) (slot : Slot) → IsNext t tree key state slot → IsNext (with_next t next) tree key state slot
-  next_next next tree key state slot is = record { key_live = is.key_live; key_is = is.key_is; state_live = is.state_live; state_is = is.state_is; width = is.width; own = is.own }
+  pub next_next : (next : Option ChunkName) (tree : TreeState) (key state : List ℕ) (slot : Slot) → IsNext t tree key state slot
+      → IsNext (with_next t next) tree key state slot
+  next_next next tree key state slot is = record {
+    key_live = is.key_live;
+    key_is = is.key_is;
+    state_live = is.state_live;
+    state_is =
+        is.state_is;
+    width = is.width;
+    own = is.own;
+  }
 
   pub next_but : (next : Option ChunkName) → IsSameBut t (with_next t next)
   next_but next = record { parent = refl; buckets = refl; keys = refl; states = refl; width = refl; hash = refl }
@@ -31,10 +42,12 @@ module _ {H : Type 0} (t : TableState H) where
   -- a change of the buckets leaves keys and states
   module _ (a b : TreeState) (only : OnlyIn t.buckets a b) (placed : IsPlaced t a) where
     pub keys_left : context_at b t.keys ≡ context_at a t.keys
-    keys_left = ap (λ (x : TreeState). context_at x t.keys) only ∙ at_other a t.buckets (context_at b t.buckets) t.keys (λ same. placed.keys_apart.differ (sym same))
+    keys_left = ap (λ (x : TreeState). context_at x t.keys) only
+        ∙ at_other a t.buckets (context_at b t.buckets) t.keys (λ same. placed.keys_apart.differ (sym same))
 
     pub states_left : context_at b t.states ≡ context_at a t.states
-    states_left = ap (λ (x : TreeState). context_at x t.states) only ∙ at_other a t.buckets (context_at b t.buckets) t.states (λ same. placed.states_apart.differ (sym same))
+    states_left = ap (λ (x : TreeState). context_at x t.states) only
+        ∙ at_other a t.buckets (context_at b t.buckets) t.states (λ same. placed.states_apart.differ (sym same))
 
     pub groups_left : groups t b ≡ groups t a
     groups_left = map_same (group_in t b) (group_in t a) t.slots (λ i slot there. rw (keys_left, states_left))
@@ -49,40 +62,59 @@ module _ {H : Type 0} (t : TableState H) where
     held_left = held_changed a b t.parent t.buckets only placed.buckets.below placed.buckets.within
 
   pub others_none : (a b : TreeState) → b ≡ a → KeepsOthers t a b
-  others_none a b same = subst (KeepsOthers t a) (sym same) (record { links = refl; last = refl; number = refl; others = λ slot not_buckets not_keys not_states. refl })
+  others_none a b same = subst (KeepsOthers t a) (sym same)
+      (record { links = refl; last = refl; number = refl; others = λ slot not_buckets not_keys not_states. refl })
 
   pub others_twice : (a b c : TreeState) → KeepsOthers t a b → KeepsOthers t b c → KeepsOthers t a c
   others_twice a b c first second = grind (arith, nat_tests, common_steps)
 
   -- all groups with one more
-  pub groups_pushed : (tree : TreeState) (key state : List ℕ) (slot : Slot) → IsNext t tree key state slot → groups (with_slot t slot) tree ≡ groups t tree ++ (key, state) ∷ []
+  pub groups_pushed : (tree : TreeState) (key state : List ℕ) (slot : Slot) → IsNext t tree key state slot → groups (with_slot t slot) tree
+      ≡ groups t tree ++ (key, state) ∷ []
   groups_pushed tree key state slot is = grind (arith, nat_tests, common_steps)
 
   -- room for more notes changes nothing
   module _ (hash_of : H → List ℕ → ℕ) (n : ℕ) where
-    array_spare : (keys : Context) (bytes : List ℕ) (count : ℕ) → IsArrayOf hash_of t keys bytes count → IsArrayOf hash_of (with_spare t n) keys bytes count
+    array_spare : (keys : Context) (bytes : List ℕ) (count : ℕ) → IsArrayOf hash_of t keys bytes count
+        → IsArrayOf hash_of (with_spare t n) keys bytes count
     array_spare keys bytes count is = record { index = is.index; number = is.number; kept = is.kept; only = is.only }
 
-    has_spare : (keys : Context) (array : Option ChunkName) (s : Rattle.chunk_contexts.specs.Set.SetState) → HasArray hash_of t keys array s → HasArray hash_of (with_spare t n) keys array s
+    has_spare : (keys : Context) (array : Option ChunkName) (s : Rattle.chunk_contexts.specs.Set.SetState) → HasArray hash_of t keys array s
+        → HasArray hash_of (with_spare t n) keys array s
     has_spare keys None s is = is
-    has_spare keys (Some name) s is = record { lives = is.lives; whole = is.whole; some = is.some; most = is.most; full = is.full; first = is.first; beside = is.beside; array = array_spare keys (Rattle.chunk_contexts.specs.Chunks.bytes_of s.chunks name) (name.len / 32) is.array }
+    has_spare keys (Some name) s is = record {
+      lives = is.lives;
+      whole = is.whole;
+      some = is.some;
+      most = is.most;
+      full = is.full;
+      first =
+          is.first;
+      beside = is.beside;
+      array = array_spare keys (Rattle.chunk_contexts.specs.Chunks.bytes_of s.chunks name) (name.len / 32)
+          is.array;
+    }
 
     pub spare_table : (tree : TreeState) → IsTableIn hash_of t tree → IsTableIn hash_of (with_spare t n) tree
     spare_table tree is = search rules
 
 -- where the buckets are as they were, so is the next array
-pub next_kept : {H : Type 0} (t : TableState H) (a b : TreeState) (next : Option ChunkName) → context_at b t.buckets ≡ context_at a t.buckets → IsPlaced t b → HasNext t a next → HasNext t b next
+pub next_kept : {H : Type 0} (t : TableState H) (a b : TreeState) (next : Option ChunkName) → context_at b t.buckets
+    ≡ context_at a t.buckets → IsPlaced t b → HasNext t a next → HasNext t b next
 next_kept t a b None same placed is = is
 next_kept t a b (Some name) same placed is = grind (arith, nat_tests, common_steps)
 
 -- up to where the next array is that of the table
-module _ {H : Type 0} (t : TableState H) (next : Option ChunkName) (tree a b e : TreeState) (placed : IsPlaced t tree) (first : OnlyIn t.buckets tree a)
-    (others : KeepsOthers t a b) (buckets : context_at b t.buckets ≡ context_at a t.buckets) (same : groups t b ≡ groups t a) (placed_b : IsPlaced t b) (last : OnlyIn t.buckets b e) where
+module _ {H : Type 0} (t : TableState H) (next : Option ChunkName) (tree a b e : TreeState) (placed : IsPlaced t tree)
+    (first : OnlyIn t.buckets tree a)
+    (others : KeepsOthers t a b) (buckets : context_at b t.buckets ≡ context_at a t.buckets) (same : groups t b ≡ groups t a)
+    (placed_b : IsPlaced t b) (last : OnlyIn t.buckets b e) where
   pub settled_groups : groups (with_next t next) e ≡ groups t tree
   settled_groups = groups_left t b e last placed_b ∙ same ∙ groups_left t tree a first placed
 
   pub settled_others : KeepsOthers t tree e
-  settled_others = others_twice t tree b e (others_twice t tree a b (others_left t tree a first placed) others) (others_left t b e last placed_b)
+  settled_others = others_twice t tree b e (others_twice t tree a b (others_left t tree a first placed) others)
+      (others_left t b e last placed_b)
 
   pub settled_next : (key state : List ℕ) (slot : Slot) → IsNext t b key state slot → IsNext (with_next t next) e key state slot
   settled_next key state slot is = next_next t next e key state slot (next_left t b e last placed_b key state slot is)
@@ -95,8 +127,11 @@ module _ {H : Type 0} (t : TableState H) (next : Option ChunkName) (tree a b e :
       (three : held_by (context_at e t.buckets) ≤ held_by (context_at b t.buckets)) where
     pub settled_held : held_below e t.parent ≤ held_below tree t.parent + group_growth t tree n
     settled_held =
-        let key : growth_of (context_at a t.keys) n ≡ growth_of (context_at tree t.keys) n = ap (λ (c : Context). growth_of c n) (keys_left t tree a first placed) in
-        let state : growth_of (context_at a t.states) t.width ≡ growth_of (context_at tree t.states) t.width = ap (λ (c : Context). growth_of c t.width) (states_left t tree a first placed) in
+        let key : growth_of (context_at a t.keys) n ≡ growth_of (context_at tree t.keys) n = ap (λ (c : Context). growth_of c n)
+        (keys_left t tree a first placed) in
+        let state : growth_of (context_at a t.states) t.width
+        ≡ growth_of (context_at tree t.states) t.width = ap (λ (c : Context). growth_of c t.width) (states_left t tree a first placed)
+        in
         let by : held_by (context_at b t.buckets) ≡ held_by (context_at a t.buckets) = ap held_by buckets in
         omega (arith, one, two, three, key, state, by, held_left t tree a first placed, held_left t b e last placed_b)
 
@@ -105,5 +140,7 @@ module _ {H : Type 0} (t : TableState H) where
   next_others next a b is = record { links = is.links; last = is.last; number = is.number; others = is.others }
 
 -- with an array there is nothing to ask of the space
-pub any_space : (P : Rattle.chunk_contexts.specs.Set.SetState → Type 0) (c : Context) (a : Option ChunkName) (name : ChunkName) → a ≡ Some name → IsSetWith P c → IsSetWith (HasSpace a) c
-any_space P c a name is with = let set = set_of P c with in set_with (HasSpace a) c set.state set.is (subst (λ x. HasSpace x set.state) (sym is) tt)
+pub any_space : (P : Rattle.chunk_contexts.specs.Set.SetState → Type 0) (c : Context) (a : Option ChunkName) (name : ChunkName) → a
+    ≡ Some name → IsSetWith P c → IsSetWith (HasSpace a) c
+any_space P c a name is with = let set = set_of P c with in set_with (HasSpace a) c set.state set.is
+    (subst (λ x. HasSpace x set.state) (sym is) tt)

@@ -1,8 +1,14 @@
 -- The buckets move to the next array.
-use Rattle.std.specs.Prelude.{◌≡◌, refl, ℕ, ◌+◌, ◌*◌, ◌<◌, ◌≤◌, nat_lt, Bool, true, false, cond, List, [], Option, Some, None, length, slice_get, slice_set, is_some, IsTrue}
+use Rattle.std.specs.Prelude.{◌≡◌, refl, ℕ, ◌+◌, ◌*◌, ◌<◌, ◌≤◌, nat_lt, Bool, true, false, cond, List, [], Option, Some, None, length}
+use Rattle.std.specs.Prelude.{slice_get, slice_set, is_some, IsTrue}
 use Rattle.std.proofs.Common.{sym, ◌∙◌, ap, subst, arith, rules}
 use Rattle.std.proofs.lemmas.Bool.{leb-true, false≢true}
-use Rattle.group_table.proofs.Words.{Piece, same_place, place_of, piece_at, size_at, total, Place, ChunkName, is_live, bytes_of, SetState, set_room, set_freed, chunks_of, has_chunk, chunk_bytes, without_chunk, held_by, TreeState, context_at, with_context, Context, AllocSet, bucket_at, HasAll, TableState, IsSetWith, IsBump, IsSlabOf, IsFirst, IsBesideFirst, HasArray, AreGroups, IsPlaced, IsStanding, IsArrayIn, IsArrayOf, bucket_of, IsRewritten, OnlyIn, IsSpare, bytes_at, count_of, with_next, HoldsArray, AreArraysHeld, HoldsNext, LARGEST}
+use Rattle.group_table.proofs.Words.{ChunkContents, same_place, place_of, piece_at, size_at, total, Place, ChunkName, is_live, bytes_of}
+use Rattle.group_table.proofs.Words.{SetState, set_room, set_freed, chunks_of, has_chunk, chunk_bytes, without_chunk, held_by, TreeState}
+use Rattle.group_table.proofs.Words.{context_at, with_context, Context, AllocSet, bucket_at, HasAll, TableState, IsSetWith, IsBump}
+use Rattle.group_table.proofs.Words.{IsSlabOf, IsFirst, IsBesideFirst, HasArray, AreGroups, IsPlaced, IsStanding, IsArrayIn, IsArrayOf}
+use Rattle.group_table.proofs.Words.{bucket_of, IsRewritten, OnlyIn, IsSpare, bytes_at, count_of, with_next, HoldsArray, AreArraysHeld}
+use Rattle.group_table.proofs.Words.{HoldsNext, LARGEST}
 use Rattle.chunk_contexts.specs.Chunks.{KeepsOthers}
 use Rattle.group_table.specs.Index.{in_use}
 use Rattle.group_table.proofs.ArrayLaws.{as_named, one_set}
@@ -25,13 +31,29 @@ module _ {H : Type 0} (hash_of : H → List ℕ → ℕ) (t : TableState H) (nam
 
   -- the groups are the same
   placed_moved : (tree : TreeState) → IsPlaced t tree → IsPlaced moved tree
-  placed_moved tree is = record { parent = is.parent; buckets = is.buckets; keys = is.keys; states = is.states; keys_apart = is.keys_apart; states_apart = is.states_apart; both_apart = is.both_apart }
+  placed_moved tree is = record {
+    parent = is.parent;
+    buckets = is.buckets;
+    keys = is.keys;
+    states = is.states;
+    keys_apart = is.keys_apart;
+    states_apart = is.states_apart;
+    both_apart = is.both_apart;
+  }
 
   groups_moved : (keys states : Context) → AreGroups t keys states → AreGroups moved keys states
-  groups_moved keys states is = record { keys_live = is.keys_live; states_live = is.states_live; widths = is.widths; once = is.once; own = is.own }
+  groups_moved keys states is = record {
+    keys_live = is.keys_live;
+    states_live = is.states_live;
+    widths = is.widths;
+    once = is.once;
+    own =
+        is.own;
+  }
 
   -- where there was no array, the new one has no bucket in use
-  array_of_none : (keys : Context) (bytes : List ℕ) (count : ℕ) → t.slots ≡ [] → length bytes ≡ 32 * count → ((place : ℕ) → place < count → bucket_at bytes place ≡ None) → IsArrayOf hash_of moved keys bytes count
+  array_of_none : (keys : Context) (bytes : List ℕ) (count : ℕ) → t.slots ≡ [] → length bytes ≡ 32 * count
+      → ((place : ℕ) → place < count → bucket_at bytes place ≡ None) → IsArrayOf hash_of moved keys bytes count
   unfolding in_use
   array_of_none keys bytes count none long empty =
       let all = none_yet bytes count [] long empty in
@@ -43,7 +65,8 @@ module _ {H : Type 0} (hash_of : H → List ℕ → ℕ) (t : TableState H) (nam
       }
 
   -- where there was one, it has the same
-  array_of_all : (keys : Context) (bytes : List ℕ) (count : ℕ) (old : List ℕ) (n : ℕ) → IsArrayOf hash_of t keys old n → HasAll bytes count old n → IsArrayOf hash_of moved keys bytes count
+  array_of_all : (keys : Context) (bytes : List ℕ) (count : ℕ) (old : List ℕ) (n : ℕ) → IsArrayOf hash_of t keys old n
+      → HasAll bytes count old n → IsArrayOf hash_of moved keys bytes count
   array_of_all keys bytes count old n is all = record {
     index = all.index;
     number = all.number ∙ is.number;
@@ -59,7 +82,8 @@ module _ {H : Type 0} (hash_of : H → List ℕ → ℕ) (t : TableState H) (nam
     keys = context_at tree t.keys
 
     -- the table stands where its new array does
-    module _ (after : TreeState) (only : OnlyIn t.buckets tree after) (s : SetState) (is_set : context_at after t.buckets ≡ AllocSet s) (first : IsFirst s) (some : is_some s.first ≡ true) (beside : IsBesideFirst s name)
+    module _ (after : TreeState) (only : OnlyIn t.buckets tree after) (s : SetState) (is_set : context_at after t.buckets ≡ AllocSet s)
+        (first : IsFirst s) (some : is_some s.first ≡ true) (beside : IsBesideFirst s name)
         (lives : IsTrue (is_live s.chunks name)) (array : IsArrayOf hash_of moved keys (bytes_of s.chunks name) (count_of name)) where
       same_keys : context_at after t.keys ≡ keys
       same_keys = keys_left t tree after only is.placed
@@ -69,25 +93,29 @@ module _ {H : Type 0} (hash_of : H → List ℕ → ℕ) (t : TableState H) (nam
 
       stands_moved : IsStanding hash_of moved after
       stands_moved = record {
-        placed = placed_moved after (placed_kept t tree after (same_links t.buckets tree after only) (same_number t.buckets tree after only) is.placed);
+        placed = placed_moved after (placed_kept t tree after (same_links t.buckets tree after only) (same_number t.buckets tree after only)
+            is.placed);
         stands = record {
-          set = set_with (λ x. IsFirst x × HasArray hash_of moved (context_at after t.keys) (Some name) x) (context_at after t.buckets) s is_set (
-            first,
-            record {
-              lives = lives;
-              whole = spare.array.whole;
-              some = spare.some;
-              most = spare.most;
-              full = omega (arith, spare.room);
-              first = some;
-              beside = beside;
-              array = subst (λ (k : Context). IsArrayOf hash_of moved k (bytes_of s.chunks name) (count_of name)) (sym same_keys) array;
-            },
-          );
+          set = set_with (λ x. IsFirst x × HasArray hash_of moved (context_at after t.keys) (Some name) x) (context_at after t.buckets) s
+              is_set (
+                first,
+                record {
+                  lives = lives;
+                  whole = spare.array.whole;
+                  some = spare.some;
+                  most = spare.most;
+                  full = omega (arith, spare.room);
+                  first = some;
+                  beside = beside;
+                  array = subst (λ (k : Context). IsArrayOf hash_of moved k (bytes_of s.chunks name) (count_of name)) (sym same_keys) array;
+                },
+              );
           run = subst IsBump (sym same_keys) is.stands.run;
           slab = subst (IsSlabOf t.width) (sym same_states) is.stands.slab;
           width = is.stands.width;
-          groups = subst (λ (k : Context). AreGroups moved k (context_at after t.states)) (sym same_keys) (subst (λ (c : Context). AreGroups moved keys c) (sym same_states) (groups_moved keys (context_at tree t.states) is.stands.groups));
+          groups = subst (λ (k : Context). AreGroups moved k (context_at after t.states)) (sym same_keys)
+              (subst (λ (c : Context). AreGroups moved keys c) (sym same_states)
+              (groups_moved keys (context_at tree t.states) is.stands.groups));
         };
       }
 
@@ -111,14 +139,17 @@ module _ {H : Type 0} (hash_of : H → List ℕ → ℕ) (t : TableState H) (nam
         let bytes : bytes_at tree t.buckets name ≡ bytes_of s.chunks name = ap (λ (c : Context). chunk_bytes c name) set.is in
         stands_moved tree only s set.is set.with.0 beside.0 beside.1 (live_at s set.is)
         (subst (λ bs. IsArrayOf hash_of moved keys bs (count_of name)) bytes
-        (array_of_none keys (bytes_at tree t.buckets name) (count_of name) set.with.1 (as_named b name spare.array.lives ∙ spare.array.whole) spare.empty))
+        (array_of_none keys (bytes_at tree t.buckets name) (count_of name) set.with.1 (as_named b name spare.array.lives
+        ∙ spare.array.whole) spare.empty))
 
     -- and then no other block is held
-    pub first_holds : t.array ≡ None → (number : ℕ) → IsSetWith (HoldsNext t.array (Some name) number) b → IsSetWith (HoldsArray (Some name) (number + 1)) b
+    pub first_holds : t.array ≡ None → (number : ℕ) → IsSetWith (HoldsNext t.array (Some name) number) b
+        → IsSetWith (HoldsArray (Some name) (number + 1)) b
     first_holds array number holds = search rules
 
     -- a larger one
-    module _ (old : ChunkName) (array : t.array ≡ Some old) (mid after : TreeState) (filled : OnlyIn t.buckets tree mid) (written : IsRewritten b (context_at mid t.buckets) name)
+    module _ (old : ChunkName) (array : t.array ≡ Some old) (mid after : TreeState) (filled : OnlyIn t.buckets tree mid)
+        (written : IsRewritten b (context_at mid t.buckets) name)
         (all : HasAll (bytes_at mid t.buckets name) (count_of name) (bytes_at tree t.buckets old) (count_of old))
         (gone : after ≡ with_context mid t.buckets (without_chunk (context_at mid t.buckets) (place_of old)))
         (keeps : KeepsOthers (chunks_of (context_at mid t.buckets)) (chunks_of (context_at after t.buckets)) old old) where
@@ -145,7 +176,8 @@ module _ {H : Type 0} (hash_of : H → List ℕ → ℕ) (t : TableState H) (nam
 
       pub only_moved : OnlyIn t.buckets tree after
       only_moved = only_twice t.buckets tree mid after filled
-          (gone ∙ ap (λ (c : Context). with_context mid t.buckets c) (sym (ap (λ (x : TreeState). context_at x t.buckets) gone ∙ at_same mid t.buckets (without_chunk (context_at mid t.buckets) (place_of old)) mid_within)))
+          (gone ∙ ap (λ (c : Context). with_context mid t.buckets c) (sym (ap (λ (x : TreeState). context_at x t.buckets) gone
+          ∙ at_same mid t.buckets (without_chunk (context_at mid t.buckets) (place_of old)) mid_within)))
 
       -- the set before is that of the table
       same_set : written.old ≡ s
@@ -164,10 +196,12 @@ module _ {H : Type 0} (hash_of : H → List ℕ → ℕ) (t : TableState H) (nam
       apart = same_back (place_of name) (place_of old) (spare.apart old array)
 
       -- a block that goes back is not the first
-      freed_by : (large : Bool) → nat_lt LARGEST (piece_at m.chunks (place_of old)).room ≡ large → (block : ℕ) → s.first ≡ Some block → size_at (cond large (slice_set m.blocks old.block None) m.blocks) block ≡ 16384
+      freed_by : (large : Bool) → nat_lt LARGEST (piece_at m.chunks (place_of old)).room ≡ large → (block : ℕ) → s.first ≡ Some block
+          → size_at (cond large (slice_set m.blocks old.block None) m.blocks) block ≡ 16384
       freed_by true is_large block here =
           let room : (piece_at m.chunks (place_of old)).room ≡ set_room old.len = room_at (place_of old) ∙ was.beside.room in
-          let long : 8192 < old.len = not_short (λ short. omega (arith, leb-true 8193 (piece_at m.chunks (place_of old)).room is_large, room, short_room old.len short)) in
+          let long : 8192 < old.len = not_short
+          (λ short. omega (arith, leb-true 8193 (piece_at m.chunks (place_of old)).room is_large, room, short_room old.len short)) in
           size_without m.blocks old.block block (λ same. was.beside.own long (here ∙ ap (λ x. Some x) same))
           ∙ ap (λ bs. size_at bs block) blocks_same ∙ set.with.0.size block here
         where
@@ -185,7 +219,8 @@ module _ {H : Type 0} (hash_of : H → List ℕ → ℕ) (t : TableState H) (nam
       beside_left =
           let spared = (spare_at s set.is).1 in
           record {
-            room = ap (λ (x : Piece). x.room) (piece_at-without m.chunks (place_of old) (place_of name) apart) ∙ room_at (place_of name) ∙ spared.room;
+            room = ap (λ (x : ChunkContents). x.room) (piece_at-without m.chunks (place_of old) (place_of name) apart)
+                ∙ room_at (place_of name) ∙ spared.room;
             own = λ long here. spared.own long (sym first_same ∙ here);
           }
 
@@ -209,8 +244,10 @@ module _ {H : Type 0} (hash_of : H → List ℕ → ℕ) (t : TableState H) (nam
           less true = omega (arith, total_without m.blocks old.block)
           less false = omega arith
 
-      pub larger_holds : (number : ℕ) → IsSetWith (HoldsNext t.array (Some name) number) b → IsSetWith (HoldsArray (Some name) (number + 1)) (context_at after t.buckets)
+      pub larger_holds : (number : ℕ) → IsSetWith (HoldsNext t.array (Some name) number) b
+          → IsSetWith (HoldsArray (Some name) (number + 1)) (context_at after t.buckets)
       larger_holds number holds =
           let all : AreArraysHeld s t.array name number = subst (IsSetWith (HoldsNext t.array (Some name) number)) set.is holds in
           set_with (HoldsArray (Some name) (number + 1)) (context_at after t.buckets) freed is_freed
-          (larger_settled s m old name number (subst (λ a. AreArraysHeld s a name number) array all) blocks_same (room_at (place_of old) ∙ was.beside.room))
+          (larger_settled s m old name number (subst (λ a. AreArraysHeld s a name number) array all) blocks_same (room_at (place_of old)
+          ∙ was.beside.room))

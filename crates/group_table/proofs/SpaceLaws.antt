@@ -1,10 +1,19 @@
 -- What a table holds is what is counted for its keys.
-use Rattle.std.specs.Prelude.{◌≡◌, ◌≢◌, refl, ℕ, zero, suc, ◌+◌, ◌-◌, ◌*◌, ◌<◌, ◌≤◌, ◌⊎◌, ◌==◌, ◌&&◌, ◌^◌, nat_le, ◌/◌, if◌then◌else◌, true, false, cond, List, [], ◌∷◌, ◌++◌, Option, Some, None, map, length, replicate, get_or, is_some, IsTrue, Result, Ok, Err, OnOk}
+use Rattle.std.specs.Prelude.{◌≡◌, ◌≢◌, refl, ℕ, zero, suc, ◌+◌, ◌-◌, ◌*◌, ◌<◌, ◌≤◌, ◌⊎◌, ◌==◌, ◌&&◌, ◌^◌, nat_le, ◌/◌, if◌then◌else◌, true}
+use Rattle.std.specs.Prelude.{false, cond, List, [], ◌∷◌, ◌++◌, Option, Some, None, map, length, replicate, get_or, is_some, IsTrue, Result}
+use Rattle.std.specs.Prelude.{Ok, Err, OnOk}
 use Rattle.std.proofs.Common.{inl, inr, sym, ◌∙◌, ap, subst, arith, rules}
 use Rattle.std.proofs.lemmas.Bool.{le-leb, leb-true, false_from_ne_true, false≢true, eq-eqb, ne_eqb, and_right}
 use Rattle.std.proofs.lemmas.List.{length-map, length_push}
 use Rattle.std.proofs.lemmas.Simd.{map-map}
-use Rattle.group_table.proofs.Words.{Piece, total, rewritten, is_at, with_bytes_of, Place, ChunkName, rounded, SetState, set_room, set_growth, set_taken, blocks_of, chunk_bytes, with_bytes, with_chunk, reset_context, room_in, growth_of, held_by, IsCounted, TreeState, context_at, with_context, held_below, Context, AllocSet, Slab, Bump, Key, buckets, bucket_blocks, key_blocks, state_blocks, need, held_after, fits, TableState, groups, buckets_in, buckets_for, most_buckets, array_growth, group_growth, held_in, IsSameBut, IsSetWith, IsBump, IsSlabOf, IsFirst, HasArray, HasSpace, IsPlaced, IsTableIn, IsSameFor, OnlyIn, with_next, with_spare, AreMade, ContextId, key_of, keys_in, IsRunWith, IsSlabWith, HoldsArray, AreArraysHeld, HoldsNext, HoldsKeyBlocks, AreOfSize, HoldsStates, HoldsKeys, Slot}
+use Rattle.group_table.proofs.Words.{ChunkContents, total, rewritten, is_at, with_bytes_of, Place, ChunkName, rounded, SetState, set_room}
+use Rattle.group_table.proofs.Words.{set_growth, set_taken, blocks_of, chunk_bytes, with_bytes, with_chunk, reset_context, room_in}
+use Rattle.group_table.proofs.Words.{growth_of, held_by, IsCounted, TreeState, context_at, with_context, held_below, Context, AllocSet}
+use Rattle.group_table.proofs.Words.{Slab, Bump, Key, buckets, bucket_blocks, key_blocks, state_blocks, need, held_after, fits, TableState}
+use Rattle.group_table.proofs.Words.{groups, buckets_in, buckets_for, most_buckets, array_growth, group_growth, held_in, IsSameBut}
+use Rattle.group_table.proofs.Words.{IsSetWith, IsBump, IsSlabOf, IsFirst, HasArray, HasSpace, IsPlaced, IsTableIn, IsSameFor, OnlyIn}
+use Rattle.group_table.proofs.Words.{with_next, with_spare, AreMade, ContextId, key_of, keys_in, IsRunWith, IsSlabWith, HoldsArray}
+use Rattle.group_table.proofs.Words.{AreArraysHeld, HoldsNext, HoldsKeyBlocks, AreOfSize, HoldsStates, HoldsKeys, Slot}
 use Rattle.block_memory.specs.Cells.{zeros}
 use Rattle.chunk_contexts.specs.Chunks.{chunk_of as as_chunk}
 use Rattle.chunk_contexts.specs.Run.{RunState}
@@ -37,10 +46,15 @@ no_states width = grind (arith, nat_tests, common_steps)
 module _ {H : Type 0} (t : TableState H) where
   -- keys are those of one context
   keys_from : (tree : TreeState) → keys_in t tree ≡ map (λ (slot : Slot). chunk_bytes (context_at tree t.keys) slot.key) t.slots
-  keys_from tree = map-map key_of (λ (slot : Slot). (chunk_bytes (context_at tree t.keys) slot.key, chunk_bytes (context_at tree t.states) slot.state)) t.slots
+  keys_from tree = map-map key_of (λ (slot : Slot). (
+    chunk_bytes (context_at tree t.keys) slot.key,
+    chunk_bytes (context_at tree t.states)
+        slot.state,
+  )) t.slots
 
   pub keys_alone : (before after : TreeState) → context_at after t.keys ≡ context_at before t.keys → keys_in t after ≡ keys_in t before
-  keys_alone before after same = keys_from after ∙ ap (λ (c : Context). map (λ (slot : Slot). chunk_bytes c slot.key) t.slots) same ∙ sym (keys_from before)
+  keys_alone before after same = keys_from after ∙ ap (λ (c : Context). map (λ (slot : Slot). chunk_bytes c slot.key) t.slots) same
+      ∙ sym (keys_from before)
 
   pub as_many_keys : (tree : TreeState) → length (keys_in t tree) ≡ length t.slots
   as_many_keys tree = ap length (keys_from tree) ∙ length-map t.slots (λ (slot : Slot). chunk_bytes (context_at tree t.keys) slot.key)
@@ -49,7 +63,8 @@ module _ {H : Type 0} (t : TableState H) where
   keys_more tree key = length_push (keys_in t tree) key ∙ ap (λ n. n + 1) (as_many_keys tree)
 
 -- ---- one group more
-module _ {H : Type 0} (hash_of : H → List ℕ → ℕ) (t : TableState H) (tree : TreeState) (is : IsTableIn hash_of t tree) (holds : HoldsKeys t tree) where
+module _ {H : Type 0} (hash_of : H → List ℕ → ℕ) (t : TableState H) (tree : TreeState) (is : IsTableIn hash_of t tree)
+    (holds : HoldsKeys t tree) where
   abbrev b : Context
   b = context_at tree t.buckets
 
@@ -76,15 +91,20 @@ module _ {H : Type 0} (hash_of : H → List ℕ → ℕ) (t : TableState H) (tre
     keys = keys_in t tree ++ key ∷ []
 
     -- more buckets than there may be
-    pub none_fit : most_buckets < buckets_for (buckets_in t.array) n → (limit : ℕ) (hash : Key → ℕ) → false ≡ fits (record { limit = limit; width = t.width; hash = hash }) keys
+    pub none_fit : most_buckets < buckets_for (buckets_in t.array) n → (limit : ℕ) (hash : Key → ℕ) → false
+        ≡ fits (record { limit = limit; width = t.width; hash = hash }) keys
     none_fit many limit hash =
-        let over : nat_le (buckets (length keys)) (2 ^ 24) ≡ false = ap (λ m. nat_le (buckets m) (2 ^ 24)) (keys_more t tree key) ∙ false_from_ne_true (nat_le (buckets (n + 1)) (2 ^ 24)) (λ low. omega (arith, wanted, many, leb-true (buckets (n + 1)) (2 ^ 24) low)) in
+        let over : nat_le (buckets (length keys)) (2 ^ 24) ≡ false = ap (λ m. nat_le (buckets m) (2 ^ 24)) (keys_more t tree key)
+        ∙ false_from_ne_true (nat_le (buckets (n + 1)) (2 ^ 24))
+        (λ low. omega (arith, wanted, many, leb-true (buckets (n + 1)) (2 ^ 24) low)) in
         sym (and_right (nat_le (need t.width keys) limit) (nat_le (buckets (length keys)) (2 ^ 24)) over)
 
-    module _ (short : length key ≤ 65535) (counted : IsCounted (context_at tree t.states)) (few : buckets_for (buckets_in t.array) n ≤ most_buckets) where
+    module _ (short : length key ≤ 65535) (counted : IsCounted (context_at tree t.states))
+        (few : buckets_for (buckets_in t.array) n ≤ most_buckets) where
       buckets_grow : held_by b + array_growth t tree ≡ bucket_blocks (buckets n) (buckets (n + 1))
       buckets_grow =
-          ap (λ (c : Context). held_by c + cond (buckets_for (buckets_in t.array) n == buckets_in t.array) 0 (growth_of c (buckets_for (buckets_in t.array) n * 32))) set.is
+          ap (λ (c : Context). held_by c + cond (buckets_for (buckets_in t.array) n == buckets_in t.array) 0
+          (growth_of c (buckets_for (buckets_in t.array) n * 32))) set.is
           ∙ ap (λ w. total set.state.blocks + cond (w == buckets_in t.array) 0 (set_growth set.state (w * 32))) wanted
           ∙ array_grows t.array n set.state set.with.0 has_space array_held (subst (λ w. w ≤ most_buckets) wanted few)
 
@@ -110,30 +130,38 @@ module _ {H : Type 0} (hash_of : H → List ℕ → ℕ) (t : TableState H) (tre
           ∙ ap (λ m. bucket_blocks (buckets m) (buckets (n + 1)) + key_blocks keys + state_blocks t.width (n + 1)) before in
           omega (arith, holds.alone, buckets_grow, keys_grow, states_grow, counts)
 
-      pub fit_is : (bytes : ℕ) → bytes ≡ held_below tree t.parent + group_growth t tree (length key) → (limit : ℕ) (hash : Key → ℕ) → nat_le bytes limit ≡ fits (record { limit = limit; width = t.width; hash = hash }) keys
+      pub fit_is : (bytes : ℕ) → bytes ≡ held_below tree t.parent + group_growth t tree (length key) → (limit : ℕ) (hash : Key → ℕ)
+          → nat_le bytes limit ≡ fits (record { limit = limit; width = t.width; hash = hash }) keys
       fit_is bytes told limit hash =
-          let low : nat_le (buckets (length keys)) (2 ^ 24) ≡ true = ap (λ m. nat_le (buckets m) (2 ^ 24)) (keys_more t tree key) ∙ le-leb (buckets (n + 1)) (2 ^ 24) (omega (arith, wanted, few)) in
-          ap (λ m. nat_le m limit) (told ∙ need_is) ∙ sym (ap (λ b. nat_le (need t.width keys) limit && b) low ∙ and-true (nat_le (need t.width keys) limit))
+          let low : nat_le (buckets (length keys)) (2 ^ 24) ≡ true = ap (λ m. nat_le (buckets m) (2 ^ 24)) (keys_more t tree key)
+          ∙ le-leb (buckets (n + 1)) (2 ^ 24) (omega (arith, wanted, few)) in
+          ap (λ m. nat_le m limit) (told ∙ need_is) ∙ sym (ap (λ b. nat_le (need t.width keys) limit && b) low
+          ∙ and-true (nat_le (need t.width keys) limit))
 
   -- what is held between two groups
   key_blocks_held : held_by (context_at tree t.keys) ≡ key_blocks (keys_in t tree)
-  key_blocks_held = let run = run_of (HoldsKeyBlocks (keys_in t tree)) (context_at tree t.keys) holds.in_keys in ap held_by run.is ∙ run.with.held
+  key_blocks_held = let run = run_of (HoldsKeyBlocks (keys_in t tree)) (context_at tree t.keys) holds.in_keys in ap held_by run.is
+      ∙ run.with.held
 
   state_blocks_held : held_by (context_at tree t.states) ≡ state_blocks t.width n
-  state_blocks_held = let slab = slab_of (HoldsStates t.width n) (context_at tree t.states) holds.in_states in ap held_by slab.is ∙ slab.with.held
+  state_blocks_held = let slab = slab_of (HoldsStates t.width n) (context_at tree t.states) holds.in_states in ap held_by slab.is
+      ∙ slab.with.held
 
-  some_held_by : (array : Option ChunkName) → 0 < n → HoldsArray array n set.state → total set.state.blocks ≡ bucket_blocks (buckets n) (buckets n)
+  some_held_by : (array : Option ChunkName) → 0 < n → HoldsArray array n set.state → total set.state.blocks
+      ≡ bucket_blocks (buckets n) (buckets n)
   some_held_by None some held = absurd (omega (arith, some, held))
   some_held_by (Some name) some held = held.held
 
   pub some_held : 0 < n → held_below tree t.parent ≡ held_after t.width (keys_in t tree)
   some_held some =
       let array : held_by b ≡ bucket_blocks (buckets n) (buckets n) = ap held_by set.is ∙ some_held_by t.array some array_held in
-      let counts : held_after t.width (keys_in t tree) ≡ bucket_blocks (buckets n) (buckets n) + key_blocks (keys_in t tree) + state_blocks t.width n =
+      let counts : held_after t.width (keys_in t tree) ≡ bucket_blocks (buckets n) (buckets n) + key_blocks (keys_in t tree)
+      + state_blocks t.width n =
       ap (λ m. bucket_blocks (buckets m) (buckets m) + key_blocks (keys_in t tree) + state_blocks t.width m) (as_many_keys t tree) in
       omega (arith, holds.alone, array, key_blocks_held, state_blocks_held, counts)
 
-  none_held_by : (array : Option ChunkName) → n ≡ 0 → HoldsArray array n set.state → HasSpace array set.state → total set.state.blocks ≤ 16384
+  none_held_by : (array : Option ChunkName) → n ≡ 0 → HoldsArray array n set.state → HasSpace array set.state
+      → total set.state.blocks ≤ 16384
   none_held_by None none held space = space_held set.state space
   none_held_by (Some name) none held space = absurd (omega (arith, none, held.some))
 
@@ -145,40 +173,65 @@ module _ {H : Type 0} (hash_of : H → List ℕ → ℕ) (t : TableState H) (tre
   none_held none =
       let keys : key_blocks (keys_in t tree) ≡ 0 = no_keys (keys_in t tree) (as_many_keys t tree ∙ none) in
       let states : state_blocks t.width n ≡ 0 = ap (state_blocks t.width) none ∙ no_states t.width in
-      omega (arith, holds.alone, ap held_by set.is, none_held_by t.array none array_held has_space, key_blocks_held, keys, state_blocks_held, states)
+      omega (
+        arith,
+        holds.alone,
+        ap held_by set.is,
+        none_held_by t.array none array_held has_space,
+        key_blocks_held,
+        keys,
+        state_blocks_held,
+        states,
+      )
 
 -- ---- the same groups
 module _ {H : Type 0} (t : TableState H) (before after : TreeState) where
-  pub holds_stay : IsSameFor t before after → held_below after t.parent ≡ held_below before t.parent → HoldsKeys t before → HoldsKeys t after
+  pub holds_stay : IsSameFor t before after → held_below after t.parent ≡ held_below before t.parent → HoldsKeys t before
+      → HoldsKeys t after
   holds_stay same held holds = grind (arith, nat_tests, common_steps)
 
 pub holds_spare : {H : Type 0} (t : TableState H) (n : ℕ) (tree : TreeState) → HoldsKeys t tree → HoldsKeys (with_spare t n) tree
-holds_spare t n tree holds = record { alone = holds.alone; in_buckets = holds.in_buckets; in_keys = holds.in_keys; in_states = holds.in_states }
+holds_spare t n tree holds = record {
+  alone = holds.alone;
+  in_buckets = holds.in_buckets;
+  in_keys = holds.in_keys;
+  in_states =
+      holds.in_states;
+}
 
 -- ---- one group more was taken
-module _ {H : Type 0} (t : TableState H) (tree : TreeState) (now : TableState H) (after : TreeState) (same : IsSameBut t now) (key state : List ℕ) (slot : Slot) where
-  pub holds_more : now.slots ≡ t.slots ++ slot ∷ [] → groups now after ≡ groups t tree ++ (key, state) ∷ [] → held_below after t.parent ≡ held_in t after
+module _ {H : Type 0} (t : TableState H) (tree : TreeState) (now : TableState H) (after : TreeState) (same : IsSameBut t now)
+    (key state : List ℕ) (slot : Slot) where
+  pub holds_more : now.slots ≡ t.slots ++ slot ∷ [] → groups now after ≡ groups t tree ++ (key, state) ∷ [] → held_below after t.parent
+      ≡ held_in t after
       → IsSetWith (HoldsArray now.array (length t.slots + 1)) (context_at after t.buckets)
       → IsRunWith (HoldsKeyBlocks (keys_in t tree ++ key ∷ [])) (context_at after t.keys)
       → IsSlabWith (HoldsStates t.width (length t.slots + 1)) (context_at after t.states) → HoldsKeys now after
   holds_more slots more alone in_buckets in_keys in_states = grind (arith, nat_tests, common_steps)
 
 -- ---- a chunk is taken for a key, and for a state
-pub run_more : (c now : Context) (key : Key) (name : ChunkName) → now ≡ with_chunk c (length key) (as_chunk name (room_in c (length key)) key) → held_by now ≡ held_by c + growth_of c (length key) → length key ≤ 65535
+pub run_more : (c now : Context) (key : Key) (name : ChunkName) → now
+    ≡ with_chunk c (length key) (as_chunk name (room_in c (length key)) key) → held_by now ≡ held_by c + growth_of c (length key)
+    → length key ≤ 65535
     → (keys : List Key) → IsRunWith (HoldsKeyBlocks keys) c → IsRunWith (HoldsKeyBlocks (keys ++ key ∷ [])) now
 run_more c now key name is more short keys holds = grind (arith, nat_tests, common_steps)
 
-pub slab_more : (c now : Context) (width : ℕ) (state : List ℕ) (name : ChunkName) → now ≡ with_chunk c (length state) (as_chunk name (room_in c (length state)) state) → held_by now ≡ held_by c + growth_of c (length state) → length state ≡ width
+pub slab_more : (c now : Context) (width : ℕ) (state : List ℕ) (name : ChunkName) → now
+    ≡ with_chunk c (length state) (as_chunk name (room_in c (length state)) state) → held_by now ≡ held_by c + growth_of c (length state)
+    → length state ≡ width
     → width ≤ 65535 → IsCounted c → (number : ℕ) → IsSlabWith (HoldsStates width number) c → IsSlabWith (HoldsStates width (number + 1)) now
 slab_more c now width state name is more long low counted number holds =
     let slab = slab_of (HoldsStates width number) c holds in
     let free = subst IsCounted slab.is counted in
-    let p : Piece = as_chunk name (rounded (length state)) state in
-    let taken : now ≡ Slab (slab_taken slab.state p) = is ∙ ap (λ (x : Context). with_chunk x (length state) (as_chunk name (room_in x (length state)) state)) slab.is in
+    let p : ChunkContents = as_chunk name (rounded (length state)) state in
+    let taken : now ≡ Slab (slab_taken slab.state p) = is
+    ∙ ap (λ (x : Context). with_chunk x (length state) (as_chunk name (room_in x (length state)) state)) slab.is in
     let grown : held_by now ≡ total slab.state.blocks + slab_growth slab.state width =
-    more ∙ ap (λ (x : Context). held_by x + growth_of x (length state)) slab.is ∙ ap (λ n. total slab.state.blocks + slab_growth slab.state n) long in
+    more ∙ ap (λ (x : Context). held_by x + growth_of x (length state)) slab.is
+    ∙ ap (λ n. total slab.state.blocks + slab_growth slab.state n) long in
     subst (IsSlabWith (HoldsStates width (number + 1))) (sym taken)
-    (one_state_more width number slab.state slab.with free p (sym (ap held_by taken) ∙ grown ∙ ap (λ n. total slab.state.blocks + n) (state_growth_is width number slab.state slab.with free low)))
+    (one_state_more width number slab.state slab.with free p (sym (ap held_by taken) ∙ grown
+    ∙ ap (λ n. total slab.state.blocks + n) (state_growth_is width number slab.state slab.with free low)))
 
 -- ---- a chunk is taken for the next array
 pub set_map : (P Q : SetState → Type 0) (c : Context) → ((s : SetState) → P s → Q s) → IsSetWith P c → IsSetWith Q c
@@ -188,15 +241,20 @@ module _ {H : Type 0} (hash_of : H → List ℕ → ℕ) (t : TableState H) (tre
   abbrev w : ℕ
   w = buckets_for (buckets_in t.array) (length t.slots)
 
-  pub none_taken : (wanted count : ℕ) → wanted ≡ w → count ≡ buckets_in t.array → wanted ≡ count → IsSetWith (HoldsArray t.array (length t.slots)) (context_at tree t.buckets) → IsSetWith (HoldsNext t.array None (length t.slots)) (context_at tree t.buckets)
+  pub none_taken : (wanted count : ℕ) → wanted ≡ w → count ≡ buckets_in t.array → wanted ≡ count
+      → IsSetWith (HoldsArray t.array (length t.slots)) (context_at tree t.buckets)
+      → IsSetWith (HoldsNext t.array None (length t.slots)) (context_at tree t.buckets)
   none_taken wanted count is_wanted is_count same =
       set_map (HoldsArray t.array (length t.slots)) (HoldsNext t.array None (length t.slots)) (context_at tree t.buckets) (λ s held.
       still_held t.array (length t.slots) s held (sym is_count ∙ sym same ∙ is_wanted ∙ wanted_is t.array (length t.slots) s held))
 
   module _ (after : TreeState) (n : ℕ) (name : ChunkName) (few : w ≤ most_buckets) (grows : w ≢ buckets_in t.array) (long : n ≡ w * 32)
-      (space : after ≡ with_context tree t.buckets (with_chunk (context_at tree t.buckets) n (as_chunk name (room_in (context_at tree t.buckets) n) (zeros n))))
-      (len : name.len ≡ n) (more : held_by (context_at after t.buckets) ≡ held_by (context_at tree t.buckets) + growth_of (context_at tree t.buckets) n)
-      (there : IsTrue (is_some (get_or (blocks_of (context_at after t.buckets)) name.block None))) (holds : IsSetWith (HoldsArray t.array (length t.slots)) (context_at tree t.buckets)) where
+      (space : after ≡ with_context tree t.buckets
+      (with_chunk (context_at tree t.buckets) n (as_chunk name (room_in (context_at tree t.buckets) n) (zeros n))))
+      (len : name.len ≡ n) (more : held_by (context_at after t.buckets) ≡ held_by (context_at tree t.buckets)
+      + growth_of (context_at tree t.buckets) n)
+      (there : IsTrue (is_some (get_or (blocks_of (context_at after t.buckets)) name.block None)))
+      (holds : IsSetWith (HoldsArray t.array (length t.slots)) (context_at tree t.buckets)) where
     abbrev before : Context
     before = context_at tree t.buckets
 
@@ -247,30 +305,45 @@ module _ {H : Type 0} (hash_of : H → List ℕ → ℕ) (t : TableState H) (tre
     block_there : is_some (get_or taken.blocks name.block None) ≡ true
     block_there = subst (λ (c : Context). is_some (get_or (blocks_of c) name.block None) ≡ true) is_taken there
 
-    abbrev p : Piece
+    abbrev p : ChunkContents
     p = as_chunk name (set_room (buckets (k + 1) * 32)) (zeros (buckets (k + 1) * 32))
 
-    taken_by : (array : Option ChunkName) → HoldsArray array k s → (buckets (k + 1) == buckets_in array) ≡ false → AreArraysHeld taken array name k
+    taken_by : (array : Option ChunkName) → HoldsArray array k s → (buckets (k + 1) == buckets_in array) ≡ false
+        → AreArraysHeld taken array name k
     taken_by None was differ = first_taken s k name p was (len ∙ length_is) sum
-    taken_by (Some other) was differ = larger_taken s k name p (twice (same_or_twice k)) refl refl (len ∙ length_is) block_there sum other was
+    taken_by (Some other) was differ = larger_taken s k name p (twice (same_or_twice k)) refl refl (len ∙ length_is) block_there sum other
+        was
       where
         twice : (buckets (k + 1) ≡ buckets k) ⊎ (buckets (k + 1) ≡ 2 * buckets k) → buckets (k + 1) ≡ 2 * buckets k
-        twice (inl same) = absurd (false≢true (sym differ ∙ eq-eqb (buckets (k + 1)) (other.len / 32) (same ∙ sym (count_is other k s was))))
+        twice (inl same) = absurd
+            (false≢true (sym differ ∙ eq-eqb (buckets (k + 1)) (other.len / 32) (same ∙ sym (count_is other k s was))))
         twice (inr is) = is
 
     pub next_taken : IsSetWith (HoldsNext t.array (Some name) k) (context_at after t.buckets)
-    next_taken = set_with (HoldsNext t.array (Some name) k) (context_at after t.buckets) taken is_taken (taken_by t.array array_was not_same)
+    next_taken = set_with (HoldsNext t.array (Some name) k) (context_at after t.buckets) taken is_taken
+        (taken_by t.array array_was not_same)
 
 -- ---- the state of a group is written over
-length_rewritten : (ps : List Piece) (place : Place) (bytes : List ℕ) → length (rewritten ps place bytes) ≡ length ps
+length_rewritten : (ps : List ChunkContents) (place : Place) (bytes : List ℕ) → length (rewritten ps place bytes) ≡ length ps
 length_rewritten [] place bytes = refl
-length_rewritten (p ∷ ps) place bytes = elim (is_at place p) as (λ b. length (if b then with_bytes_of p bytes ∷ ps else p ∷ rewritten ps place bytes) ≡ length (p ∷ ps)) [
-  | true ↦ refl
-  | false ↦ omega (arith, length_rewritten ps place bytes)
-]
+length_rewritten (p ∷ ps) place bytes = elim (is_at place p) as (λ b. length (if b then with_bytes_of p bytes ∷ ps else p
+    ∷ rewritten ps place bytes) ≡ length (p ∷ ps)) [
+      | true ↦ refl
+      | false ↦ omega (arith, length_rewritten ps place bytes)
+    ]
 
-slab_alone : (width number : ℕ) (c : Context) (place : Place) (ws : List ℕ) → IsSlabWith (HoldsStates width number) c → IsSlabWith (HoldsStates width number) (with_bytes c place ws) × (held_by (with_bytes c place ws) ≡ held_by c)
-slab_alone width number (Slab s) place ws is = (record { size = is.size; chunks = length_rewritten s.chunks place ws ∙ is.chunks; alike = is.alike; held = is.held }, refl)
+slab_alone : (width number : ℕ) (c : Context) (place : Place) (ws : List ℕ) → IsSlabWith (HoldsStates width number) c
+    → IsSlabWith (HoldsStates width number) (with_bytes c place ws) × (held_by (with_bytes c place ws) ≡ held_by c)
+slab_alone width number (Slab s) place ws is = (
+  record {
+    size = is.size;
+    chunks = length_rewritten s.chunks place ws
+        ∙ is.chunks;
+    alike = is.alike;
+    held = is.held;
+  },
+  refl,
+)
 slab_alone width number _ place ws none = absurd none
 
 module _ {H : Type 0} (t : TableState H) (tree : TreeState) (placed : IsPlaced t tree) (place : Place) (ws : List ℕ) where
@@ -285,9 +358,19 @@ module _ {H : Type 0} (t : TableState H) (tree : TreeState) (placed : IsPlaced t
       let told = slab_alone t.width (length t.slots) (context_at tree t.states) place ws holds.in_states in
       let states : context_at after t.states ≡ now = at_same tree t.states now placed.states.within in
       let keys : context_at after t.keys ≡ context_at tree t.keys = at_other tree t.states now t.keys placed.both_apart.differ in
-      let array : context_at after t.buckets ≡ context_at tree t.buckets = at_other tree t.states now t.buckets placed.states_apart.differ in
+      let array : context_at after t.buckets ≡ context_at tree t.buckets = at_other tree t.states now t.buckets placed.states_apart.differ
+      in
       record {
-        alone = omega (arith, held_with tree t.parent t.states now placed.states.below placed.states.within, holds.alone, told.1, ap held_by states, ap held_by keys, ap held_by array);
+        alone = omega (
+          arith,
+          held_with tree t.parent t.states now placed.states.below placed.states.within,
+          holds.alone,
+          told.1,
+          ap held_by
+              states,
+          ap held_by keys,
+          ap held_by array,
+        );
         in_buckets = subst (IsSetWith (HoldsArray t.array (length t.slots))) (sym array) holds.in_buckets;
         in_keys = subst (λ ks. IsRunWith (HoldsKeyBlocks ks) (context_at after t.keys)) (sym (keys_alone t tree after keys))
             (subst (IsRunWith (HoldsKeyBlocks (keys_in t tree))) (sym keys) holds.in_keys);
@@ -313,9 +396,21 @@ slab_empty width (Slab s) is = record {
 slab_empty width _ none = absurd none
 
 -- a table that was just made
-module _ {H : Type 0} (before after : TreeState) (parent : ContextId) (width : ℕ) (made : Children) (is : AreMade before after parent width made) (hash : H) (spare : ℕ) where
+module _ {H : Type 0} (before after : TreeState) (parent : ContextId) (width : ℕ) (made : Children)
+    (is : AreMade before after parent width made) (hash : H) (spare : ℕ) where
   abbrev fresh : TableState H
-  fresh = record { parent = parent; buckets = made.buckets; keys = made.keys; states = made.states; width = width; hash = hash; array = None; slots = []; spare = spare }
+  fresh = record {
+    parent = parent;
+    buckets = made.buckets;
+    keys = made.keys;
+    states = made.states;
+    width = width;
+    hash = hash;
+    array =
+        None;
+    slots = [];
+    spare = spare;
+  }
 
   pub holds_fresh : held_below before parent ≡ 0 → HoldsKeys fresh after
   holds_fresh none = search rules
@@ -325,7 +420,8 @@ pub ok_map : {T E P Q : Type 0} → (r : Result T E) → (P → Q) → OnOk r P 
 ok_map (Ok x) f p = f p
 ok_map (Err e) f p = tt
 
-module _ {H : Type 0} (t : TableState H) (next : Option ChunkName) (settled : TableState H) (is : settled ≡ with_next t next) (b e d : TreeState)
+module _ {H : Type 0} (t : TableState H) (next : Option ChunkName) (settled : TableState H) (is : settled ≡ with_next t next)
+    (b e d : TreeState)
     (placed_b : IsPlaced t b) (only_e : OnlyIn t.buckets b e) (placed_e : IsPlaced settled e) (only_d : OnlyIn settled.buckets e d) where
   pub buckets_at : settled.buckets ≡ t.buckets
   buckets_at = ap (λ (x : TableState H). x.buckets) is
@@ -337,7 +433,9 @@ module _ {H : Type 0} (t : TableState H) (next : Option ChunkName) (settled : Ta
   states_at = ap (λ (x : TableState H). x.states) is
 
   pub keys_after : context_at d t.keys ≡ context_at b t.keys
-  keys_after = subst (λ id. context_at d id ≡ context_at e id) keys_at (keys_left settled e d only_d placed_e) ∙ keys_left t b e only_e placed_b
+  keys_after = subst (λ id. context_at d id ≡ context_at e id) keys_at (keys_left settled e d only_d placed_e)
+      ∙ keys_left t b e only_e placed_b
 
   pub states_after : context_at d t.states ≡ context_at b t.states
-  states_after = subst (λ id. context_at d id ≡ context_at e id) states_at (states_left settled e d only_d placed_e) ∙ states_left t b e only_e placed_b
+  states_after = subst (λ id. context_at d id ≡ context_at e id) states_at (states_left settled e d only_d placed_e)
+      ∙ states_left t b e only_e placed_b

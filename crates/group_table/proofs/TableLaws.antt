@@ -1,7 +1,9 @@
 -- What is known of a table in its tree.
 use Rattle.std.specs.Prelude.{◌≡◌, ℕ, ◌*◌, ◌/◌, ◌<◌, ◌≤◌, List, [], Some, None, length, slice_get, IsTrue}
 use Rattle.std.proofs.Common.{sym, ◌∙◌, ap, subst, arith}
-use Rattle.group_table.proofs.Words.{ChunkName, has_chunk, chunk_bytes, TreeState, context_at, Context, AllocSet, Holds, Finds, TableState, Names, HasNo, most_buckets, IsSetWith, IsFirst, HasArray, IsArrayOf, IsStanding, bucket_of, slot_of, Bucket}
+use Rattle.group_table.proofs.Words.{ChunkName, has_chunk, chunk_bytes, TreeState, context_at, Context, AllocSet, Holds, Finds, TableState}
+use Rattle.group_table.proofs.Words.{Names, HasNo, most_buckets, IsSetWith, IsFirst, HasArray, IsArrayOf, IsStanding, bucket_of, slot_of}
+use Rattle.group_table.proofs.Words.{Bucket}
 use Rattle.std.proofs.lemmas.Option.{none-some}
 
 module _ {H : Type 0} (hash_of : H → List ℕ → ℕ) (t : TableState H) (tree : TreeState) where
@@ -14,8 +16,16 @@ module _ {H : Type 0} (hash_of : H → List ℕ → ℕ) (t : TableState H) (tre
     pub full : 4 * length t.slots ≤ 3 * (name.len / 32)
     pub array : IsArrayOf hash_of t keys (chunk_bytes c name) (name.len / 32)
 
-  array_at : (keys c : Context) (name : ChunkName) → IsSetWith (λ s. IsFirst s × HasArray hash_of t keys (Some name) s) c → ArrayFacts keys c name
-  array_at keys (AllocSet s) name (first, is) = record { lives = is.lives; whole = is.whole; some = is.some; most = is.most; full = is.full; array = is.array }
+  array_at : (keys c : Context) (name : ChunkName) → IsSetWith (λ s. IsFirst s × HasArray hash_of t keys (Some name) s) c
+      → ArrayFacts keys c name
+  array_at keys (AllocSet s) name (first, is) = record {
+    lives = is.lives;
+    whole = is.whole;
+    some = is.some;
+    most = is.most;
+    full = is.full;
+    array = is.array;
+  }
   array_at keys _ name none = absurd none
 
   no_slots_at : (keys c : Context) → IsSetWith (λ s. IsFirst s × HasArray hash_of t keys None s) c → t.slots ≡ []
@@ -30,16 +40,19 @@ module _ {H : Type 0} (hash_of : H → List ℕ → ℕ) (t : TableState H) (tre
     keys = context_at tree t.keys
 
     pub array_facts : (name : ChunkName) → t.array ≡ Some name → ArrayFacts keys buckets name
-    array_facts name array = array_at keys buckets name (subst (λ a. IsSetWith (λ s. IsFirst s × HasArray hash_of t keys a s) buckets) array is.stands.set)
+    array_facts name array = array_at keys buckets name (subst (λ a. IsSetWith (λ s. IsFirst s × HasArray hash_of t keys a s) buckets) array
+        is.stands.set)
 
     pub no_slots : t.array ≡ None → t.slots ≡ []
-    no_slots array = no_slots_at keys buckets (subst (λ a. IsSetWith (λ s. IsFirst s × HasArray hash_of t keys a s) buckets) array is.stands.set)
+    no_slots array = no_slots_at keys buckets (subst (λ a. IsSetWith (λ s. IsFirst s × HasArray hash_of t keys a s) buckets) array
+        is.stands.set)
 
     pub has_none : (key : List ℕ) → t.array ≡ None → HasNo t tree key
     has_none key array slot (place, there) = absurd (none-some slot (ap (λ slots. slice_get slots place) (sym (no_slots array)) ∙ there))
 
     -- the bytes of the array
-    module _ (name : ChunkName) (array : t.array ≡ Some name) (bytes : List ℕ) (read : bytes ≡ chunk_bytes buckets name) (long : length bytes ≡ name.len) where
+    module _ (name : ChunkName) (array : t.array ≡ Some name) (bytes : List ℕ) (read : bytes ≡ chunk_bytes buckets name)
+        (long : length bytes ≡ name.len) where
       abbrev count : ℕ
       count = length bytes / 32
 
@@ -47,7 +60,8 @@ module _ {H : Type 0} (hash_of : H → List ℕ → ℕ) (t : TableState H) (tre
       facts = array_facts name array
 
       pub told : IsArrayOf hash_of t keys bytes count
-      told = subst (λ bs. IsArrayOf hash_of t keys bs count) (sym read) (subst (λ n. IsArrayOf hash_of t keys (chunk_bytes buckets name) (n / 32)) (sym long) facts.array)
+      told = subst (λ bs. IsArrayOf hash_of t keys bs count) (sym read)
+          (subst (λ n. IsArrayOf hash_of t keys (chunk_bytes buckets name) (n / 32)) (sym long) facts.array)
 
       pub some_buckets : 0 < count
       some_buckets = subst (λ n. 0 < n / 32) (sym long) (omega (arith, facts.some))
@@ -61,4 +75,5 @@ module _ {H : Type 0} (hash_of : H → List ℕ → ℕ) (t : TableState H) (tre
         found b (held, same) = ((told.only b held).0, same)
 
         pub not_found : Finds keys bytes count hash key None → HasNo t tree key
-        not_found none slot there same = none (bucket_of hash_of t keys slot) (told.kept slot there) (ap (hash_of t.hash) same ∙ sym hashed) same
+        not_found none slot there same = none (bucket_of hash_of t keys slot) (told.kept slot there) (ap (hash_of t.hash) same ∙ sym hashed)
+            same

@@ -1,5 +1,6 @@
 -- Arrays of buckets in a set of a tree.
-use Rattle.std.specs.Prelude.{◌≡◌, ℕ, ◌+◌, ◌-◌, ◌*◌, ◌/◌, ◌<◌, ◌≤◌, List, [], ◌∷◌, ◌++◌, Option, Some, None, length, is_some, IsTrue, true, false}
+use Rattle.std.specs.Prelude.{◌≡◌, ℕ, ◌+◌, ◌-◌, ◌*◌, ◌/◌, ◌<◌, ◌≤◌, List, [], ◌∷◌, ◌++◌, Option, Some, None, length, is_some, IsTrue, true}
+use Rattle.std.specs.Prelude.{false}
 use Rattle.chunk_layout.specs.Pieces.{same_place, place_of, piece_at}
 use Rattle.chunk_layout.specs.declared.place.Place.{Place}
 use Rattle.chunk_layout.specs.declared.place.ChunkName.{ChunkName}
@@ -77,7 +78,18 @@ pub record IsNext {H : Type 0} (t : TableState H) (tree : TreeState) (key state 
 
 -- a table with one more group
 abbrev pub with_slot : {H : Type 0} → TableState H → Slot → TableState H
-with_slot t slot = record { parent = t.parent; buckets = t.buckets; keys = t.keys; states = t.states; width = t.width; hash = t.hash; array = t.array; slots = t.slots ++ slot ∷ []; spare = t.spare - 1 }
+with_slot t slot = record {
+  parent = t.parent;
+  buckets = t.buckets;
+  keys = t.keys;
+  states = t.states;
+  width = t.width;
+  hash = t.hash;
+  array
+      = t.array;
+  slots = t.slots ++ slot ∷ [];
+  spare = t.spare - 1;
+}
 
 -- with the next array, if there is one
 abbrev pub next_or : Option ChunkName → Option ChunkName → Option ChunkName
@@ -85,8 +97,30 @@ next_or None array = array
 next_or (Some name) array = Some name
 
 abbrev pub with_next : {H : Type 0} → TableState H → Option ChunkName → TableState H
-with_next t next = record { parent = t.parent; buckets = t.buckets; keys = t.keys; states = t.states; width = t.width; hash = t.hash; array = next_or next t.array; slots = t.slots; spare = t.spare }
+with_next t next = record {
+  parent = t.parent;
+  buckets = t.buckets;
+  keys = t.keys;
+  states = t.states;
+  width = t.width;
+  hash = t.hash;
+  array
+      = next_or next t.array;
+  slots = t.slots;
+  spare = t.spare;
+}
 
 -- with room to note so many groups without memory
 abbrev pub with_spare : {H : Type 0} → TableState H → ℕ → TableState H
-with_spare t n = record { parent = t.parent; buckets = t.buckets; keys = t.keys; states = t.states; width = t.width; hash = t.hash; array = t.array; slots = t.slots; spare = n }
+with_spare t n = record {
+  parent = t.parent;
+  buckets = t.buckets;
+  keys = t.keys;
+  states = t.states;
+  width = t.width;
+  hash = t.hash;
+  array =
+      t.array;
+  slots = t.slots;
+  spare = n;
+}

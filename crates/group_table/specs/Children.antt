@@ -32,7 +32,8 @@ pub record AreMade (before after : TreeState) (parent : ContextId) (width : ℕ)
   pub slab : context_at after made.states ≡ Slab (new_slab width)
   pub held : (above : ContextId) → held_below after above ≡ held_below before above
   pub fresh : (id : ContextId) → is_there before id ≡ true
-      → (is_there after id ≡ true) × (context_at after id ≡ context_at before id) × (id.slot ≢ made.buckets.slot) × (id.slot ≢ made.keys.slot) × (id.slot ≢ made.states.slot)
+      → (is_there after id ≡ true) × (context_at after id ≡ context_at before id) × (id.slot ≢ made.buckets.slot)
+      × (id.slot ≢ made.keys.slot) × (id.slot ≢ made.states.slot)
   pub links : (id : ContextId) → is_there before id ≡ true → get_or after.links id.slot None ≡ get_or before.links id.slot None
 
 -- why so many contexts are not made: there are fewer stamps left, or there is no memory
@@ -81,7 +82,8 @@ pub record IsNewTable {H : Type 0} (before after : TreeState) (parent : ContextI
   pub states : held_by (context_at after t.states) ≡ 0
   pub held : (above : ContextId) → held_below after above ≡ held_below before above
   pub others : (id : ContextId) → is_there before id ≡ true
-      → (is_there after id ≡ true) × (context_at after id ≡ context_at before id) × (id.slot ≢ t.buckets.slot) × (id.slot ≢ t.keys.slot) × (id.slot ≢ t.states.slot)
+      → (is_there after id ≡ true) × (context_at after id ≡ context_at before id) × (id.slot ≢ t.buckets.slot) × (id.slot ≢ t.keys.slot)
+      × (id.slot ≢ t.states.slot)
   pub links : (id : ContextId) → is_there before id ≡ true → get_or after.links id.slot None ≡ get_or before.links id.slot None
 
 -- a table was cleared: its first block of buckets is left, or none was there

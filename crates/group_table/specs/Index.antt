@@ -1,6 +1,7 @@
 -- An array of buckets in which groups are found by the hashes of their keys: by linear probing (D. Knuth, The Art of Computer
 -- Programming, volume 3, 6.4, algorithm L), as in `src/include/lib/simplehash.h` of PostgreSQL.
-use Rattle.std.specs.Prelude.{◌≡◌, ◌≢◌, ℕ, zero, suc, ◌+◌, ◌*◌, ◌-◌, ◌<◌, ◌&&◌, ◌||◌, nat_le, nat_lt, Bool, true, cond, if◌then◌else◌, List, Some, None, length, is_some}
+use Rattle.std.specs.Prelude.{◌≡◌, ◌≢◌, ℕ, zero, suc, ◌+◌, ◌*◌, ◌-◌, ◌<◌, ◌&&◌, ◌||◌, nat_le, nat_lt, Bool, true, cond, if◌then◌else◌, List}
+use Rattle.std.specs.Prelude.{Some, None, length, is_some}
 use Rattle.std.specs.Int.Bits.{bit_and}
 use Rattle.group_table.specs.Buckets.{bucket_at}
 use Rattle.group_table.specs.declared.bucket.Bucket.{Bucket}

@@ -14,8 +14,10 @@ IsOther keys array hash key place = (b : Bucket) × (bucket_at array place ≡ S
 
 -- from one place on and before another there is the bucket of a key; or a free one, and others before it; or others alone
 abbrev pub Tells : Context → List ℕ → ℕ → ℕ → ℕ → List ℕ → Probe → Type 0
-Tells keys array from to hash key (Found b) = (place : ℕ) × (from ≤ place) × (place < to) × (bucket_at array place ≡ Some b) × (chunk_bytes keys b.key ≡ key)
-Tells keys array from to hash key Free = (place : ℕ) × (from ≤ place) × (place < to) × (bucket_at array place ≡ None) × ((other : ℕ) → from ≤ other → other < place → IsOther keys array hash key other)
+Tells keys array from to hash key (Found b) = (place : ℕ) × (from ≤ place) × (place < to) × (bucket_at array place ≡ Some b)
+    × (chunk_bytes keys b.key ≡ key)
+Tells keys array from to hash key Free = (place : ℕ) × (from ≤ place) × (place < to) × (bucket_at array place ≡ None)
+    × ((other : ℕ) → from ≤ other → other < place → IsOther keys array hash key other)
 Tells keys array from to hash key Passed = (other : ℕ) → from ≤ other → other < to → IsOther keys array hash key other
 
 -- the bucket of a key among all of them; or none has the key, if keys have one hash each

@@ -1,5 +1,6 @@
 -- What is true of a table and the tree in which its contexts are.
-use Rattle.std.specs.Prelude.{◌≡◌, ◌≢◌, ℕ, ◌*◌, ◌/◌, ◌<◌, ◌≤◌, ◌⊎◌, true, false, List, [], Option, Some, None, length, get_or, slice_get, is_some, IsTrue}
+use Rattle.std.specs.Prelude.{◌≡◌, ◌≢◌, ℕ, ◌*◌, ◌/◌, ◌<◌, ◌≤◌, ◌⊎◌, true, false, List, [], Option, Some, None, length, get_or, slice_get}
+use Rattle.std.specs.Prelude.{is_some, IsTrue}
 use Rattle.chunk_layout.specs.Pieces.{same_place, place_of, piece_at, size_at, total}
 use Rattle.chunk_layout.specs.declared.place.ChunkName.{ChunkName}
 use Rattle.chunk_contexts.specs.Chunks.{is_live, bytes_of}
@@ -69,7 +70,8 @@ pub record IsArrayOf {H : Type 0} (hash_of : H → List ℕ → ℕ) (t : TableS
   pub only : (b : Bucket) → Holds bytes count b → IsSlot t (slot_of b) × (b.hash ≡ hash_of t.hash (chunk_bytes keys b.key))
 
 -- the array is a chunk of the set
-pub record IsArrayIn {H : Type 0} (hash_of : H → List ℕ → ℕ) (t : TableState H) (keys : Context) (s : SetState) (name : ChunkName) : Type 0 where
+pub record IsArrayIn {H : Type 0} (hash_of : H → List ℕ → ℕ) (t : TableState H) (keys : Context) (s : SetState) (name : ChunkName) :
+    Type 0 where
   pub lives : IsTrue (is_live s.chunks name)
   pub whole : name.len ≡ 32 * (name.len / 32)
   pub some : 256 ≤ name.len / 32
@@ -99,8 +101,10 @@ pub record AreGroups {H : Type 0} (t : TableState H) (keys states : Context) : T
   pub keys_live : (slot : Slot) → IsSlot t slot → IsTrue (has_chunk keys slot.key)
   pub states_live : (slot : Slot) → IsSlot t slot → IsTrue (has_chunk states slot.state)
   pub widths : (slot : Slot) → IsSlot t slot → slot.state.len ≡ t.width
-  pub once : (i j : ℕ) → (x y : Slot) → slice_get t.slots i ≡ Some x → slice_get t.slots j ≡ Some y → chunk_bytes keys x.key ≡ chunk_bytes keys y.key → i ≡ j
-  pub own : (i j : ℕ) → (x y : Slot) → slice_get t.slots i ≡ Some x → slice_get t.slots j ≡ Some y → same_place (place_of x.state) (place_of y.state) ≡ true → i ≡ j
+  pub once : (i j : ℕ) → (x y : Slot) → slice_get t.slots i ≡ Some x → slice_get t.slots j ≡ Some y → chunk_bytes keys x.key
+      ≡ chunk_bytes keys y.key → i ≡ j
+  pub own : (i j : ℕ) → (x y : Slot) → slice_get t.slots i ≡ Some x → slice_get t.slots j ≡ Some y
+      → same_place (place_of x.state) (place_of y.state) ≡ true → i ≡ j
 
 -- the three contexts of a table are those of its groups
 pub record Stands {H : Type 0} (hash_of : H → List ℕ → ℕ) (t : TableState H) (buckets keys states : Context) : Type 0 where
@@ -135,7 +139,8 @@ pub record KeepsOthers {H : Type 0} (t : TableState H) (before after : TreeState
   pub links : after.links ≡ before.links
   pub last : after.last ≡ before.last
   pub number : length after.contexts ≡ length before.contexts
-  pub others : (slot : ℕ) → slot ≢ t.buckets.slot → slot ≢ t.keys.slot → slot ≢ t.states.slot → get_or after.contexts slot no_context ≡ get_or before.contexts slot no_context
+  pub others : (slot : ℕ) → slot ≢ t.buckets.slot → slot ≢ t.keys.slot → slot ≢ t.states.slot → get_or after.contexts slot no_context
+      ≡ get_or before.contexts slot no_context
 
 -- a slot is that of none of the three contexts of a table, and of none below them
 pub record IsBeside {H : Type 0} (t : TableState H) (links : List (Option Link)) (slot : ℕ) : Type 0 where

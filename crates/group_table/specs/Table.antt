@@ -1,5 +1,6 @@
 -- A table of groups as its users see it: a finite map from the bytes of keys to the bytes of states.
-use Rattle.std.specs.Prelude.{◌≡◌, ◌≢◌, ℕ, ◌+◌, ◌*◌, ◌/◌, ◌==◌, ◌&&◌, max, nat_le, Bool, cond, if◌then◌else◌, List, Option, Some, None, map, length, slice_get}
+use Rattle.std.specs.Prelude.{◌≡◌, ◌≢◌, ℕ, ◌+◌, ◌*◌, ◌/◌, ◌==◌, ◌&&◌, max, nat_le, Bool, cond, if◌then◌else◌, List, Option, Some, None, map}
+use Rattle.std.specs.Prelude.{length, slice_get}
 use Rattle.chunk_layout.specs.declared.place.ChunkName.{ChunkName}
 use Rattle.context_tree.specs.Contexts.{chunk_bytes, growth_of, held_by}
 use Rattle.context_tree.specs.Tree.{TreeState, context_at, held_below, reset}
@@ -70,7 +71,8 @@ group_growth t tree n = array_growth t tree + growth_of (context_at tree t.keys)
 -- whether one more group, with a key of so many bytes, keeps within a limit on what is held below the parent, at each step of
 -- the way, and within the most buckets
 abbrev pub has_room : {H : Type 0} → TableState H → TreeState → ℕ → ℕ → Bool
-has_room t tree n limit = nat_le (held_below tree t.parent + group_growth t tree n) limit && nat_le (buckets_for (buckets_in t.array) (length t.slots)) most_buckets
+has_room t tree n limit = nat_le (held_below tree t.parent + group_growth t tree n) limit
+    && nat_le (buckets_for (buckets_in t.array) (length t.slots)) most_buckets
 
 -- what the three contexts of a table hold; and a tree in which the three are reset
 abbrev pub held_in : {H : Type 0} → TableState H → TreeState → ℕ

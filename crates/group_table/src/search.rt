@@ -50,7 +50,8 @@ fn look(
     key: &[u8],
 ) -> Probe
     requires there { is_there tree.now keys ≡ true }
-    requires keys { (place : ℕ) → (b : Bucket) → place < to → bucket_at array.now place ≡ Some b → IsTrue (has_chunk (context_at tree.now keys) b.key) }
+    requires keys { (place : ℕ) → (b : Bucket) → place < to → bucket_at array.now place ≡ Some b
+        → IsTrue (has_chunk (context_at tree.now keys) b.key) }
     requires long { 32 * to ≤ length array.now }
     ensures { Tells (context_at tree.now keys) array.now from to hash key.now result }
 {

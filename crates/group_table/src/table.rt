@@ -1,13 +1,17 @@
 //! A table of groups.
-ghost use Rattle.std.specs.Prelude.{◌≡◌, ◌≢◌, ◌*◌, ◌-◌, ◌^◌, ◌+◌, ◌<◌, ◌≤◌, ℕ, List, [], ◌∷◌, ◌++◌, Some, None, MatchOption, IfSome, IfNone, IfOk, IfErr, OnOk, OnErr, IsTrue, true, false, map, length, slice_get, slice_set, slice_index_or};
+ghost use Rattle.std.specs.Prelude.{◌≡◌, ◌≢◌, ◌*◌, ◌-◌, ◌^◌, ◌+◌, ◌<◌, ◌≤◌, ℕ, List, [], ◌∷◌, ◌++◌, Some, None, MatchOption, IfSome};
+ghost use Rattle.std.specs.Prelude.{IfNone, IfOk, IfErr, OnOk, OnErr, IsTrue, true, false, map, length, slice_get, slice_set};
+ghost use Rattle.std.specs.Prelude.{slice_index_or};
 ghost use Rattle.chunk_layout.specs.Pieces.{place_of};
 ghost use Rattle.chunk_layout.specs.declared.blocks.TheConstants.{HEADER};
 ghost use Rattle.chunk_contexts.specs.declared.rooms.TheConstants.{BLOCK};
 ghost use Rattle.context_tree.specs.Contexts.{has_chunk, chunk_bytes, with_bytes, held_by, growth_of};
 ghost use Rattle.context_tree.specs.Tree.{TreeState, is_there, context_at, held_below, reset, IsWhole};
-ghost use Rattle.group_table.specs.Table.{key_in, state_in, group_in, groups, IsSlot, Names, HasNo, buckets_in, buckets_for, most_buckets, array_growth, group_growth, has_room, held_in, without_groups, IsEmptied, IsSameBut};
+ghost use Rattle.group_table.specs.Table.{key_in, state_in, group_in, groups, IsSlot, Names, HasNo, buckets_in, buckets_for, most_buckets};
+ghost use Rattle.group_table.specs.Table.{array_growth, group_growth, has_room, held_in, without_groups, IsEmptied, IsSameBut};
 ghost use Rattle.aggregation_cost.specs.Space.{Key, need, held_after, fits};
-ghost use Rattle.group_table.specs.Space.{keys_in, is_within, IsRunWith, IsSlabWith, HoldsArray, HoldsNext, HoldsKeyBlocks, HoldsStates, HoldsKeys};
+ghost use Rattle.group_table.specs.Space.{keys_in, is_within, IsRunWith, IsSlabWith, HoldsArray, HoldsNext, HoldsKeyBlocks, HoldsStates};
+ghost use Rattle.group_table.specs.Space.{HoldsKeys};
 ghost use Rattle.group_table.specs.Standing.{IsSetWith, IsStanding, IsTableIn, KeepsOthers, KeepsBeside, IsSameFor};
 ghost use Rattle.group_table.specs.Children.{IsRefused, IsAsBefore, IsNewTable, IsCleared};
 ghost use Rattle.group_table.specs.Arrays.{OnlyIn, HasNext, IsSpare, IsNext, with_next, with_slot, with_spare};
@@ -26,7 +30,7 @@ use std::marker::Model;
 /// How many buckets a table has at first, and how many at most.
 const FIRST_BUCKETS: usize = 256;
 
-const MOST_BUCKETS: usize = 16777216;
+const MAX_BUCKETS: usize = 16777216;
 
 /// For how many groups there is room to note them at first.
 const FIRST_SLOTS: usize = 16;
@@ -142,7 +146,8 @@ impl<H: KeyHash + Drop> GroupTable<H> {
         requires { IsTableIn H.hash_of self.now tree.now }
         ensures table { (after : TreeState) → IsWhole after → IsSameFor self.now tree.now after → IsTableIn H.hash_of self.now after }
         ensures groups { (after : TreeState) → IsSameFor self.now tree.now after → groups self.now after ≡ groups self.now tree.now }
-        ensures holds { (after : TreeState) → IsWhole after → IsSameFor self.now tree.now after → held_below after self.now.parent ≡ held_below tree.now self.now.parent → HoldsKeys self.now tree.now → HoldsKeys self.now after }
+        ensures holds { (after : TreeState) → IsWhole after → IsSameFor self.now tree.now after → held_below after self.now.parent
+            ≡ held_below tree.now self.now.parent → HoldsKeys self.now tree.now → HoldsKeys self.now after }
     {
         let _slots = &self.slots;
     }
@@ -151,7 +156,8 @@ impl<H: KeyHash + Drop> GroupTable<H> {
     /// there is no group, that is a block of buckets at most.
     pub fn held_by_keys(&self, tree: &Tree)
         requires { IsTableIn H.hash_of self.now tree.now }
-        ensures some { HoldsKeys self.now tree.now → 0 < length self.now.slots → held_below tree.now self.now.parent ≡ held_after self.now.width (keys_in self.now tree.now) }
+        ensures some { HoldsKeys self.now tree.now → 0 < length self.now.slots → held_below tree.now self.now.parent
+            ≡ held_after self.now.width (keys_in self.now tree.now) }
         ensures none { HoldsKeys self.now tree.now → length self.now.slots ≡ 0 → held_below tree.now self.now.parent ≤ 2 * BLOCK }
     {
         let _slots = &self.slots;
@@ -219,8 +225,10 @@ impl<H: KeyHash + Drop> GroupTable<H> {
         requires table { IsTableIn H.hash_of self.now tree.now }
         requires key { length key.now ≤ LONGEST }
         ensures exact { result ≡ has_room self.now tree.now (length key.now) limit }
-        ensures by_keys { HoldsKeys self.now tree.now → (hash : Key → ℕ) → result ≡ fits (record { limit = limit; width = self.now.width; hash = hash }) (keys_in self.now tree.now ++ key.now ∷ []) }
-        ensures emptied { IsEmptied self.now tree.now → length key.now ≤ BLOCK → self.now.width ≤ BLOCK - HEADER → 4 * BLOCK ≤ limit → result ≡ true }
+        ensures by_keys { HoldsKeys self.now tree.now → (hash : Key → ℕ) → result
+            ≡ fits (record { limit = limit; width = self.now.width; hash = hash }) (keys_in self.now tree.now ++ key.now ∷ []) }
+        ensures emptied { IsEmptied self.now tree.now → length key.now ≤ BLOCK → self.now.width ≤ BLOCK - HEADER → 4 * BLOCK ≤ limit
+            → result ≡ true }
     {
         match self.need_for(tree, key) {
             Some(need) => need <= u128::from(limit),
@@ -233,14 +241,17 @@ impl<H: KeyHash + Drop> GroupTable<H> {
     pub fn need_for(&self, tree: &Tree, key: &[u8]) -> Option<u128>
         requires table { IsTableIn H.hash_of self.now tree.now }
         requires key { length key.now ≤ LONGEST }
-        ensures bytes { IfSome result (λ bytes. bytes ≡ held_below tree.now self.now.parent + group_growth self.now tree.now (length key.now)) }
+        ensures bytes { IfSome result (λ bytes. bytes ≡ held_below tree.now self.now.parent
+            + group_growth self.now tree.now (length key.now)) }
         ensures few { IfSome result (λ _. buckets_for (buckets_in self.now.array) (length self.now.slots) ≤ most_buckets) }
         ensures none { IfNone result (most_buckets < buckets_for (buckets_in self.now.array) (length self.now.slots)) }
-        ensures by_keys { HoldsKeys self.now tree.now → IfSome result (λ bytes. bytes ≡ need self.now.width (keys_in self.now tree.now ++ key.now ∷ [])) }
-        ensures fits { HoldsKeys self.now tree.now → (limit : ℕ) → (hash : Key → ℕ) → is_within result limit ≡ fits (record { limit = limit; width = self.now.width; hash = hash }) (keys_in self.now tree.now ++ key.now ∷ []) }
+        ensures by_keys { HoldsKeys self.now tree.now
+            → IfSome result (λ bytes. bytes ≡ need self.now.width (keys_in self.now tree.now ++ key.now ∷ [])) }
+        ensures fits { HoldsKeys self.now tree.now → (limit : ℕ) → (hash : Key → ℕ) → is_within result limit
+            ≡ fits (record { limit = limit; width = self.now.width; hash = hash }) (keys_in self.now tree.now ++ key.now ∷ []) }
     {
         tree.spare_by_count(self.states);
-        if self.buckets_wanted() > MOST_BUCKETS {
+        if self.buckets_wanted() > MAX_BUCKETS {
             return None;
         }
         Some(held_below(tree, self.parent) + self.growth_for(tree, key.len()))
@@ -273,8 +284,11 @@ impl<H: KeyHash + Drop> GroupTable<H> {
         ensures standing { IsStanding H.hash_of self.now tree.new }
         ensures next { IfOk result (HasNext self.now tree.new) }
         ensures unchanged { OnErr result (tree.new ≡ tree.old) }
-        ensures held { held_by (context_at tree.new self.now.buckets) ≤ held_by (context_at tree.old self.now.buckets) + array_growth self.now tree.old }
-        ensures holds { IfOk result (λ next. IsSetWith (HoldsArray self.now.array (length self.now.slots)) (context_at tree.old self.now.buckets) → IsSetWith (HoldsNext self.now.array next (length self.now.slots)) (context_at tree.new self.now.buckets)) }
+        ensures held { held_by (context_at tree.new self.now.buckets) ≤ held_by (context_at tree.old self.now.buckets)
+            + array_growth self.now tree.old }
+        ensures holds { IfOk result (λ next. IsSetWith (HoldsArray self.now.array (length self.now.slots))
+            (context_at tree.old self.now.buckets) → IsSetWith (HoldsNext self.now.array next (length self.now.slots))
+            (context_at tree.new self.now.buckets)) }
     {
         let wanted = self.buckets_wanted();
         if wanted == self.bucket_count() {
@@ -318,9 +332,13 @@ impl<H: KeyHash + Drop> GroupTable<H> {
         ensures others { KeepsOthers self.now tree.old tree.new }
         ensures groups { groups self.now tree.new ≡ groups self.now tree.old }
         ensures next { IfOk result (IsNext self.now tree.new key.now state.now) }
-        ensures held { held_below tree.new self.now.parent ≤ held_below tree.old self.now.parent + growth_of (context_at tree.old self.now.keys) (length key.now) + growth_of (context_at tree.old self.now.states) self.now.width }
-        ensures keys { OnOk result ((keys : List (List ℕ)) → IsRunWith (HoldsKeyBlocks keys) (context_at tree.old self.now.keys) → IsRunWith (HoldsKeyBlocks (keys ++ key.now ∷ [])) (context_at tree.new self.now.keys)) }
-        ensures states { OnOk result ((number : ℕ) → IsSlabWith (HoldsStates self.now.width number) (context_at tree.old self.now.states) → IsSlabWith (HoldsStates self.now.width (number + 1)) (context_at tree.new self.now.states)) }
+        ensures held { held_below tree.new self.now.parent ≤ held_below tree.old self.now.parent
+            + growth_of (context_at tree.old self.now.keys) (length key.now)
+            + growth_of (context_at tree.old self.now.states) self.now.width }
+        ensures keys { OnOk result ((keys : List (List ℕ)) → IsRunWith (HoldsKeyBlocks keys) (context_at tree.old self.now.keys)
+            → IsRunWith (HoldsKeyBlocks (keys ++ key.now ∷ [])) (context_at tree.new self.now.keys)) }
+        ensures states { OnOk result ((number : ℕ) → IsSlabWith (HoldsStates self.now.width number) (context_at tree.old self.now.states)
+            → IsSlabWith (HoldsStates self.now.width (number + 1)) (context_at tree.new self.now.states)) }
     {
         tree.spare_by_count(self.states);
         let Ok(key) = tree.alloc(self.keys, key) else {
@@ -342,7 +360,8 @@ impl<H: KeyHash + Drop> GroupTable<H> {
         ensures held { IsCleared self.old tree.new }
         ensures tree { tree.new ≡ without_groups self.old tree.old }
         ensures beside { KeepsBeside self.old tree.old tree.new }
-        ensures rest { held_below tree.new self.old.parent + held_in self.old tree.old ≤ held_below tree.old self.old.parent + held_in self.old tree.new }
+        ensures rest { held_below tree.new self.old.parent + held_in self.old tree.old ≤ held_below tree.old self.old.parent
+            + held_in self.old tree.new }
         ensures emptied { held_below tree.old self.old.parent ≡ held_in self.old tree.old → IsEmptied self.new tree.new }
         ensures holds { held_below tree.old self.old.parent ≡ held_in self.old tree.old → HoldsKeys self.new tree.new }
     {
@@ -362,7 +381,8 @@ impl<H: KeyHash + Drop> GroupTable<H> {
         ensures standing { IsStanding H.hash_of self.new tree.new }
         ensures room { HasNext self.new tree.new None }
         ensures held { held_by (context_at tree.new self.old.buckets) ≤ held_by (context_at tree.old self.old.buckets) }
-        ensures holds { (number : ℕ) → IsSetWith (HoldsNext self.old.array next number) (context_at tree.old self.old.buckets) → IsSetWith (HoldsArray self.new.array (number + 1)) (context_at tree.new self.old.buckets) }
+        ensures holds { (number : ℕ) → IsSetWith (HoldsNext self.old.array next number) (context_at tree.old self.old.buckets)
+            → IsSetWith (HoldsArray self.new.array (number + 1)) (context_at tree.new self.old.buckets) }
     {
         let Some(name) = next else {
             return;
@@ -383,7 +403,8 @@ impl<H: KeyHash + Drop> GroupTable<H> {
         ensures only { OnlyIn self.now.buckets tree.old tree.new }
         ensures standing { IsStanding H.hash_of (with_slot self.now slot) tree.new }
         ensures held { held_by (context_at tree.new self.now.buckets) ≡ held_by (context_at tree.old self.now.buckets) }
-        ensures holds { (number : ℕ) → IsSetWith (HoldsArray self.now.array number) (context_at tree.old self.now.buckets) → IsSetWith (HoldsArray self.now.array number) (context_at tree.new self.now.buckets) }
+        ensures holds { (number : ℕ) → IsSetWith (HoldsArray self.now.array number) (context_at tree.old self.now.buckets)
+            → IsSetWith (HoldsArray self.now.array number) (context_at tree.new self.now.buckets) }
     {
         let name = self.array.unwrap();
         let hash = self.hash.key_hash(key);
@@ -409,8 +430,10 @@ impl<H: KeyHash + Drop> GroupTable<H> {
         ensures groups { OnOk result (groups self.new tree.new ≡ groups self.old tree.old ++ (key.now, state.now) ∷ []) }
         ensures refused { OnErr result ((self.new.slots ≡ self.old.slots) × (groups self.new tree.new ≡ groups self.old tree.old)) }
         ensures others { KeepsOthers self.old tree.old tree.new }
-        ensures held { held_below tree.new self.old.parent ≤ held_below tree.old self.old.parent + group_growth self.old tree.old (length key.now) }
-        ensures rest { held_below tree.new self.old.parent + held_in self.old tree.old ≡ held_below tree.old self.old.parent + held_in self.old tree.new }
+        ensures held { held_below tree.new self.old.parent ≤ held_below tree.old self.old.parent
+            + group_growth self.old tree.old (length key.now) }
+        ensures rest { held_below tree.new self.old.parent + held_in self.old tree.old ≡ held_below tree.old self.old.parent
+            + held_in self.old tree.new }
         ensures holds { OnOk result (HoldsKeys self.old tree.old → HoldsKeys self.new tree.new) }
     {
         self.make_room()?;
@@ -449,7 +472,8 @@ impl<H: KeyHash + Drop> GroupTable<H> {
         ensures groups { OnOk result (groups self.new tree.new ≡ groups self.old tree.old ++ (key.now, state.now) ∷ []) }
         ensures refused { OnErr result ((self.new.slots ≡ self.old.slots) × (groups self.new tree.new ≡ groups self.old tree.old)) }
         ensures others { KeepsOthers self.old tree.old tree.new }
-        ensures held { held_below tree.new self.old.parent ≤ held_below tree.old self.old.parent + group_growth self.old tree.old (length key.now) }
+        ensures held { held_below tree.new self.old.parent ≤ held_below tree.old self.old.parent
+            + group_growth self.old tree.old (length key.now) }
         ensures holds { OnOk result (HoldsKeys self.old tree.old → HoldsKeys self.new tree.new) }
     {
         let next = self.take_array(tree)?;
@@ -475,10 +499,14 @@ impl<H: KeyHash + Drop> GroupTable<H> {
         ensures* writes_back { sem 𝓛 (lends_chunk tree.entry table.now.states slot.state result) }
         ensures state { result.now ≡ state_in table.now tree.old slot }
         ensures len { length result.now ≡ table.now.width }
-        ensures stands { (ws : List ℕ) → length ws ≡ table.now.width → IsTableIn H.hash_of table.now (with_bytes_in tree.old table.now.states slot.state ws) }
-        ensures written { (ws : List ℕ) → (place : ℕ) → length ws ≡ table.now.width → slice_get table.now.slots place ≡ Some slot → groups table.now (with_bytes_in tree.old table.now.states slot.state ws) ≡ slice_set (groups table.now tree.old) place (key_in table.now tree.old slot, ws) }
+        ensures stands { (ws : List ℕ) → length ws ≡ table.now.width
+            → IsTableIn H.hash_of table.now (with_bytes_in tree.old table.now.states slot.state ws) }
+        ensures written { (ws : List ℕ) → (place : ℕ) → length ws ≡ table.now.width → slice_get table.now.slots place ≡ Some slot
+            → groups table.now (with_bytes_in tree.old table.now.states slot.state ws)
+            ≡ slice_set (groups table.now tree.old) place (key_in table.now tree.old slot, ws) }
         ensures others { (ws : List ℕ) → KeepsOthers table.now tree.old (with_bytes_in tree.old table.now.states slot.state ws) }
-        ensures holds { (ws : List ℕ) → length ws ≡ table.now.width → HoldsKeys table.now tree.old → HoldsKeys table.now (with_bytes_in tree.old table.now.states slot.state ws) }
+        ensures holds { (ws : List ℕ) → length ws ≡ table.now.width → HoldsKeys table.now tree.old
+            → HoldsKeys table.now (with_bytes_in tree.old table.now.states slot.state ws) }
     {
         tree.bytes_mut(table.states, slot.state)
     }

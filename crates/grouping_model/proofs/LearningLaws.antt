@@ -12,12 +12,14 @@ use Rattle.grouping_model.specs.Lemmas.LearningLaws.{prefix_is, next_unknown}
 -- what is known stays known, and nothing but the new batch is learned
 known_before : (knowledge : Knowledge) (new batch : Batch) → IsTrue (knows knowledge batch) → IsTrue (knows (learn knowledge new) batch)
 known_before knowledge new batch known =
-    knows_learn knowledge new batch ∙ elim (eq_by_cmp batch_cmp batch new) as (λ b. (b || knows knowledge batch) ≡ true) [ true ↦ refl | false ↦ known ]
+    knows_learn knowledge new batch ∙ elim (eq_by_cmp batch_cmp batch new) as (λ b. (b || knows knowledge batch)
+    ≡ true) [ true ↦ refl | false ↦ known ]
 
 unknown_after : (knowledge : Knowledge) (new batch : Batch) → batch ≢ new → knows (learn knowledge new) batch ≡ knows knowledge batch
 unknown_after knowledge new batch other =
     knows_learn knowledge new batch
-    ∙ elim (eq_by_cmp batch_cmp batch new) as (λ b. eq_by_cmp batch_cmp batch new ≡ b → (b || knows knowledge batch) ≡ knows knowledge batch) [
+    ∙ elim (eq_by_cmp batch_cmp batch new) as (λ b. eq_by_cmp batch_cmp batch new ≡ b → (b || knows knowledge batch)
+    ≡ knows knowledge batch) [
       | true ↦ λ e. absurd (other (batch_cmp_ties batch new ((Equal-is (batch_cmp batch new)).0 e)))
       | false ↦ λ e. refl
     ] refl
@@ -27,13 +29,15 @@ pub learn_known : (knowledge : Knowledge) (batch : Batch) → IsTrue (knows know
 learn_known knowledge batch known =
     same_knowledge (learn knowledge batch) knowledge (λ other.
     knows_learn knowledge batch other
-    ∙ elim (eq_by_cmp batch_cmp other batch) as (λ b. eq_by_cmp batch_cmp other batch ≡ b → (b || knows knowledge other) ≡ knows knowledge other) [
+    ∙ elim (eq_by_cmp batch_cmp other batch) as (λ b. eq_by_cmp batch_cmp other batch ≡ b → (b || knows knowledge other)
+    ≡ knows knowledge other) [
       | true ↦ λ e. sym (ap (knows knowledge) (batch_cmp_ties other batch ((Equal-is (batch_cmp other batch)).0 e)) ∙ known)
       | false ↦ λ e. refl
     ] refl)
 
 -- a batch that is not next to an origin's prefix leaves that prefix
-pub prefix_stays : (knowledge : Knowledge) (batch : Batch) (origin : ℕ) → batch ≢ (origin, prefix knowledge origin + 1) → prefix (learn knowledge batch) origin ≡ prefix knowledge origin
+pub prefix_stays : (knowledge : Knowledge) (batch : Batch) (origin : ℕ) → batch ≢ (origin, prefix knowledge origin + 1)
+    → prefix (learn knowledge batch) origin ≡ prefix knowledge origin
 prefix_stays knowledge batch origin other =
     prefix_is (learn knowledge batch) origin (prefix knowledge origin)
     (λ number low high. known_before knowledge batch (origin, number) (prefix_unbroken knowledge origin number low high))
@@ -41,7 +45,8 @@ prefix_stays knowledge batch origin other =
 
 -- the batch next to the prefix joins it to what follows without a gap
 pub prefix_grows : (knowledge : Knowledge) (origin upto : ℕ) → prefix knowledge origin + 1 ≤ upto
-    → ((number : ℕ) → prefix knowledge origin + 1 < number → number ≤ upto → IsTrue (knows knowledge (origin, number))) → knows knowledge (origin, upto + 1) ≡ false
+    → ((number : ℕ) → prefix knowledge origin + 1 < number → number ≤ upto → IsTrue (knows knowledge (origin, number)))
+    → knows knowledge (origin, upto + 1) ≡ false
     → prefix (learn knowledge (origin, prefix knowledge origin + 1)) origin ≡ upto
 prefix_grows knowledge origin upto reaches follow gap =
     prefix_is (learn knowledge new) origin upto all (unknown_after knowledge new (origin, upto + 1) apart ∙ gap)
@@ -52,11 +57,13 @@ prefix_grows knowledge origin upto reaches follow gap =
     apart : ◌≢◌ {A = Batch} (origin, upto + 1) (origin, prefix knowledge origin + 1)
     apart e = let same : upto + 1 ≡ prefix knowledge origin + 1 = ap (λ (batch : Batch). batch.1) e in omega (arith, same, reaches)
 
-    itself : (number : ℕ) → number ≡ prefix knowledge origin + 1 → IsTrue (knows (learn knowledge (origin, prefix knowledge origin + 1)) (origin, number))
+    itself : (number : ℕ) → number ≡ prefix knowledge origin + 1
+        → IsTrue (knows (learn knowledge (origin, prefix knowledge origin + 1)) (origin, number))
     itself number e =
         subst (λ m. IsTrue (knows (learn knowledge (origin, prefix knowledge origin + 1)) (origin, m))) (sym e)
         (knows_learn knowledge (origin, prefix knowledge origin + 1) (origin, prefix knowledge origin + 1)
-        ∙ ap (λ b. b || knows knowledge (origin, prefix knowledge origin + 1)) (ap is_eq (tied_itself batch_cmp_total (origin, prefix knowledge origin + 1))))
+        ∙ ap (λ b. b || knows knowledge (origin, prefix knowledge origin + 1))
+        (ap is_eq (tied_itself batch_cmp_total (origin, prefix knowledge origin + 1))))
 
     all : IsUnbroken (learn knowledge (origin, prefix knowledge origin + 1)) origin upto
     all number low high =
@@ -65,5 +72,6 @@ prefix_grows knowledge origin upto reaches follow gap =
             | inl later ↦ known_before knowledge (origin, prefix knowledge origin + 1) (origin, number) (follow number later high)
             | inr same ↦ itself number (omega (arith, above, same))
           ]
-          | inr within ↦ known_before knowledge (origin, prefix knowledge origin + 1) (origin, number) (prefix_unbroken knowledge origin number low within)
+          | inr within ↦ known_before knowledge (origin, prefix knowledge origin + 1) (origin, number)
+              (prefix_unbroken knowledge origin number low within)
         ]

@@ -1,5 +1,6 @@
 -- The aggregate functions: what each makes of a whole list of arguments (PostgreSQL 17, 9.21 Aggregate Functions).
-use Rattle.std.specs.Prelude.{ℕ, zero, suc, ◌+◌, ◌*◌, ◌^◌, ◌%◌, ◌==◌, Bool, true, false, cond, not, List, [], ◌∷◌, length, filter, find, count_by, filter_map, ℤ, pos, ◌+ℤ◌, int_le, Option, Some, None}
+use Rattle.std.specs.Prelude.{ℕ, zero, suc, ◌+◌, ◌*◌, ◌^◌, ◌%◌, ◌==◌, Bool, true, false, cond, not, List, [], ◌∷◌, length, filter, find}
+use Rattle.std.specs.Prelude.{count_by, filter_map, ℤ, pos, ◌+ℤ◌, int_le, Option, Some, None}
 use Rattle.std.specs.Int.{w64, cast_unsigned, cast_signed, bit_at}
 use Rattle.std.specs.List.{list_all, list_any}
 use Rattle.grouping_model.specs.Datum.{Datum, Null, Bigint, Boolean}

@@ -3,7 +3,8 @@
 use Rattle.std.specs.Prelude.{◌+◌, Bool, cond, ◌&&◌, ◌||◌, List, [], ◌∷◌, ℤ, ◌+ℤ◌, Option, Some, None}
 use Rattle.std.specs.Int.{w64, int_min, int_max, int_bit_and, int_bit_or, int_bit_xor}
 use Rattle.grouping_model.specs.Datum.{Datum, Bigint}
-use Rattle.grouping_model.specs.Aggregates.{Function, Min, Max, Bit_and, Bit_or, Bit_xor, Bool_or, Partial, Counted, Summed, Number, Truth_value, counts, as_number, as_boolean}
+use Rattle.grouping_model.specs.Aggregates.{Function, Min, Max, Bit_and, Bit_or, Bit_xor, Bool_or, Partial, Counted, Summed, Number}
+use Rattle.grouping_model.specs.Aggregates.{Truth_value, counts, as_number, as_boolean}
 
 -- of two values that may be absent: the one that is there, or what both make
 abbrev pub joined : {X : Type 0} → (X → X → X) → Option X → Option X → Option X

@@ -4,7 +4,7 @@ use Rattle.std.specs.Int.{w64}
 use Rattle.std.specs.declared.cmp.Ordering.{Ordering}
 use Rattle.std.specs.Ordering.{nat_cmp, int_cmp, bool_cmp, eq_by_cmp}
 use Rattle.std.specs.Cmp.Lexicographic.{slice_cmp}
-use Rattle.grouping_model.specs.declared.limits.TheConstants.{LONGEST_TEXT}
+use Rattle.grouping_model.specs.declared.limits.TheConstants.{MAX_TEXT_LEN}
 
 -- a value: null, which is no value at all, a bigint, a boolean, or a text by its bytes
 -- (PostgreSQL 17, 8.1.1 Integer Types, 8.6 Boolean Type, 8.3 Character Types)
@@ -33,7 +33,7 @@ null_field = codes "\\N"
 -- a text: UTF-8 without the character 0 (PostgreSQL 17, 8.3); at most 255 bytes, and never the two
 -- characters that show a null, so that a printed table is read in one way (own)
 abbrev pub IsText : List ℕ → Type 0
-IsText bytes = IsUtf8 bytes × (length bytes ≤ LONGEST_TEXT) × (¬ (Contains bytes 0)) × (bytes ≢ null_field)
+IsText bytes = IsUtf8 bytes × (length bytes ≤ MAX_TEXT_LEN) × (¬ (Contains bytes 0)) × (bytes ≢ null_field)
 
 -- a value that a column of this kind can have: null, or one of the kind and in its range. A bigint has 64 bits in two's
 -- complement (PostgreSQL 17, 8.1.1)

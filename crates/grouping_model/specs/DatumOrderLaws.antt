@@ -24,11 +24,14 @@ bytes_in value = []
 
 -- the order by the kind first, and then by each part
 abbrev by_parts : Datum → Datum → Ordering
-by_parts = then_cmp (on kind_rank nat_cmp) (then_cmp (on number_in int_cmp) (then_cmp (on boolean_in bool_cmp) (on bytes_in (slice_cmp nat_cmp))))
+by_parts = then_cmp (on kind_rank nat_cmp)
+    (then_cmp (on number_in int_cmp) (then_cmp (on boolean_in bool_cmp) (on bytes_in (slice_cmp nat_cmp))))
 
 by_parts_total : IsTotalOrder by_parts
 by_parts_total =
-    then_total (on_total kind_rank nat_cmp_total) (then_total (on_total number_in int_cmp_total) (then_total (on_total boolean_in bool_cmp_total) (on_total bytes_in nat_list_cmp_total)))
+    then_total (on_total kind_rank nat_cmp_total)
+    (then_total (on_total number_in int_cmp_total)
+    (then_total (on_total boolean_in bool_cmp_total) (on_total bytes_in nat_list_cmp_total)))
 
 then_equal : (r : Ordering) → ordering_then r Equal ≡ r
 then_equal Less = refl
@@ -92,7 +95,11 @@ row_cmp_ties = slice_cmp-IsAntisymmetric datum_cmp_ties
 
 -- two tuples are the same exactly if they are equal
 pub same_row-is : (x y : Row) → (IsTrue (same_row x y) → x ≡ y) × (x ≡ y → IsTrue (same_row x y))
-same_row-is x y = (λ same. row_cmp_ties x y ((Equal-is (row_cmp x y)).0 same), λ e. ap (λ z. is_eq (row_cmp x z)) (sym e) ∙ ap is_eq (tied_itself row_cmp_total x))
+same_row-is x y = (
+  λ same. row_cmp_ties x y ((Equal-is (row_cmp x y)).0 same),
+  λ e. ap (λ z. is_eq (row_cmp x z)) (sym e)
+      ∙ ap is_eq (tied_itself row_cmp_total x),
+)
 
 pub null_last : (value : Datum) → value ≢ Null → datum_cmp value Null ≡ Less
 null_last (Bigint z) apart = refl

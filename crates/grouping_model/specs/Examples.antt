@@ -1,14 +1,16 @@
 -- Worked examples: tables, queries and the answers that they must have.
 use Rattle.std.specs.Prelude.{ℕ, ◌-◌, ◌==◌, ◌&&◌, ◌^◌, true, false, List, [], ◌∷◌, ℤ, pos, negsuc, Some, None, option_map, find, codes}
 use Rattle.grouping_model.specs.Datum.{Datum, Null, Bigint, Boolean, Text, Bigint_kind, Boolean_kind, Text_kind, Row}
-use Rattle.grouping_model.specs.Aggregates.{Function, Count_rows, Count, Sum, Min, Max, Bit_and, Bit_or, Bit_xor, Bool_and, Bool_or, Every, Outcome, Plain, Numeric}
+use Rattle.grouping_model.specs.Aggregates.{Function, Count_rows, Count, Sum, Min, Max, Bit_and, Bit_or, Bit_xor, Bool_and, Bool_or, Every}
+use Rattle.grouping_model.specs.Aggregates.{Outcome, Plain, Numeric}
 use Rattle.grouping_model.specs.Condition.{At, Literal, Compare, Is, More, Equal, Is_null}
 use Rattle.grouping_model.specs.Query.{Query, Aggregate, Key, Call}
 use Rattle.grouping_model.specs.World.{World, Batch, Knowledge, knowing}
 
 -- the world of these batches
 abbrev pub world_of : List (Batch × List Row) → World
-world_of batches origin number = option_map (λ (entry : Batch × List Row). entry.1) (find (λ (entry : Batch × List Row). entry.0.0 == origin && entry.0.1 == number) batches)
+world_of batches origin number = option_map (λ (entry : Batch × List Row). entry.1) (find (λ (entry : Batch × List Row). entry.0.0 == origin
+    && entry.0.1 == number) batches)
 
 -- a row of a text and a number, and an answer's row of a text, a count and a sum
 abbrev pub pair : Datum → ℤ → Row
@@ -120,7 +122,8 @@ bits_and_booleans =
       items = Call 0 ∷ Call 1 ∷ Call 2 ∷ Call 3 ∷ Call 4 ∷ Call 5 ∷ [];
       condition = None;
       keys = [];
-      aggregates = of_column Bool_and 0 ∷ of_column Bool_or 0 ∷ of_column Every 0 ∷ of_column Bit_and 1 ∷ of_column Bit_or 1 ∷ of_column Max 1 ∷ [];
+      aggregates = of_column Bool_and 0 ∷ of_column Bool_or 0 ∷ of_column Every 0 ∷ of_column Bit_and 1 ∷ of_column Bit_or 1
+          ∷ of_column Max 1 ∷ [];
       having = None;
       order = [];
     }
@@ -141,7 +144,8 @@ by_sum =
     record sums {
       items = Key 0 ∷ Call 0 ∷ [];
       aggregates = of_column Sum 1 ∷ [];
-      order = record { item = 1; descending = true; nulls_first = true } ∷ record { item = 0; descending = false; nulls_first = false } ∷ [];
+      order = record { item = 1; descending = true; nulls_first = true } ∷ record { item = 0; descending = false; nulls_first = false }
+          ∷ [];
     }
 
 -- the same with NULLS LAST

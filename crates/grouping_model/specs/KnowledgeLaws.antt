@@ -15,8 +15,13 @@ batch_cmp_ties (o, n) (p, m) e = grind (arith, nat_tests, common_steps)
 
 same_batches : (a b : Knowledge) → a.batches ≡ b.batches → a ≡ b
 same_batches a b e =
-    let P : List Batch → Type 0 = λ batches. (rising : IsStrictlySortedBy batch_cmp batches) → a ≡ record { batches = batches; rising = rising } in
-    let at_own : P a.batches = λ rising i. record { batches = a.batches; rising = IsStrictlySortedBy-prop batch_cmp a.batches a.rising rising i } in
+    let P : List Batch → Type 0 = λ batches. (rising : IsStrictlySortedBy batch_cmp batches) → a
+    ≡ record { batches = batches; rising = rising } in
+    let at_own : P a.batches = λ rising i. record {
+      batches = a.batches;
+      rising = IsStrictlySortedBy-prop batch_cmp a.batches a.rising
+          rising i;
+    } in
     subst P e at_own b.rising
 
 -- what is known determines the set
@@ -33,7 +38,8 @@ pub knows_learn : (a : Knowledge) (new batch : Batch) → knows (learn a new) ba
 knows_learn a new batch = knows_knowing (new ∷ a.batches) batch
 
 pub union_commutes : (a b : Knowledge) → union a b ≡ union b a
-union_commutes a b = same_knowledge (union a b) (union b a) (λ batch. knows_union a b batch ∙ or_comm (knows a batch) (knows b batch) ∙ sym (knows_union b a batch))
+union_commutes a b = same_knowledge (union a b) (union b a) (λ batch. knows_union a b batch ∙ or_comm (knows a batch) (knows b batch)
+    ∙ sym (knows_union b a batch))
 
 pub union_associates : (a b c : Knowledge) → union (union a b) c ≡ union a (union b c)
 union_associates a b c =

@@ -1,5 +1,6 @@
 -- Laws: members of lists, by recursion on the list; what is defined here, laws alone say.
-use Rattle.std.specs.Prelude.{◌≡◌, refl, ℕ, zero, suc, ◌<◌, ◌⊎◌, Bool, true, false, T, cond, ◌&&◌, ◌||◌, List, [], ◌∷◌, length, map, filter, find, slice_index_or, Contains, Some, is_some, ◌↔◌}
+use Rattle.std.specs.Prelude.{◌≡◌, refl, ℕ, zero, suc, ◌<◌, ◌⊎◌, Bool, true, false, T, cond, ◌&&◌, ◌||◌, List, [], ◌∷◌, length, map, filter}
+use Rattle.std.specs.Prelude.{find, slice_index_or, Contains, Some, is_some, ◌↔◌}
 use Rattle.std.proofs.Common.{sym, ◌∙◌, ap, subst, inl, inr, suc-le-suc, zero-le}
 use Rattle.std.specs.List.{list_any, list_all}
 use Rattle.std.specs.declared.cmp.Ordering.{Ordering}
@@ -70,7 +71,11 @@ pub member_filter : {X : Type 0} (t : X → Bool) (xs : List X) (x : X) → Memb
 member_filter t [] x m e = absurd m
 member_filter t (y ∷ ys) x (inl q) e = subst (λ b. Member (cond b (y ∷ filter t ys) (filter t ys)) x) (sym (ap t q ∙ e)) (inl q)
 member_filter t (y ∷ ys) x (inr m) e =
-    elim (t y) as (λ b. Member (cond b (y ∷ filter t ys) (filter t ys)) x) [ true ↦ inr (member_filter t ys x m e) | false ↦ member_filter t ys x m e ]
+    elim (t y) as (λ b. Member (cond b (y ∷ filter t ys) (filter t ys)) x) [
+      | true ↦ inr (member_filter t ys x m e)
+      | false ↦ member_filter t
+          ys x m e
+    ]
 
 pub map_member : {X Y : Type 0} (f : X → Y) (xs : List X) (y : Y) → Member (map f xs) y → (x : X) × Member xs x × (f x ≡ y)
 map_member f [] y m = absurd m
@@ -103,7 +108,8 @@ found_some {X} t (y ∷ ys) x m e =
 module _ {X : Type 0} {cmp : X → X → Ordering} (total : IsTotalOrder cmp) (ties : IsAntisymmetric cmp) where
   pub among_member : (xs : List X) (x : X) → is_among cmp x xs ≡ true ↔ Member xs x
   among_member xs x = (
-    λ e. let found = any_member (eq_by_cmp cmp x) xs e in subst (Member xs) (sym (ties x found.0 ((Equal-is (cmp x found.0)).0 found.2))) found.1,
+    λ e. let found = any_member (eq_by_cmp cmp x) xs e in subst (Member xs) (sym (ties x found.0 ((Equal-is (cmp x found.0)).0 found.2)))
+        found.1,
     λ m. member_any (eq_by_cmp cmp x) xs x m (ap is_eq (tied_itself total x)),
   )
 

@@ -59,13 +59,15 @@ directed_total false = value_cmp_total
 pub terms_cmp_total : (terms : List Term) → IsTotalOrder (terms_cmp terms)
 terms_cmp_total [] = record { antisymm = λ x y. refl; trans = λ x y z p q. p; congr = λ x y z p. refl }
 terms_cmp_total (term ∷ terms) =
-    then_total (on_total (value_of term) (then_total (on_total (null_rank term.nulls_first) nat_cmp_total) (directed_total term.descending))) (terms_cmp_total terms)
+    then_total (on_total (value_of term) (then_total (on_total (null_rank term.nulls_first) nat_cmp_total)
+    (directed_total term.descending))) (terms_cmp_total terms)
 
 pub any_compare : (terms : List Term) → IsStrictWeakOrder (comes_before terms)
 any_compare terms = ranks_by (terms_cmp_total terms) (λ row. row)
 
 -- a stable sort by the terms gives this list of rows, and no other
-pub ordered_once : (terms : List Term) (rows found : List (List Outcome)) → IsSortedBy (comes_before terms) found → IsStableBy (comes_before terms) rows found → found ≡ ordered terms rows
+pub ordered_once : (terms : List Term) (rows found : List (List Outcome)) → IsSortedBy (comes_before terms) found
+    → IsStableBy (comes_before terms) rows found → found ≡ ordered terms rows
 ordered_once terms rows found sorted stable = sorted_once (comes_before terms) (any_compare terms) rows found sorted stable
 
 -- without terms rows stand as they stood

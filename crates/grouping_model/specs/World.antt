@@ -1,12 +1,13 @@
 -- The batches of rows that there are, and what is known of them. All of this is our own.
-use Rattle.std.specs.Prelude.{◌≡◌, ℕ, zero, suc, ◌+◌, ◌≤◌, ◌==◌, Bool, List, [], ◌∷◌, ◌++◌, map, filter, length, flat_map, nat_lt, Option, Some, All, unwrap_or, IsTrue}
+use Rattle.std.specs.Prelude.{◌≡◌, ℕ, zero, suc, ◌+◌, ◌≤◌, ◌==◌, Bool, List, [], ◌∷◌, ◌++◌, map, filter, length, flat_map, nat_lt, Option}
+use Rattle.std.specs.Prelude.{Some, All, unwrap_or, IsTrue}
 use Rattle.std.specs.declared.cmp.Ordering.{Ordering}
 use Rattle.std.specs.Ordering.{nat_cmp, then_cmp, on}
 use Rattle.std.specs.List.{prefix_len}
 use Rattle.std.specs.List.Sorted.{IsStrictlySortedBy}
 use Rattle.std.specs.Cmp.{IsTotalOrder, then_total, on_total, nat_cmp_total}
 use Rattle.grouping_model.specs.Datum.{Row, Kind, HasKinds}
-use Rattle.grouping_model.specs.declared.limits.TheConstants.{LAST_ORIGIN, LAST_NUMBER, MOST_ROWS}
+use Rattle.grouping_model.specs.declared.limits.TheConstants.{LAST_ORIGIN, LAST_NUMBER, MAX_ROWS}
 use Rattle.grouping_model.specs.Rising.{distinct, is_among}
 use Rattle.grouping_model.specs.Rising.Facts.{distinct-rises}
 
@@ -19,7 +20,7 @@ abbrev pub IsWorld : List Kind → World → Type 0
 IsWorld kinds world =
     (origin number : ℕ) (rows : List Row)
     → world origin number ≡ Some rows
-    → (origin ≤ LAST_ORIGIN) × (1 ≤ number) × (number ≤ LAST_NUMBER) × (length rows ≤ MOST_ROWS) × All (HasKinds kinds) rows
+    → (origin ≤ LAST_ORIGIN) × (1 ≤ number) × (number ≤ LAST_NUMBER) × (length rows ≤ MAX_ROWS) × All (HasKinds kinds) rows
 
 -- which batch: its origin and its number
 abbrev pub Batch : Type 0

@@ -4,7 +4,8 @@
 mod delivered;
 pub mod limits;
 
-ghost use Rattle.std.specs.Prelude.{◌≡◌, ◌-◌, nat_lt, filter, ◌+◌, ◌<◌, ◌≤◌, ◌≤ℤ◌, ◌↔◌, ℕ, ℤ, Bool, IsSome, IsTrue, ◌≢◌, FitsSigned, List, length, Contains, [], ◌∷◌, pos, negsuc, ◌||◌, ◌++◌, true, false, codes, if◌then◌else◌};
+ghost use Rattle.std.specs.Prelude.{◌≡◌, ◌-◌, nat_lt, filter, ◌+◌, ◌<◌, ◌≤◌, ◌≤ℤ◌, ◌↔◌, ℕ, ℤ, Bool, IsSome, IsTrue, ◌≢◌, FitsSigned, List};
+ghost use Rattle.std.specs.Prelude.{length, Contains, [], ◌∷◌, pos, negsuc, ◌||◌, ◌++◌, true, false, codes, if◌then◌else◌};
 ghost use Rattle.std.specs.Int.{w64};
 ghost use Rattle.std.specs.Ordering.{eq_by_cmp, nat_cmp};
 ghost use Rattle.std.specs.List.{flat_map};
@@ -14,15 +15,21 @@ ghost use Rattle.grouping_model.specs.Grouping.{argument, arguments, selected, k
 ghost use Rattle.grouping_model.specs.Parts.{keys_of, partials_at, combine_parts, with_row};
 ghost use Rattle.grouping_model.specs.Rising.{put, distinct, is_among};
 ghost use Rattle.grouping_model.specs.Combining.{combine, transition};
-ghost use Rattle.grouping_model.specs.World.{World, Batch, Knowledge, batch_cmp, knowing, nothing, knows, learn, union, IsUnbroken, prefix, early, origins, count_up, batch_rows, origin_rows};
+ghost use Rattle.grouping_model.specs.World.{World, Batch, Knowledge, batch_cmp, knowing, nothing, knows, learn, union, IsUnbroken, prefix};
+ghost use Rattle.grouping_model.specs.World.{early, origins, count_up, batch_rows, origin_rows};
 ghost use Rattle.std.specs.Cmp.{IsTotalOrder};
 ghost use Rattle.std.specs.declared.cmp.Ordering.TheVariants.{Less};
-ghost use Rattle.grouping_model.specs.Condition.{Truth, Unknown, Comparison, truth_not, truth_and, truth_or, outcome_cmp, by_order, truth, as_outcome, is_met};
+ghost use Rattle.grouping_model.specs.Condition.{Truth, Unknown, Comparison, truth_not, truth_and, truth_or, outcome_cmp, by_order, truth};
+ghost use Rattle.grouping_model.specs.Condition.{as_outcome, is_met};
 ghost use Rattle.grouping_model.specs.Answer.{answer, answer_over};
 ghost use Rattle.grouping_model.specs.Order.{Term, comes_before, ordered};
 ghost use Rattle.grouping_model.specs.Datum.{Datum, Kind, HasKind, HasKinds, datum_cmp, Row, row_cmp, same_row, Null, Boolean, Text};
-ghost use Rattle.grouping_model.specs.Aggregates.{bits_of_all, bits_of_some, bits_of_odd, Function, partial, Outcome, Plain, Numeric, least, greatest, has_bit, number_of_bits, Count_rows, Count, Partial, Counted, non_null};
-ghost use Rattle.grouping_model.specs.Examples.{sums, three_rows, three_batches, one_to_five, six_and_eight, triple, oslo, bergen, grand_total, any_rows, extremes, of_nulls, a, nulls_and_numbers, last_unknown, big_ones, not_itself, bits_and_booleans, twelve_and_ten, number, one_absent, by_sum, by_sum_nulls_last, summed, absent};
+ghost use Rattle.grouping_model.specs.Aggregates.{bits_of_all, bits_of_some, bits_of_odd, Function, partial, Outcome, Plain, Numeric};
+ghost use Rattle.grouping_model.specs.Aggregates.{least, greatest, has_bit, number_of_bits, Count_rows, Count, Partial, Counted, non_null};
+ghost use Rattle.grouping_model.specs.Examples.{sums, three_rows, three_batches, one_to_five, six_and_eight, triple, oslo, bergen};
+ghost use Rattle.grouping_model.specs.Examples.{grand_total, any_rows, extremes, of_nulls, a, nulls_and_numbers, last_unknown, big_ones};
+ghost use Rattle.grouping_model.specs.Examples.{not_itself, bits_and_booleans, twelve_and_ten, number, one_absent, by_sum};
+ghost use Rattle.grouping_model.specs.Examples.{by_sum_nulls_last, summed, absent};
 
 pub use delivered::Delivered;
 

@@ -7,34 +7,34 @@ pub const LAST_ORIGIN: u16 = 1_023;
 pub const LAST_NUMBER: u32 = 4_294_967_295;
 
 /// The most rows of a batch.
-pub const MOST_ROWS: u32 = 1_048_576;
+pub const MAX_ROWS: u32 = 1_048_576;
 
 /// The most columns of a table.
-pub const MOST_COLUMNS: usize = 32;
+pub const MAX_COLUMNS: usize = 32;
 
 /// The most columns of GROUP BY, each counted once.
-pub const MOST_KEYS: usize = 16;
+pub const MAX_KEYS: usize = 16;
 
 /// The most aggregates of a query, each counted once.
-pub const MOST_CALLS: usize = 32;
+pub const MAX_CALLS: usize = 32;
 
 /// The most items of a query.
-pub const MOST_ITEMS: usize = 64;
+pub const MAX_ITEMS: usize = 64;
 
 /// The most bytes of a query's text, and of its canonical text.
-pub const LONGEST_QUERY: usize = 16_384;
+pub const MAX_QUERY_LEN: usize = 16_384;
 
 /// The most operators that a condition may have above one of its operands, the operand counted too.
 pub const DEEPEST_CONDITION: u64 = 64;
 
 /// The most parentheses of a condition that may be open at once.
-pub const MOST_OPEN: usize = 64;
+pub const MAX_OPEN: usize = 64;
 
 /// The most bytes of a name: of a column, an alias or a replica.
-pub const LONGEST_NAME: usize = 63;
+pub const MAX_NAME_LEN: usize = 63;
 
 /// The most bytes of a text value.
-pub const LONGEST_TEXT: usize = 255;
+pub const MAX_TEXT_LEN: usize = 255;
 
 /// The most bytes of one input: a script, a batch file or a summary file.
-pub const LONGEST_INPUT: usize = 67_108_864;
+pub const MAX_INPUT_LEN: usize = 67_108_864;

@@ -1,5 +1,6 @@
 -- The keys of rows.
-use Rattle.std.specs.Prelude.{◌≡◌, refl, ℕ, zero, suc, ◌+◌, ◌<◌, List, [], ◌∷◌, ◌++◌, length, map, take, slice_index_or, Result, Ok, Err, IfOk}
+use Rattle.std.specs.Prelude.{◌≡◌, refl, ℕ, zero, suc, ◌+◌, ◌<◌, List, [], ◌∷◌, ◌++◌, length, map, take, slice_index_or, Result, Ok, Err}
+use Rattle.std.specs.Prelude.{IfOk}
 use Rattle.std.proofs.Common.{sym, ◌∙◌, ap, arith}
 use Rattle.std.proofs.lemmas.List.{get_or-map, map-append, append-nil, take_more}
 use Rattle.std.proofs.lemmas.List.Concat.{flat_map-append}
@@ -8,7 +9,8 @@ use Rattle.hash_agg.proofs.Words.{Datum, Null, Row, Kind, HasKinds, at_place, pa
 use Rattle.packed_rows.specs.declared.value.Value.{Value}
 use Rattle.agg_protocol.specs.ArgumentLaws.{length-row_of}
 
-pub all_index : {X : Type 0} (P : X → Type 0) (xs : List X) (i : ℕ) (d : X) → AllByRecursion P xs → i < length xs → P (slice_index_or xs i d)
+pub all_index : {X : Type 0} (P : X → Type 0) (xs : List X) (i : ℕ) (d : X) → AllByRecursion P xs → i < length xs
+    → P (slice_index_or xs i d)
 all_index P [] i d all low = absurd (omega arith)
 all_index P (x ∷ xs) zero d (p, all) low = p
 all_index P (x ∷ xs) (suc i) d (p, all) low = all_index P xs i d all (omega arith)
@@ -17,10 +19,12 @@ pub kinds_long : (kinds : List Kind) (row : Row) → HasKinds kinds row → leng
 kinds_long [] [] has = refl
 kinds_long [] (value ∷ row) has = absurd has
 kinds_long (kind ∷ kinds) [] has = absurd has
-kinds_long (kind ∷ kinds) (value ∷ row) (first, has) = let rest : length row ≡ length kinds = kinds_long kinds row has in omega (arith, rest)
+kinds_long (kind ∷ kinds) (value ∷ row) (first, has) = let rest : length row
+    ≡ length kinds = kinds_long kinds row has in omega (arith, rest)
 
 -- a column of GROUP BY is one of the row
-pub place_within : (kinds : List Kind) (values : List Value) (keys : List ℕ) (i : ℕ) → HasKinds kinds (row_of values) → AllByRecursion (λ place. place < length kinds) keys → i < length keys → slice_index_or keys i 0 < length values
+pub place_within : (kinds : List Kind) (values : List Value) (keys : List ℕ) (i : ℕ) → HasKinds kinds (row_of values)
+    → AllByRecursion (λ place. place < length kinds) keys → i < length keys → slice_index_or keys i 0 < length values
 place_within kinds values keys i has within low =
     let place : slice_index_or keys i 0 < length kinds = all_index (λ place. place < length kinds) keys i 0 within low in
     let long : length (row_of values) ≡ length kinds = kinds_long kinds (row_of values) has in
@@ -28,8 +32,10 @@ place_within kinds values keys i has within low =
     omega (arith, place, long, many)
 
 -- the packing of one more column
-pub key_more : (values : List Value) (so_far : List ℕ) (keys : List ℕ) (i : ℕ) (default : Value) → i < length keys → slice_index_or keys i 0 < length values → so_far ≡ packing (map (at_place (row_of values)) (take i keys))
-    → so_far ++ value_packing (datum_of (slice_index_or values (slice_index_or keys i 0) default)) ≡ packing (map (at_place (row_of values)) (take (i + 1) keys))
+pub key_more : (values : List Value) (so_far : List ℕ) (keys : List ℕ) (i : ℕ) (default : Value) → i < length keys
+    → slice_index_or keys i 0 < length values → so_far ≡ packing (map (at_place (row_of values)) (take i keys))
+    → so_far ++ value_packing (datum_of (slice_index_or values (slice_index_or keys i 0) default))
+    ≡ packing (map (at_place (row_of values)) (take (i + 1) keys))
 key_more values so_far keys i default low within before =
     let place : ℕ = slice_index_or keys i 0 in
     let front : List Datum = map (at_place (row_of values)) (take i keys) in

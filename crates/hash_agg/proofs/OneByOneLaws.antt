@@ -12,7 +12,8 @@ pub record LastOf {X Y : Type 0} (P : X → Y → Type 0) (xs : List X) (x : X) 
   pub one : P x last
 
 module _ {X Y : Type 0} (P : X → Y → Type 0) where
-  pub one_append : (xs more : List X) (ys others : List Y) → OneByOne P xs ys → OneByOne P more others → OneByOne P (xs ++ more) (ys ++ others)
+  pub one_append : (xs more : List X) (ys others : List Y) → OneByOne P xs ys → OneByOne P more others
+      → OneByOne P (xs ++ more) (ys ++ others)
   one_append [] more [] others are rest = rest
   one_append [] more (y ∷ ys) others are rest = absurd are
   one_append (x ∷ xs) more [] others are rest = absurd are
@@ -35,7 +36,8 @@ module _ {X Y : Type 0} (P : X → Y → Type 0) where
   none_to_none (y ∷ ys) are = absurd are
 
   -- those that pass a test, where what belongs to them passes another
-  pub one_filtered : (t : X → Bool) (u : Y → Bool) → ((x : X) (y : Y) → P x y → t x ≡ u y) → (xs : List X) (ys : List Y) → OneByOne P xs ys → OneByOne P (filter t xs) (filter u ys)
+  pub one_filtered : (t : X → Bool) (u : Y → Bool) → ((x : X) (y : Y) → P x y → t x ≡ u y) → (xs : List X) (ys : List Y) → OneByOne P xs ys
+      → OneByOne P (filter t xs) (filter u ys)
   one_filtered t u same [] [] are = tt
   one_filtered t u same [] (y ∷ ys) are = absurd are
   one_filtered t u same (x ∷ xs) [] are = absurd are

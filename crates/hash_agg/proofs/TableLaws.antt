@@ -4,14 +4,16 @@ use Rattle.std.proofs.Common.{sym, ◌∙◌, ap, arith}
 use Rattle.context_tree.specs.Contexts.{held_by}
 use Rattle.context_tree.specs.Tree.{TreeState, context_at, held_below}
 use Rattle.group_table.specs.Standing.{IsTableIn}
-use Rattle.hash_agg.proofs.Words.{TableState, IsSameBut, held_in, HasNo, key_in, state_in, group_in, groups, Slot, Entry, GroupsState, entries_of, AreOnce}
+use Rattle.hash_agg.proofs.Words.{TableState, IsSameBut, held_in, HasNo, key_in, state_in, group_in, groups, Slot, Entry, GroupsState}
+use Rattle.hash_agg.proofs.Words.{entries_of, AreOnce}
 
 -- no entry has this key
 abbrev pub HasNoKey : List Entry → List ℕ → Type 0
 HasNoKey entries key = (i : ℕ) (x : Entry) → slice_get entries i ≡ Some x → x.0 ≢ key
 
 -- what stands at a place of a list that was mapped
-pub mapped_get : {X Y : Type 0} (f : X → Y) (xs : List X) (i : ℕ) (y : Y) → slice_get (map f xs) i ≡ Some y → (x : X) × (slice_get xs i ≡ Some x) × (f x ≡ y)
+pub mapped_get : {X Y : Type 0} (f : X → Y) (xs : List X) (i : ℕ) (y : Y) → slice_get (map f xs) i ≡ Some y → (x : X)
+    × (slice_get xs i ≡ Some x) × (f x ≡ y)
 mapped_get f [] i y at = absurd cc
 mapped_get f (x ∷ xs) zero y at = (x, refl, cc)
 mapped_get f (x ∷ xs) (suc i) y at = mapped_get f xs i y at
@@ -21,7 +23,8 @@ get_mapped f [] i x at = absurd cc
 get_mapped f (y ∷ xs) zero x at = let same : y ≡ x = cc in ap (λ x. Some (f x)) same
 get_mapped f (y ∷ xs) (suc i) x at = get_mapped f xs i x at
 
-pub once_groups : {Hash : Type 0} (hash_of : Hash → List ℕ → ℕ) (t : TableState Hash) (tree : TreeState) → IsTableIn hash_of t tree → AreOnce (groups t tree)
+pub once_groups : {Hash : Type 0} (hash_of : Hash → List ℕ → ℕ) (t : TableState Hash) (tree : TreeState) → IsTableIn hash_of t tree
+    → AreOnce (groups t tree)
 once_groups hash_of t tree is i j x y at bt same =
     let a = mapped_get (group_in t tree) t.slots i x at in
     let b = mapped_get (group_in t tree) t.slots j y bt in
@@ -33,13 +36,18 @@ no_key g key none i x at same =
     let a = mapped_get (group_in g.table g.tree) g.table.slots i x at in
     none a.0 (i, a.1) (ap (λ (e : Entry). e.0) a.2 ∙ same)
 
-pub named_at : {Hash : Type 0} (g : GroupsState Hash) (slot : Slot) (key : List ℕ) (place : ℕ) → slice_get g.table.slots place ≡ Some slot → key_in g.table g.tree slot ≡ key → slice_get (entries_of g) place ≡ Some (key, state_in g.table g.tree slot)
-named_at g slot key place at named = get_mapped (group_in g.table g.tree) g.table.slots place slot at ∙ (λ i. Some (named i, state_in g.table g.tree slot))
+pub named_at : {Hash : Type 0} (g : GroupsState Hash) (slot : Slot) (key : List ℕ) (place : ℕ) → slice_get g.table.slots place ≡ Some slot
+    → key_in g.table g.tree slot ≡ key → slice_get (entries_of g) place ≡ Some (key, state_in g.table g.tree slot)
+named_at g slot key place at named = get_mapped (group_in g.table g.tree) g.table.slots place slot at
+    ∙ (λ i. Some (named i, state_in g.table g.tree slot))
 
 -- where no more was held below the parent than in the table, no more is
-pub held_alone : {Hash : Type 0} (t u : TableState Hash) (before after : TreeState) → IsSameBut t u → held_below before t.parent ≡ held_in t before → held_below after t.parent + held_in t before ≡ held_below before t.parent + held_in t after → held_below after u.parent ≡ held_in u after
+pub held_alone : {Hash : Type 0} (t u : TableState Hash) (before after : TreeState) → IsSameBut t u → held_below before t.parent
+    ≡ held_in t before → held_below after t.parent + held_in t before ≡ held_below before t.parent + held_in t after
+    → held_below after u.parent ≡ held_in u after
 held_alone t u before after same alone rest =
     let now : held_below after t.parent ≡ held_in t after = omega (arith, alone, rest) in
     ap (held_below after) same.parent
     ∙ now
-    ∙ (λ i. held_by (context_at after (sym same.buckets i)) + held_by (context_at after (sym same.keys i)) + held_by (context_at after (sym same.states i)))
+    ∙ (λ i. held_by (context_at after (sym same.buckets i)) + held_by (context_at after (sym same.keys i))
+    + held_by (context_at after (sym same.states i)))

@@ -10,7 +10,8 @@ pub use Rattle.group_table.specs.Table.{HasNo, IsSameBut, IsSlot, Names, TableSt
 pub use Rattle.group_table.specs.declared.table.Slot.{Slot}
 pub use Rattle.grouping_model.specs.Aggregates.{Function, Partial}
 pub use Rattle.grouping_model.specs.Condition.{is_met}
-pub use Rattle.grouping_model.specs.Datum.{Bigint, Bigint_kind, Boolean, Boolean_kind, Datum, HasKinds, Kind, Null, Row, Text, Text_kind, at_place, row_cmp, same_row}
+pub use Rattle.grouping_model.specs.Datum.{Bigint, Bigint_kind, Boolean, Boolean_kind, Datum, HasKinds, Kind, Null, Row, Text, Text_kind}
+pub use Rattle.grouping_model.specs.Datum.{at_place, row_cmp, same_row}
 pub use Rattle.grouping_model.specs.Grouping.{Group, column_of, part, partials, selected}
 pub use Rattle.grouping_model.specs.Parts.{advanced, functions, keys_of, partials_at, with_row}
 pub use Rattle.grouping_model.specs.Query.{Query}
@@ -20,21 +21,31 @@ pub use Rattle.having_filter.specs.Meaning.{meaning}
 pub use Rattle.key_hashes.specs.SipHashes.{low_hash}
 pub use Rattle.list_laws.specs.Each.{each_append, each_behind, each_front, each_weaker}
 pub use Rattle.packed_rows.specs.Packing.{packing, value_packing}
-pub use Rattle.packed_rows.specs.RowsOnEnd.{on_end}
+pub use Rattle.packed_rows.specs.ConcatenatedRows.{concatenated}
 pub use Rattle.packed_rows.specs.View.{datum_of, row_of}
-pub use Rattle.spill_lists.specs.Errors.{spill_faults}
-pub use Rattle.spill_lists.specs.Lists.{LeftList, deeper, is_none, left_by, list_of, lists, on_list}
-pub use Rattle.spill_lists.specs.Standing.{AreOn, AreSpilled, BeginsLast, HasLists, KeepsRest, ListsState, Spilled, ahead_number, count_of, full_pages, list_pages, pages_of, spilled_number, waiting_number, written_pages}
-pub use Rattle.spill_lists.specs.declared.error.SpillError.TheVariants.{NoMemory, TapeDamaged, TapeFault}
-pub use Rattle.spill_lists.specs.declared.lists.OnTape.{OnTape}
+pub use Rattle.spill_partitions.specs.Errors.{spill_faults}
+pub use Rattle.spill_partitions.specs.Lists.{PendingPartition, deeper, is_none, left_by, list_of, lists, on_list}
+pub use Rattle.spill_partitions.specs.Standing.{AreOn, AreSpilled, BeginsLast, HasLists, KeepsRest, PartitionsState, Spilled, ahead_number}
+pub use Rattle.spill_partitions.specs.Standing.{count_of, full_pages, list_pages, pages_of, spilled_number, waiting_number, written_pages}
+pub use Rattle.spill_partitions.specs.declared.error.SpillError.TheVariants.{NoMemory, TapeDamaged, TapeFault}
+pub use Rattle.spill_partitions.specs.declared.lists.OnTape.{OnTape}
 unfoldable pub use Rattle.spill_tapes.specs.Records.{header_of}
 pub use Rattle.spill_tapes.specs.Records.{Record, record_bytes, tape_bytes}
-pub use Rattle.tape_disks.specs.Disk.{Leaves}
+pub use Rattle.tape_disks.specs.Disk.{DiskFrame}
 pub use Rattle.tape_disks.specs.declared.disk.TapeDisk.{Ghosts}
-pub use Rattle.hash_agg.specs.Added.{Added, AddedBy, AddedOne, Adds, Are, AreInputs, Continues, CountsWithin, Entries, Finished, HasRoom, IsDone, IsOver, IsReady, IsSafeRun, IsSelected, IsUnderway, KeepsLater, KeepsPass, MadeFirst, MadeLater, On_tape, Packed_rows, Refused, RefusedBy, Source, enters, query_of, setting_in, source_of}
-pub use Rattle.hash_agg.specs.Inputs.{AllBring, AllGive, AreInputsOf, ArePackings, Brought, Counted, Given, IsAggregate, IsInput, IsRunOver, Of_groups, Of_rows, OneByOne, Packed, all_groups, all_rows, brought, groups_in, packings_in, rows_in}
-pub use Rattle.hash_agg.specs.Passes.{AreCosted, AreGroupsBy, AreHeld, AreOfRun, AreOnce, ArePieces, AreRows, AreSafe, Brings, CanRead, CanReadList, CountUpTo, GroupsState, Holds, IsCosted, IsGroupRecord, IsLed, IsParted, IsPiece, IsPlan, IsRowRecord, IsSameTable, Led, Of_group, Of_row, PassState, Piece, Proceeds, Reads, ReadsList, Spills, Stands, WritesAt, WritesPages, all_pieces, brings, brought_by, cost_records, entries_of, given_pieces, group_record, made_of, pairs, piece_added, piece_key, pieces_added, records_of, rows_at, setting_for, setting_of, standing, total, weight}
-pub use Rattle.hash_agg.specs.Waiting.{AddsUp, AreLeft, AreListed, AreNone, Costs, IsLeft, IsOneOf, IsWork, Waits, capped, each_at, pass_cost}
+pub use Rattle.hash_agg.specs.Added.{Added, AddedBy, AddedOne, Adds, Are, AreInputs, Continues, CountsWithin, Entries, Finished, HasRoom}
+pub use Rattle.hash_agg.specs.Added.{IsDone, IsOver, IsReady, IsSafeRun, IsSelected, IsUnderway, KeepsLater, KeepsPass, MadeFirst}
+pub use Rattle.hash_agg.specs.Added.{MadeLater, On_tape, Packed_rows, Refused, RefusedBy, Source, enters, query_of, setting_in, source_of}
+pub use Rattle.hash_agg.specs.Inputs.{AllBring, AllGive, AreInputsOf, ArePackings, Brought, Counted, Given, IsAggregate, IsInput, IsRunOver}
+pub use Rattle.hash_agg.specs.Inputs.{Of_groups, Of_rows, OneByOne, Packed, all_groups, all_rows, brought, groups_in, packings_in, rows_in}
+pub use Rattle.hash_agg.specs.Passes.{AreCosted, AreGroupsBy, AreHeld, AreOfRun, AreOnce, ArePieces, AreRows, AreSafe, Brings, CanRead}
+pub use Rattle.hash_agg.specs.Passes.{CanReadList, CountUpTo, GroupsState, Holds, IsCosted, IsGroupRecord, IsAbbreviated, IsParted, IsPiece}
+pub use Rattle.hash_agg.specs.Passes.{IsPlan, IsRowRecord, IsSameTable, AbbreviatedKey, Of_group, Of_row, PassState, Piece, Proceeds, Reads}
+pub use Rattle.hash_agg.specs.Passes.{ReadsList, Spills, Stands, WritesAt, WritesPages, all_pieces, brings, brought_by, cost_records}
+pub use Rattle.hash_agg.specs.Passes.{entries_of, given_pieces, group_record, made_of, pairs, piece_added, piece_key, pieces_added}
+pub use Rattle.hash_agg.specs.Passes.{records_of, rows_at, setting_for, setting_of, standing, total, weight}
+pub use Rattle.hash_agg.specs.Waiting.{AddsUp, AreLeft, AreListed, AreNone, Costs, IsLeft, IsOneOf, IsWork, Waits, capped, each_at}
+pub use Rattle.hash_agg.specs.Waiting.{pass_cost}
 pub use Rattle.hash_agg.specs.declared.input.Input.{Input}
 pub use Rattle.hash_agg.specs.declared.pass.Pass.{Pass}
 pub use Rattle.hash_agg.specs.declared.plan.Plan.{Plan}

@@ -1,5 +1,6 @@
 -- What a pass adds to its groups and lists, and what it leaves of its disk. All of this is our own.
-use Rattle.std.specs.Prelude.{◌≡◌, ◌≢◌, ℕ, ◌+◌, ◌≤◌, ◌<◌, ◌&&◌, max, Bool, true, false, List, [], ◌∷◌, ◌++◌, length, IsTrue, IfErr, OnOk, Result}
+use Rattle.std.specs.Prelude.{◌≡◌, ◌≢◌, ℕ, ◌+◌, ◌≤◌, ◌<◌, ◌&&◌, max, Bool, true, false, List, [], ◌∷◌, ◌++◌, length, IsTrue, IfErr, OnOk}
+use Rattle.std.specs.Prelude.{Result}
 use Rattle.std.specs.List.{AllByRecursion}
 use Rattle.std.specs.List.Sorted.{IsPermutation}
 use Rattle.aggregation_cost.specs.Cost.{Cost, cost}
@@ -12,17 +13,19 @@ use Rattle.grouping_model.specs.Grouping.{column_of, key_of}
 use Rattle.packed_rows.specs.Packing.{packing}
 use Rattle.spill_tapes.specs.Records.{Record}
 use Rattle.tape_disks.specs.Calls.{failed}
-use Rattle.tape_disks.specs.Disk.{Leaves}
+use Rattle.tape_disks.specs.Disk.{DiskFrame}
 use Rattle.tape_disks.specs.declared.disk.TapeDisk.{Ghosts}
-use Rattle.spill_lists.specs.Errors.{spill_faults}
-use Rattle.spill_lists.specs.Lists.{LeftList, lists, left_by}
-use Rattle.spill_lists.specs.Standing.{HasLists, KeepsRest, spilled_number, ahead_number, waiting_number, pages_of, written_pages}
-use Rattle.spill_lists.specs.declared.error.SpillError.{SpillError}
-use Rattle.spill_lists.specs.declared.error.SpillError.TheVariants.{TapeDamaged}
+use Rattle.spill_partitions.specs.Errors.{spill_faults}
+use Rattle.spill_partitions.specs.Lists.{PendingPartition, lists, left_by}
+use Rattle.spill_partitions.specs.Standing.{HasLists, KeepsRest, spilled_number, ahead_number, waiting_number, pages_of, written_pages}
+use Rattle.spill_partitions.specs.declared.error.SpillError.{SpillError}
+use Rattle.spill_partitions.specs.declared.error.SpillError.TheVariants.{TapeDamaged}
 use Rattle.having_filter.specs.Meaning.{meaning}
 use Rattle.group_runs.specs.Runs.{Entry, Rises, packed_keys}
 use Rattle.hash_agg.specs.Inputs.{Brought, Packed, Counted, IsInput, all_rows, Given, AllGive}
-use Rattle.hash_agg.specs.Passes.{Piece, ArePieces, AreSafe, IsPlan, IsSameTable, HasPlace, CountUpTo, Stands, AreRows, AreOfRun, Reads, CanRead, ReadsList, CanReadList, Brings, Proceeds, WritesPages, entries_of, total, standing, setting_of, records_of, all_pieces, brought_by}
+use Rattle.hash_agg.specs.Passes.{Piece, ArePieces, AreSafe, IsPlan, IsSameTable, HasPlace, CountUpTo, Stands, AreRows, AreOfRun, Reads}
+use Rattle.hash_agg.specs.Passes.{CanRead, ReadsList, CanReadList, Brings, Proceeds, WritesPages, entries_of, total, standing, setting_of}
+use Rattle.hash_agg.specs.Passes.{records_of, all_pieces, brought_by}
 use Rattle.hash_agg.specs.Waiting.{Waits, Costs, AddsUp, pass_cost}
 use Rattle.hash_agg.specs.declared.plan.Plan.{Plan}
 use Rattle.hash_agg.specs.declared.pass.Pass.{Pass}
@@ -63,19 +66,19 @@ pub record IsReady {H : Type 0} (pass : Pass H) : Type 0 where
 -- it has no group, and has spilled nothing
 pub record IsFresh {H : Type 0} (pass : Pass H) : Type 0 where
   pub empty : entries_of pass.groups ≡ []
-  pub parts : pass.lists.parts ≡ []
+  pub partitions : pass.lists.partitions ≡ []
 
 -- it is over, and the next one may begin
 pub record IsOver {H : Type 0} (pass : Pass H) : Type 0 where
   pub ready : IsReady pass
   pub fresh : IsFresh pass
-  pub source : pass.lists.source ≡ []
+  pub reading : pass.lists.reading ≡ []
 
 -- it is the first: it stands as one that is over, and no list is left to read
 pub record IsFirst {H D : Type 0} (g : Ghosts D) (pass : Pass H) (disk : D) : Type 0 where
   pub over : IsOver pass
   pub none : HasLists (g.last disk) pass.lists [] [] []
-  pub todo : pass.lists.todo ≡ []
+  pub pending : pass.lists.pending ≡ []
   pub level : pass.lists.level ≡ 0
 
 -- its plan, its table but for the groups, and the lists to which it doesn't spill are the same
@@ -86,11 +89,11 @@ pub record KeepsPass {H : Type 0} (old new : Pass H) : Type 0 where
 
 -- whether a key that isn't there enters its table
 abbrev pub enters : {H : Type 0} → (List ℕ → ℕ) → Pass H → List ℕ → Bool
-enters hash pass key = is_empty pass.lists.parts && fits (setting_of pass.plan hash) (packed_keys (entries_of pass.groups) ++ key ∷ [])
+enters hash pass key = is_empty pass.lists.partitions && fits (setting_of pass.plan hash) (packed_keys (entries_of pass.groups) ++ key ∷ [])
 
 -- it does, and so many bytes of blocks are held at most meanwhile
 pub record HasRoom {H : Type 0} (pass : Pass H) (key : List ℕ) (bytes : ℕ) : Type 0 where
-  pub none : pass.lists.parts ≡ []
+  pub none : pass.lists.partitions ≡ []
   pub few : HasPlace pass.groups
   pub within : bytes ≤ pass.plan.limit
   pub needed : bytes ≡ need pass.groups.table.width (packed_keys (entries_of pass.groups) ++ key ∷ [])
@@ -106,17 +109,23 @@ pub record IsSelected (query : Query) (packed key : List ℕ) (row : Row) : Type
 
 -- what is read was added, by a plan and a hash function: the groups and lists are those after it; they are as many more as it brings
 -- at most, and groups of the query over any disk; and the pages that became full were written
-pub record AddedBy {H D : Type 0} (plan : Plan) (hash : List ℕ → ℕ) (g : Ghosts D) (what : Source) (old : Pass H) (before : D) (new : Pass H) (after : D) : Type 0 where
-  pub reads : Reads plan hash (Are (meaning plan.query.now) hash what) (standing old.groups old.lists (g.last before)) (standing new.groups new.lists (g.last after))
-  pub brings : Brings (meaning plan.query.now) (Are (meaning plan.query.now) hash what) (entries_of old.groups) old.lists (entries_of new.groups) new.lists
-  pub safe : AreSafe (meaning plan.query.now) plan.most (entries_of old.groups) → AreSafe (meaning plan.query.now) plan.most (entries_of new.groups)
+pub record AddedBy {H D : Type 0} (plan : Plan) (hash : List ℕ → ℕ) (g : Ghosts D) (what : Source) (old : Pass H) (before : D)
+    (new : Pass H) (after : D) : Type 0 where
+  pub reads : Reads plan hash (Are (meaning plan.query.now) hash what) (standing old.groups old.lists (g.last before))
+      (standing new.groups new.lists (g.last after))
+  pub brings : Brings (meaning plan.query.now) (Are (meaning plan.query.now) hash what) (entries_of old.groups) old.lists
+      (entries_of new.groups) new.lists
+  pub safe : AreSafe (meaning plan.query.now) plan.most (entries_of old.groups)
+      → AreSafe (meaning plan.query.now) plan.most (entries_of new.groups)
   pub pages : WritesPages (g.writes before) old.lists (g.writes after) new.lists
   pub ready : IsReady new
   pub kept : KeepsPass old new
 
 -- it was not; if it can be read, no tape is to blame
-pub record RefusedBy {H D : Type 0} (plan : Plan) (hash : List ℕ → ℕ) (g : Ghosts D) (what : Source) (old : Pass H) (before : D) (error : SpillError) (new : Pass H) : Type 0 where
-  pub undamaged : CanRead plan hash (Are (meaning plan.query.now) hash what) (standing old.groups old.lists (g.last before)) → error ≢ TapeDamaged
+pub record RefusedBy {H D : Type 0} (plan : Plan) (hash : List ℕ → ℕ) (g : Ghosts D) (what : Source) (old : Pass H) (before : D)
+    (error : SpillError) (new : Pass H) : Type 0 where
+  pub undamaged : CanRead plan hash (Are (meaning plan.query.now) hash what) (standing old.groups old.lists (g.last before))
+      → error ≢ TapeDamaged
   pub kept : KeepsPass old new
 
 -- the same by the pass's own plan and hash function
@@ -127,7 +136,8 @@ abbrev pub Refused : {H D : Type 0} → (H → List ℕ → ℕ) → Ghosts D �
 Refused hash_of g what old before error new = RefusedBy old.plan (hash_of old.groups.hash) g what old before error new
 
 -- one row, group or record was added: it made one group at most, or was spilled, if it was not the first
-pub record AddedOne {H D : Type 0} (hash_of : H → List ℕ → ℕ) (g : Ghosts D) (what : Source) (old : Pass H) (before : D) (new : Pass H) (after : D) : Type 0 where
+pub record AddedOne {H D : Type 0} (hash_of : H → List ℕ → ℕ) (g : Ghosts D) (what : Source) (old : Pass H) (before : D) (new : Pass H)
+    (after : D) : Type 0 where
   pub added : Added hash_of g what old before new after
   pub proceeds : Proceeds (entries_of old.groups) old.lists (entries_of new.groups) new.lists
 
@@ -136,15 +146,17 @@ abbrev pub IsGenuine : {H : Type 0} → (H → List ℕ → ℕ) → Pass H → 
 IsGenuine hash_of pass what = (piece : Piece) × Are (query_of pass) (hash_of pass.groups.hash) what (piece ∷ [])
 
 -- a record was added, and is one
-pub record AddedGenuine {H D : Type 0} (hash_of : H → List ℕ → ℕ) (g : Ghosts D) (what : Source) (old : Pass H) (before : D) (new : Pass H) (after : D) : Type 0 where
+pub record AddedGenuine {H D : Type 0} (hash_of : H → List ℕ → ℕ) (g : Ghosts D) (what : Source) (old : Pass H) (before : D) (new : Pass H)
+    (after : D) : Type 0 where
   pub added : AddedOne hash_of g what old before new after
   pub genuine : IsGenuine hash_of old what
 
 -- what is read was added, or is refused; and what that leaves of the disk
-pub record Adds {H D T : Type 0} (Done : (H → List ℕ → ℕ) → Ghosts D → Source → Pass H → D → Pass H → D → Type 0) (hash_of : H → List ℕ → ℕ) (g : Ghosts D) (what : Source) (old : Pass H) (before : D) (result : Result T SpillError) (new : Pass H) (after : D) : Type 0 where
+pub record Adds {H D T : Type 0} (Done : (H → List ℕ → ℕ) → Ghosts D → Source → Pass H → D → Pass H → D → Type 0) (hash_of : H → List ℕ
+    → ℕ) (g : Ghosts D) (what : Source) (old : Pass H) (before : D) (result : Result T SpillError) (new : Pass H) (after : D) : Type 0 where
   pub added : OnOk result (Done hash_of g what old before new after)
   pub refused : IfErr result (λ error. Refused hash_of g what old before error new)
-  pub disk : Leaves g (failed spill_faults result) before after
+  pub disk : DiskFrame g (failed spill_faults result) before after
 
 -- inputs of the query, which count so many rows at most
 pub record AreInputs (query : Query) (most : ℕ) (inputs : List Brought) : Type 0 where
@@ -157,22 +169,26 @@ pub record AreInputs (query : Query) (most : ℕ) (inputs : List Brought) : Type
 pub record KeepsLater {H : Type 0} (old new : Pass H) : Type 0 where
   pub plan : new.plan ≡ old.plan
   pub table : IsSameTable old.plan.limit old.groups new.groups
-  pub todo : new.lists.todo ≡ old.lists.todo
+  pub pending : new.lists.pending ≡ old.lists.pending
   pub level : new.lists.level ≡ old.lists.level
 
 -- the records of its list were added, of which fewer are spilled than there were
-pub record AddedList {H D : Type 0} (hash_of : H → List ℕ → ℕ) (g : Ghosts D) (old : Pass H) (before : D) (new : Pass H) (after : D) : Type 0 where
-  pub reads : IsTrue (g.honest before) → ReadsList old.plan (hash_of old.groups.hash) (standing old.groups old.lists (g.last before)) (standing new.groups new.lists (g.last after))
+pub record AddedList {H D : Type 0} (hash_of : H → List ℕ → ℕ) (g : Ghosts D) (old : Pass H) (before : D) (new : Pass H) (after : D) :
+    Type 0 where
+  pub reads : IsTrue (g.honest before) → ReadsList old.plan (hash_of old.groups.hash) (standing old.groups old.lists (g.last before))
+      (standing new.groups new.lists (g.last after))
   pub safe : AreSafe (query_of old) old.plan.most (entries_of new.groups)
   pub few : total (entries_of new.groups) new.lists ≤ ahead_number old.lists
   pub fewer : 0 < ahead_number old.lists → spilled_number new.lists < ahead_number old.lists
   pub pages : WritesPages (g.writes before) old.lists (g.writes after) new.lists
-  pub source : new.lists.source ≡ []
+  pub reading : new.lists.reading ≡ []
   pub ready : IsReady new
   pub kept : KeepsLater old new
 
-pub record RefusedList {H D : Type 0} (hash_of : H → List ℕ → ℕ) (g : Ghosts D) (old : Pass H) (before : D) (error : SpillError) (new : Pass H) : Type 0 where
-  pub undamaged : IsTrue (g.honest before) → CanReadList old.plan (hash_of old.groups.hash) (standing old.groups old.lists (g.last before)) → error ≢ TapeDamaged
+pub record RefusedList {H D : Type 0} (hash_of : H → List ℕ → ℕ) (g : Ghosts D) (old : Pass H) (before : D) (error : SpillError)
+    (new : Pass H) : Type 0 where
+  pub undamaged : IsTrue (g.honest before) → CanReadList old.plan (hash_of old.groups.hash) (standing old.groups old.lists (g.last before))
+      → error ≢ TapeDamaged
   pub kept : KeepsLater old new
 
 -- ---- its end
@@ -181,10 +197,12 @@ pub record RefusedList {H D : Type 0} (hash_of : H → List ℕ → ℕ) (g : Gh
 pub record Finished {H D : Type 0} (g : Ghosts D) (old : Pass H) (before : D) (run : List Entry) (new : Pass H) (after : D) : Type 0 where
   pub moved : IsPermutation (entries_of old.groups) run
   pub rises : Rises run
-  pub left : (spilled ahead : List Record) (todo : List LeftList) → HasLists (g.last before) old.lists spilled ahead todo → HasLists (g.last after) new.lists [] ahead (todo ++ left_by old.lists.level spilled)
-  pub paged : (spilled ahead : List Record) (todo : List LeftList) → HasLists (g.last before) old.lists spilled ahead todo → g.writes after + written_pages old.lists ≡ g.writes before + pages_of (lists old.lists.level spilled)
+  pub left : (spilled ahead : List Record) (pending : List PendingPartition) → HasLists (g.last before) old.lists spilled ahead pending
+      → HasLists (g.last after) new.lists [] ahead (pending ++ left_by old.lists.level spilled)
+  pub paged : (spilled ahead : List Record) (pending : List PendingPartition) → HasLists (g.last before) old.lists spilled ahead pending
+      → g.writes after + written_pages old.lists ≡ g.writes before + pages_of (lists old.lists.level spilled)
   pub waiting : waiting_number new.lists ≡ waiting_number old.lists + spilled_number old.lists
-  pub source : new.lists.source ≡ old.lists.source
+  pub reading : new.lists.reading ≡ old.lists.reading
   pub ready : IsReady new
   pub fresh : IsFresh new
   pub plan : new.plan ≡ old.plan
@@ -195,7 +213,7 @@ pub record CountsPass {H D : Type 0} (g : Ghosts D) (pass : Pass H) (disk : D) (
   pub counted : 1 ≤ new.passes
   pub held : new.most_held ≡ max old.most_held pass.groups.most_held
   pub adds :
-      (spilled ahead : List Record) (todo : List LeftList) (pages : ℕ) → HasLists (g.last disk) pass.lists spilled ahead todo
+      (spilled ahead : List Record) (pending : List PendingPartition) (pages : ℕ) → HasLists (g.last disk) pass.lists spilled ahead pending
       → AddsUp old (pass_cost pass.groups.table.width (entries_of pass.groups) (length spilled) pages) new
 
 -- ---- all passes
@@ -212,33 +230,41 @@ pub record IsSafeRun (query : Query) (most : ℕ) (run : List Entry) : Type 0 wh
 
 -- an aggregation of pieces is under way: each is in the groups of a run or on a list that is left, and the passes that were made, and
 -- those over these lists, cost what is said of the pieces
-pub record IsUnderway (query : Query) (setting : Setting) (pieces : List Piece) (run : List Entry) (Has : List LeftList → Type 0) (old new : Work) (writes written : ℕ) : Type 0 where
-  pub todo : List LeftList
-  pub has : Has todo
-  pub waits : Waits query setting.hash pieces run todo
+pub record IsUnderway (query : Query) (setting : Setting) (pieces : List Piece) (run : List Entry) (Has : List PendingPartition
+    → Type 0) (old new : Work) (writes written : ℕ) : Type 0 where
+  pub pending : List PendingPartition
+  pub has : Has pending
+  pub waits : Waits query setting.hash pieces run pending
   pub made : Cost
-  pub costs : Costs query setting pieces made todo
+  pub costs : Costs query setting pieces made pending
   pub adds : AddsUp old made new
   pub paged : written ≡ writes + made.pages
 
 -- it is done
-pub record IsDone (query : Query) (setting : Setting) (pieces : List Piece) (run : List Entry) (old new : Work) (writes written : ℕ) : Type 0 where
+pub record IsDone (query : Query) (setting : Setting) (pieces : List Piece) (run : List Entry) (old new : Work) (writes written : ℕ) :
+    Type 0 where
   pub stands : Stands query setting.hash pieces run []
   pub adds : AddsUp old (cost setting (records_of query setting.width pieces)) new
   pub paged : written ≡ writes + (cost setting (records_of query setting.width pieces)).pages
 
 -- so it is between two passes, if what was begun was under way
-abbrev pub Continues : {H D : Type 0} → (H → List ℕ → ℕ) → Ghosts D → Pass H → D → List Entry → Work → (List Piece → Work → ℕ → Type 0) → Type 0
+abbrev pub Continues : {H D : Type 0} → (H → List ℕ → ℕ) → Ghosts D → Pass H → D → List Entry → Work → (List Piece → Work → ℕ → Type 0)
+    → Type 0
 Continues hash_of g pass disk run work Then =
     IsTrue (g.honest disk) → (pieces : List Piece) (start : Work) (writes : ℕ)
-    → IsUnderway (query_of pass) (setting_in hash_of pass) pieces run (HasLists (g.last disk) pass.lists [] []) start work writes (g.writes disk)
+    → IsUnderway (query_of pass) (setting_in hash_of pass) pieces run (HasLists (g.last disk) pass.lists [] []) start work writes
+    (g.writes disk)
     → CountUpTo (query_of pass) pass.plan.most pieces
     → Then pieces start writes
 
 -- the first pass was made, over inputs
-pub record MadeFirst {H D : Type 0} (hash_of : H → List ℕ → ℕ) (g : Ghosts D) (inputs : List Brought) (old : Pass H) (before : D) (work : Work) (run : List Entry) (new : Pass H) (after : D) (done : Work) : Type 0 where
-  pub underway : (givens : List Given) → AllGive (query_of old) inputs givens → IsUnderway (query_of old) (setting_in hash_of old) (all_pieces inputs givens) run (HasLists (g.last after) new.lists [] []) work done (g.writes before) (g.writes after)
-  pub few : (givens : List Given) → AllGive (query_of old) inputs givens → length run + waiting_number new.lists ≤ brought_by (query_of old) (all_pieces inputs givens)
+pub record MadeFirst {H D : Type 0} (hash_of : H → List ℕ → ℕ) (g : Ghosts D) (inputs : List Brought) (old : Pass H) (before : D)
+    (work : Work) (run : List Entry) (new : Pass H) (after : D) (done : Work) : Type 0 where
+  pub underway : (givens : List Given) → AllGive (query_of old) inputs givens
+      → IsUnderway (query_of old) (setting_in hash_of old) (all_pieces inputs givens) run (HasLists (g.last after) new.lists [] []) work
+      done (g.writes before) (g.writes after)
+  pub few : (givens : List Given) → AllGive (query_of old) inputs givens → length run
+      + waiting_number new.lists ≤ brought_by (query_of old) (all_pieces inputs givens)
   pub safe : IsSafeRun (query_of old) old.plan.most run
   pub over : IsOver new
   pub within : CountsWithin old.plan.limit work done
@@ -246,8 +272,10 @@ pub record MadeFirst {H D : Type 0} (hash_of : H → List ℕ → ℕ) (g : Ghos
   pub hash : new.groups.hash ≡ old.groups.hash
 
 -- the later ones were made, whose groups were united with those of the first
-pub record MadeLater {H D : Type 0} (hash_of : H → List ℕ → ℕ) (g : Ghosts D) (old : Pass H) (before : D) (first : List Entry) (work : Work) (run : List Entry) (after : D) (done : Work) : Type 0 where
-  pub whole : Continues hash_of g old before first work (λ pieces start writes. IsDone (query_of old) (setting_in hash_of old) pieces run start done writes (g.writes after))
+pub record MadeLater {H D : Type 0} (hash_of : H → List ℕ → ℕ) (g : Ghosts D) (old : Pass H) (before : D) (first : List Entry) (work : Work)
+    (run : List Entry) (after : D) (done : Work) : Type 0 where
+  pub whole : Continues hash_of g old before first work (λ pieces start writes. IsDone (query_of old) (setting_in hash_of old) pieces run
+      start done writes (g.writes after))
   pub few : length run ≤ length first + waiting_number old.lists
   pub safe : IsSafeRun (query_of old) old.plan.most run
   pub within : CountsWithin old.plan.limit work done

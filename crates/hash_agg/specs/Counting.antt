@@ -20,7 +20,8 @@ cost_given query setting inputs givens = cost setting (records_of query (states_
 
 -- it makes so many passes at most, and one
 abbrev pub HasFewPasses : Query → Setting → List Brought → ℕ → Type 0
-HasFewPasses query setting inputs most = (givens : List Given) → AllGive query inputs givens → (cost_given query setting inputs givens).passes ≤ max 1 most
+HasFewPasses query setting inputs most = (givens : List Given) → AllGive query inputs givens
+    → (cost_given query setting inputs givens).passes ≤ max 1 most
 
 -- an aggregation of inputs took just what it costs: its work is told, and its pages are written beside others
 pub record Took (query : Query) (setting : Setting) (inputs : List Brought) (told : Work) (writes written : ℕ) : Type 0 where
@@ -28,7 +29,8 @@ pub record Took (query : Query) (setting : Setting) (inputs : List Brought) (tol
   pub pages : (givens : List Given) → AllGive query inputs givens → written ≡ writes + (cost_given query setting inputs givens).pages
 
 -- an aggregation of inputs was counted: what it costs was added to the work, and its pages to those that were written
-pub record IsCounted (query : Query) (setting : Setting) (inputs : List Brought) (old : Work) (writes : ℕ) (new : Work) (written : ℕ) : Type 0 where
+pub record IsCounted (query : Query) (setting : Setting) (inputs : List Brought) (old : Work) (writes : ℕ) (new : Work) (written : ℕ) :
+    Type 0 where
   pub work : (givens : List Given) → AllGive query inputs givens → AddsUp old (cost_given query setting inputs givens) new
   pub pages : (givens : List Given) → AllGive query inputs givens → written ≡ writes + (cost_given query setting inputs givens).pages
 
@@ -36,4 +38,5 @@ pub record IsCounted (query : Query) (setting : Setting) (inputs : List Brought)
 abbrev pub AreCounted : Query → Setting → List (List Brought) → Work → ℕ → Work → ℕ → Type 0
 AreCounted query setting [] old writes new written = (new ≡ old) × (written ≡ writes)
 AreCounted query setting (inputs ∷ more) old writes new written =
-    (work : Work) × (pages : ℕ) × IsCounted query setting inputs old writes work pages × AreCounted query setting more work pages new written
+    (work : Work) × (pages : ℕ) × IsCounted query setting inputs old writes work pages
+    × AreCounted query setting more work pages new written

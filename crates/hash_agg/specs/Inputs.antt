@@ -1,7 +1,7 @@
 -- What is aggregated. All of this is our own.
 use Rattle.std.specs.Prelude.{◌≡◌, ℕ, ◌≤◌, List, [], ◌∷◌, map, length, sum_by}
 use Rattle.std.specs.List.{AllByRecursion}
-use Rattle.packed_rows.specs.RowsOnEnd.{on_end}
+use Rattle.packed_rows.specs.ConcatenatedRows.{concatenated}
 use Rattle.grouping_model.specs.Datum.{Row, Kind, HasKinds, row_cmp}
 use Rattle.grouping_model.specs.Rising.{distinct}
 use Rattle.grouping_model.specs.Query.{Query}
@@ -12,7 +12,7 @@ use Rattle.having_filter.specs.Kept.{key_kinds}
 use Rattle.hash_agg.specs.declared.input.Input.{Input}
 use Rattle.hash_agg.specs.declared.input.Input.TheVariants.{Rows, Flat, Groups}
 use Rattle.hash_agg.specs.declared.input.Packings.{Packings}
-use Rattle.hash_agg.specs.declared.input.Packings.TheVariants.{Apart, OnEnd}
+use Rattle.hash_agg.specs.declared.input.Packings.TheVariants.{Apart, Concatenated}
 use Rattle.group_runs.specs.Runs.{Entry, packed_keys}
 use Rattle.group_runs.specs.Standing.{AreGroups, IsRun}
 
@@ -30,7 +30,7 @@ brought (Groups run rows) = Counted run.now rows
 -- packed rows, as a list
 abbrev pub packings_in : Packings → List (List ℕ)
 packings_in (Apart packed) = bytes_of packed.now
-packings_in (OnEnd packed) = packed.now
+packings_in (Concatenated packed) = packed.now
 
 -- the packings of rows of columns of these kinds
 pub record ArePackings (kinds : List Kind) (packed : List (List ℕ)) (rows : List Row) : Type 0 where
@@ -91,7 +91,8 @@ AllGive query = OneByOne (Gives query)
 
 -- the keys that an input brings: those of its selected rows, or of its groups
 abbrev pub Brings : Query → Brought → List Row → Type 0
-Brings query (Packed packed) keys = (rows : List Row) × ArePackings query.kinds packed rows × (keys ≡ map (key_of query) (selected query rows))
+Brings query (Packed packed) keys = (rows : List Row) × ArePackings query.kinds packed rows
+    × (keys ≡ map (key_of query) (selected query rows))
 Brings query (Counted run most) keys = ArePackings (key_kinds query) (packed_keys run) keys
 
 -- input by input, these bring keys
@@ -103,12 +104,13 @@ AllBring query inputs lists = ⊥
 -- what aggregation gives of inputs: over lists of rows the groups of all of them on end; for all inputs the keys that they bring,
 -- each once and rising, and states that count at most as many rows as there are
 pub record IsAggregate (query : Query) (inputs : List Brought) (run : List Entry) : Type 0 where
-  pub part : (lists : List (List Row)) → AreInputsOf query inputs lists → AreGroups query (all_rows inputs) run (part query (on_end lists))
-  pub keys : (lists : List (List Row)) → AllBring query inputs lists → packed_keys run ≡ map packing (distinct row_cmp (on_end lists))
-  pub few : (lists : List (List Row)) → AllBring query inputs lists → length run ≤ length (on_end lists)
+  pub part : (lists : List (List Row)) → AreInputsOf query inputs lists
+      → AreGroups query (all_rows inputs) run (part query (concatenated lists))
+  pub keys : (lists : List (List Row)) → AllBring query inputs lists → packed_keys run ≡ map packing (distinct row_cmp (concatenated lists))
+  pub few : (lists : List (List Row)) → AllBring query inputs lists → length run ≤ length (concatenated lists)
   pub is_run : IsRun query (all_rows inputs) run
 
 -- what it gives over a disk that may not be honest: a run of the query, of at most as many groups as keys are brought
 pub record IsRunOver (query : Query) (inputs : List Brought) (run : List Entry) : Type 0 where
   pub is_run : IsRun query (all_rows inputs) run
-  pub few : (lists : List (List Row)) → AllBring query inputs lists → length run ≤ length (on_end lists)
+  pub few : (lists : List (List Row)) → AllBring query inputs lists → length run ≤ length (concatenated lists)

@@ -1,7 +1,8 @@
 -- A pass of an aggregation: groups in a table, and records that are left for the next pass. All of this is our own.
 use Rattle.std.specs.Borrow.{Bor}
 use Rattle.std.specs.Int.{w16, to_be_bytes}
-use Rattle.std.specs.Prelude.{◌≡◌, ℕ, ◌+◌, ◌≤◌, ◌<◌, ◌⊎◌, if◌then◌else◌, true, List, [], ◌∷◌, ◌++◌, length, map, flat_map, sum_by, slice_get, slice_index, slice_set, Some, None}
+use Rattle.std.specs.Prelude.{◌≡◌, ℕ, ◌+◌, ◌≤◌, ◌<◌, ◌⊎◌, if◌then◌else◌, true, List, [], ◌∷◌, ◌++◌, length, map, flat_map, sum_by}
+use Rattle.std.specs.Prelude.{slice_get, slice_index, slice_set, Some, None}
 use Rattle.byteorder.specs.Endian.{big_from}
 use Rattle.context_tree.specs.Tree.{TreeState}
 use Rattle.aggregation_cost.specs.Cost.{greatest}
@@ -21,9 +22,9 @@ use Rattle.grouping_model.specs.Parts.{functions, partials_at}
 use Rattle.packed_rows.specs.Columns.{AreColumns}
 use Rattle.packed_rows.specs.Packing.{packing}
 use Rattle.spill_tapes.specs.Records.{Record}
-use Rattle.spill_lists.specs.Lists.{LeftList}
-use Rattle.spill_lists.specs.Standing.{ListsState, HasLists, spilled_number, written_pages}
-use Rattle.spill_lists.specs.declared.lists.OnTape.{OnTape}
+use Rattle.spill_partitions.specs.Lists.{PendingPartition}
+use Rattle.spill_partitions.specs.Standing.{PartitionsState, HasLists, spilled_number, written_pages}
+use Rattle.spill_partitions.specs.declared.lists.OnTape.{OnTape}
 use Rattle.agg_protocol.specs.States.{most_rows}
 use Rattle.having_filter.specs.Kept.{IsWellFormed}
 use Rattle.having_filter.specs.Meaning.{meaning}
@@ -140,7 +141,8 @@ HasPlace g = buckets_for (buckets_in g.table.array) (length g.table.slots) ≤ m
 abbrev pub IsParted : List Group → List Group → List Group → Type 0
 IsParted all some others =
     (key : Row)
-    → ((partials_at key all ≡ partials_at key some) × (partials_at key others ≡ None)) ⊎ ((partials_at key all ≡ partials_at key others) × (partials_at key some ≡ None))
+    → ((partials_at key all ≡ partials_at key some) × (partials_at key others ≡ None))
+    ⊎ ((partials_at key all ≡ partials_at key others) × (partials_at key some ≡ None))
 
 -- entry by entry, these stand for groups, that of a key counting at most as many rows as are said of the key
 abbrev pub AreGroupsBy : Query → (Row → ℕ) → List Entry → List Group → Type 0
@@ -165,7 +167,8 @@ setting_for query limit hash = record { limit = limit; width = states_width quer
 -- what a piece is as a record of the cost: nothing if WHERE passes over it; a row is its packing; a group is its key and states, of
 -- which each group has as many bytes
 abbrev pub cost_records : Query → ℕ → Piece → List cost.Record
-cost_records query width (Of_row row) = if is_met (column_of row) query.condition then cost.of_row (packing (key_of query row)) (packing row) ∷ [] else []
+cost_records query width (Of_row row) = if is_met (column_of row) query.condition
+    then cost.of_row (packing (key_of query row)) (packing row) ∷ [] else []
 cost_records query width (Of_group group most) = cost.of_group (packing group.0) width ∷ []
 
 abbrev pub records_of : Query → ℕ → List Piece → List cost.Record
@@ -183,10 +186,11 @@ abbrev pub AreCosted : Query → Setting → List Record → List cost.Record �
 AreCosted query setting = OneByOne (IsCosted query setting)
 
 -- of what it has read, a pass took the keys and spilled the records that the cost says; it has lists once it spilled
-pub record Spills (query : Query) (setting : Setting) (pieces : List Piece) (entries : List Entry) (parts : List OnTape) (left : List Record) : Type 0 where
+pub record Spills (query : Query) (setting : Setting) (pieces : List Piece) (entries : List Entry) (partitions : List OnTape)
+    (left : List Record) : Type 0 where
   pub took : packed_keys entries ≡ cost.taken_from setting (records_of query setting.width pieces)
   pub spilled : AreCosted query setting left (cost.spilled_from setting (records_of query setting.width pieces))
-  pub begun : cost.is_empty parts ≡ cost.is_empty left
+  pub begun : cost.is_empty partitions ≡ cost.is_empty left
 
 -- over any disk: entries stand for groups of the query that count at most so many rows each
 abbrev pub AreSafe : Query → ℕ → List Entry → Type 0
@@ -214,10 +218,10 @@ pub record IsPlan (plan : Plan) : Type 0 where
 -- where a pass stands: its entries, its lists, and what the disk of these has
 pub record PassState : Type 1 where
   pub entries : List Entry
-  pub lists : ListsState
+  pub lists : PartitionsState
   pub last : ℕ → ℕ → Type 0
 
-abbrev pub standing : {H : Type 0} → GroupsState H → ListsState → (ℕ → ℕ → Type 0) → PassState
+abbrev pub standing : {H : Type 0} → GroupsState H → PartitionsState → (ℕ → ℕ → Type 0) → PassState
 standing groups lists last = record { entries = entries_of groups; lists = lists; last = last }
 
 -- what all passes have in common as the cost has it
@@ -226,43 +230,43 @@ setting_of plan hash = record { limit = plan.limit; width = length plan.first.it
 
 -- what a pass has read is in its entries, and on the lists to which it spills, as the cost says. It has these records still to read,
 -- and these lists are left to later passes
-abbrev pub Holds : Query → Setting → PassState → List Piece → List Record → List LeftList → Type 0
-Holds query setting pass pieces ahead todo =
+abbrev pub Holds : Query → Setting → PassState → List Piece → List Record → List PendingPartition → Type 0
+Holds query setting pass pieces ahead pending =
     (spilled : List Record)
-    × HasLists pass.last pass.lists spilled ahead todo
+    × HasLists pass.last pass.lists spilled ahead pending
     × Stands query setting.hash pieces pass.entries spilled
-    × Spills query setting pieces pass.entries pass.lists.parts spilled
+    × Spills query setting pieces pass.entries pass.lists.partitions spilled
 
 -- these pieces are read, if they and those before them count few enough rows
 abbrev pub Reads : Plan → (List ℕ → ℕ) → (List Piece → Type 0) → PassState → PassState → Type 0
 Reads plan hash Are old new =
-    (pieces more : List Piece) (ahead : List Record) (todo : List LeftList)
-    → Holds (meaning plan.query.now) (setting_of plan hash) old pieces ahead todo
+    (pieces more : List Piece) (ahead : List Record) (pending : List PendingPartition)
+    → Holds (meaning plan.query.now) (setting_of plan hash) old pieces ahead pending
     → Are more
     → CountUpTo (meaning plan.query.now) plan.most (pieces ++ more)
-    → Holds (meaning plan.query.now) (setting_of plan hash) new (pieces ++ more) ahead todo
+    → Holds (meaning plan.query.now) (setting_of plan hash) new (pieces ++ more) ahead pending
 
 -- they can be read: a disk that tells what was written is no reason for a refusal
 abbrev pub CanRead : Plan → (List ℕ → ℕ) → (List Piece → Type 0) → PassState → Type 0
 CanRead plan hash Are old =
-    (pieces more : List Piece) × (ahead : List Record) × (todo : List LeftList)
-    × Holds (meaning plan.query.now) (setting_of plan hash) old pieces ahead todo
+    (pieces more : List Piece) × (ahead : List Record) × (pending : List PendingPartition)
+    × Holds (meaning plan.query.now) (setting_of plan hash) old pieces ahead pending
     × Are more
     × CountUpTo (meaning plan.query.now) plan.most (pieces ++ more)
 
 -- the records of the list that a pass reads are read
 abbrev pub ReadsList : Plan → (List ℕ → ℕ) → PassState → PassState → Type 0
 ReadsList plan hash old new =
-    (records : List Record) (pieces : List Piece) (todo : List LeftList)
-    → HasLists old.last old.lists [] records todo
+    (records : List Record) (pieces : List Piece) (pending : List PendingPartition)
+    → HasLists old.last old.lists [] records pending
     → ArePieces (meaning plan.query.now) hash records pieces
     → CountUpTo (meaning plan.query.now) plan.most pieces
-    → Holds (meaning plan.query.now) (setting_of plan hash) new pieces [] todo
+    → Holds (meaning plan.query.now) (setting_of plan hash) new pieces [] pending
 
 abbrev pub CanReadList : Plan → (List ℕ → ℕ) → PassState → Type 0
 CanReadList plan hash old =
-    (records : List Record) × (pieces : List Piece) × (todo : List LeftList)
-    × HasLists old.last old.lists [] records todo
+    (records : List Record) × (pieces : List Piece) × (pending : List PendingPartition)
+    × HasLists old.last old.lists [] records pending
     × ArePieces (meaning plan.query.now) hash records pieces
     × CountUpTo (meaning plan.query.now) plan.most pieces
 
@@ -285,7 +289,7 @@ all_pieces inputs givens = []
 -- ---- how many groups there can be
 
 -- the groups of a pass and the records that it spilled
-abbrev pub total : List Entry → ListsState → ℕ
+abbrev pub total : List Entry → PartitionsState → ℕ
 total entries lists = length entries + spilled_number lists
 
 -- a record makes one group at most, and none if WHERE passes over it
@@ -297,30 +301,30 @@ abbrev pub brought_by : Query → List Piece → ℕ
 brought_by query pieces = sum_by (brings query) pieces
 
 -- the first record of a pass is not spilled, and each is spilled, or makes a group, once at most
-pub record Proceeds (old : List Entry) (before : ListsState) (new : List Entry) (after : ListsState) : Type 0 where
-  pub first : old ≡ [] → before.parts ≡ [] → after.parts ≡ []
+pub record Proceeds (old : List Entry) (before : PartitionsState) (new : List Entry) (after : PartitionsState) : Type 0 where
+  pub first : old ≡ [] → before.partitions ≡ [] → after.partitions ≡ []
   pub slow : spilled_number after ≤ spilled_number before + 1
   pub few : total new after ≤ total old before + 1
 
 -- these pieces make as many groups and records as they bring, at most
-abbrev pub Brings : Query → (List Piece → Type 0) → List Entry → ListsState → List Entry → ListsState → Type 0
+abbrev pub Brings : Query → (List Piece → Type 0) → List Entry → PartitionsState → List Entry → PartitionsState → Type 0
 Brings query Are old before new after = (more : List Piece) → Are more → total new after ≤ total old before + brought_by query more
 
 -- the pages that were written meanwhile are those that became full on the lists of the pass
-abbrev pub WritesPages : ℕ → ListsState → ℕ → ListsState → Type 0
+abbrev pub WritesPages : ℕ → PartitionsState → ℕ → PartitionsState → Type 0
 WritesPages written before now after = now + written_pages before ≡ written + written_pages after
 
 -- ---- runs
 
 -- references to a key and to states, behind a number
-abbrev pub Led : Type 0
-Led = ℕ × (Bor (List ℕ) × Bor (List ℕ))
+abbrev pub AbbreviatedKey : Type 0
+AbbreviatedKey = ℕ × (Bor (List ℕ) × Bor (List ℕ))
 
 -- the entries of some of them
-abbrev pub pairs : List Led → List Entry
-pairs entries = map (λ (e : Led). (e.1.0.now, e.1.1.now)) entries
+abbrev pub pairs : List AbbreviatedKey → List Entry
+pairs entries = map (λ (e : AbbreviatedKey). (e.1.0.now, e.1.1.now)) entries
 
 -- the number is that of the first eight bytes of the key, the highest first, as if zeros followed a shorter key
-pub record IsLed (e : Led) : Type 0 where
+pub record IsAbbreviated (e : AbbreviatedKey) : Type 0 where
   pub number : e.0 ≡ big_from 0 8 e.1.0.now
   pub bytes : (i : ℕ) → slice_index e.1.0.now i < 256

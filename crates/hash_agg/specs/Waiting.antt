@@ -9,14 +9,14 @@ use Rattle.grouping_model.specs.Parts.{partials_at}
 use Rattle.aggregation_cost.specs.Cost.{Cost, greatest, cost_of, both, cost_from}
 use Rattle.aggregation_cost.specs.Passes as cost
 use Rattle.aggregation_cost.specs.Space.{Setting, need, fronts}
-use Rattle.spill_lists.specs.Lists.{LeftList}
+use Rattle.spill_partitions.specs.Lists.{PendingPartition}
 use Rattle.group_runs.specs.Runs.{Entry, packed_keys}
 use Rattle.hash_agg.specs.Inputs.{OneByOne}
 use Rattle.hash_agg.specs.Passes.{Piece, ArePieces, made_of, rows_at, AreGroupsBy, records_of, AreCosted}
 use Rattle.hash_agg.specs.declared.work.Work.{Work}
 
 -- list by list, these are pieces
-abbrev pub AreListed : Query → (List ℕ → ℕ) → List LeftList → List (List Piece) → Type 0
+abbrev pub AreListed : Query → (List ℕ → ℕ) → List PendingPartition → List (List Piece) → Type 0
 AreListed query hash = OneByOne (λ list rest. ArePieces query hash list.records rest)
 
 -- none of these is there; and just one of them is, which is this one, or none is, as this one isn't
@@ -33,11 +33,12 @@ each_at query key rests = map (λ rest. partials_at key (made_of query rest)) re
 
 -- what was read is in entries and on lists: each group that the pieces make up is an entry, or is what the records of its key
 -- make up on one of the lists
-pub record Waits (query : Query) (hash : List ℕ → ℕ) (pieces : List Piece) (entries : List Entry) (todo : List LeftList) : Type 0 where
+pub record Waits (query : Query) (hash : List ℕ → ℕ) (pieces : List Piece) (entries : List Entry) (pending : List PendingPartition) :
+    Type 0 where
   pub entered : List Group
   pub rests : List (List Piece)
   pub are : AreGroupsBy query (λ key. rows_at query key pieces) entries entered
-  pub read : AreListed query hash todo rests
+  pub read : AreListed query hash pending rests
   pub parted : (key : Row) → IsOneOf (partials_at key (made_of query pieces)) (partials_at key entered ∷ each_at query key rests)
   pub fewer : AllByRecursion (λ rest. (key : Row) → rows_at query key rest ≤ rows_at query key pieces) rests
 
@@ -48,19 +49,20 @@ abbrev pub capped : ℕ → ℕ
 capped level = if nat_lt level 8 then level else 8
 
 -- list by list, these are passes of the cost
-pub record IsLeft (query : Query) (setting : Setting) (list : LeftList) (pass : cost.Pass) : Type 0 where
+pub record IsLeft (query : Query) (setting : Setting) (list : PendingPartition) (pass : cost.Pass) : Type 0 where
   pub records : AreCosted query setting list.records pass.records
   pub level : list.level ≡ capped pass.level
 
-abbrev pub AreLeft : Query → Setting → List LeftList → List cost.Pass → Type 0
+abbrev pub AreLeft : Query → Setting → List PendingPartition → List cost.Pass → Type 0
 AreLeft query setting = OneByOne (IsLeft query setting)
 
 -- the passes that were made, and those over the lists that are left, cost what is said of the pieces
-pub record Costs (query : Query) (setting : Setting) (pieces : List Piece) (made : Cost) (todo : List LeftList) : Type 0 where
+pub record Costs (query : Query) (setting : Setting) (pieces : List Piece) (made : Cost) (pending : List PendingPartition) : Type 0 where
   pub passes : List cost.Pass
-  pub left : AreLeft query setting todo passes
+  pub left : AreLeft query setting pending passes
   pub fit : AllByRecursion (λ (pass : cost.Pass). cost.EachFits setting pass.records) passes
-  pub whole : both made (cost_of setting (flat_map (cost.passes_from setting) passes)) ≡ cost_from setting (record { level = 0; records = records_of query setting.width pieces })
+  pub whole : both made (cost_of setting (flat_map (cost.passes_from setting) passes))
+      ≡ cost_from setting (record { level = 0; records = records_of query setting.width pieces })
 
 -- a cost was added to what was counted. Counters stop at the greatest number that they can have
 pub record AddsUp (old : Work) (more : Cost) (new : Work) : Type 0 where
@@ -70,7 +72,13 @@ pub record AddsUp (old : Work) (more : Cost) (new : Work) : Type 0 where
 
 -- a pass that took the keys of these entries and spilled so many records
 abbrev pub pass_cost : ℕ → List Entry → ℕ → ℕ → Cost
-pass_cost width entries spilled pages = record { passes = 1; spilled = spilled; pages = pages; most_held = greatest (map (need width) (fronts (packed_keys entries))) }
+pass_cost width entries spilled pages = record {
+  passes = 1;
+  spilled = spilled;
+  pages = pages;
+  most_held = greatest
+      (map (need width) (fronts (packed_keys entries)));
+}
 
 -- what was counted is a cost
 pub record IsWork (work : Work) (cost : Cost) : Type 0 where

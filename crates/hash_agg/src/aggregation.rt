@@ -3,9 +3,9 @@
 ghost use Rattle.std.specs.Prelude.{◌≡◌, ◌≢◌, ◌≤◌, max, map, length, IsTrue, IfOk, IfErr, OnOk};
 ghost use Rattle.std.specs.List.{AllByRecursion};
 ghost use Rattle.tape_disks.specs.Calls.{failed};
-ghost use Rattle.tape_disks.specs.Disk.{Leaves};
-ghost use Rattle.spill_lists.specs.Errors.{spill_faults};
-ghost use Rattle.spill_lists.specs.declared.error.SpillError.TheVariants.{TapeDamaged};
+ghost use Rattle.tape_disks.specs.Disk.{DiskFrame};
+ghost use Rattle.spill_partitions.specs.Errors.{spill_faults};
+ghost use Rattle.spill_partitions.specs.declared.error.SpillError.TheVariants.{TapeDamaged};
 ghost use Rattle.agg_protocol.specs.States.{most_rows};
 ghost use Rattle.having_filter.specs.Meaning.{meaning};
 ghost use Rattle.hash_agg.specs.Added.{AreInputs, Continues, CountsWithin, IsFirst, IsOver, IsSafeRun, MadeFirst, MadeLater, query_of};
@@ -21,7 +21,7 @@ use crate::work::Work;
 use group_runs::Run;
 use group_table::KeyHash;
 use having_filter::Query;
-use spill_lists::SpillError;
+use spill_partitions::SpillError;
 use spill_tapes::TapeDisk;
 use std::alloc::Global;
 
@@ -57,12 +57,14 @@ pub fn aggregate<H: KeyHash + Copy, D: TapeDisk>(
     requires groups { all_groups (map brought inputs.now) ≤ most_rows }
     ensures aggregate { IfOk result (λ done. IsTrue (D.honest disk.old) → IsAggregate (meaning query.now) (map brought inputs.now) done.0) }
     ensures run { IfOk result (λ done. IsRunOver (meaning query.now) (map brought inputs.now) done.0) }
-    ensures took { IfOk result (λ done. IsTrue (D.honest disk.old) → Took (meaning query.now) (setting_by H.hash_of (meaning query.now) means.now) (map brought inputs.now) done.1 (D.writes disk.old) (D.writes disk.new)) }
+    ensures took { IfOk result (λ done. IsTrue (D.honest disk.old)
+        → Took (meaning query.now) (setting_by H.hash_of (meaning query.now) means.now) (map brought inputs.now) done.1 (D.writes disk.old)
+        (D.writes disk.new)) }
     ensures passes { IfOk result (λ done. 1 ≤ done.1.passes) }
     ensures few { IfOk result (λ done. IsTrue (D.honest disk.old) → done.1.passes ≤ max 1 (length done.0)) }
     ensures held { IfOk result (λ done. done.1.most_held ≤ means.now.limit) }
     ensures undamaged { IfErr result (λ error. IsTrue (D.honest disk.old) → error ≢ TapeDamaged) }
-    ensures disk { Leaves D.TapeDisk (failed spill_faults result) disk.old disk.new }
+    ensures disk { DiskFrame D.TapeDisk (failed spill_faults result) disk.old disk.new }
 {
     let mut work = Work::none();
     let run = aggregated(alloc, query, inputs, means, disk, &mut work)?;
@@ -82,11 +84,14 @@ pub(crate) fn aggregated<H: KeyHash + Copy, D: TapeDisk>(
     requires few { all_rows (map brought inputs.now) ≤ most_rows }
     ensures aggregate { IfOk result (λ run. IsTrue (D.honest disk.old) → IsAggregate (meaning query.now) (map brought inputs.now) run) }
     ensures run { IfOk result (IsRunOver (meaning query.now) (map brought inputs.now)) }
-    ensures counted { OnOk result (IsTrue (D.honest disk.old) → IsCounted (meaning query.now) (setting_by H.hash_of (meaning query.now) means.now) (map brought inputs.now) work.old (D.writes disk.old) work.new (D.writes disk.new)) }
-    ensures few { IfOk result (λ run. IsTrue (D.honest disk.old) → HasFewPasses (meaning query.now) (setting_by H.hash_of (meaning query.now) means.now) (map brought inputs.now) (length run)) }
+    ensures counted { OnOk result (IsTrue (D.honest disk.old)
+        → IsCounted (meaning query.now) (setting_by H.hash_of (meaning query.now) means.now) (map brought inputs.now) work.old
+        (D.writes disk.old) work.new (D.writes disk.new)) }
+    ensures few { IfOk result (λ run. IsTrue (D.honest disk.old)
+        → HasFewPasses (meaning query.now) (setting_by H.hash_of (meaning query.now) means.now) (map brought inputs.now) (length run)) }
     ensures within { OnOk result (CountsWithin means.now.limit work.old work.new) }
     ensures undamaged { IfErr result (λ error. IsTrue (D.honest disk.old) → error ≢ TapeDamaged) }
-    ensures disk { Leaves D.TapeDisk (failed spill_faults result) disk.old disk.new }
+    ensures disk { DiskFrame D.TapeDisk (failed spill_faults result) disk.old disk.new }
 {
     let plan = Plan::new(alloc, query, rows_of_all(inputs), means.limit())?;
     let mut buffers = Buffers::new(alloc);
@@ -118,9 +123,10 @@ fn first_pass<H: KeyHash + Drop, D: TapeDisk>(
 ) -> Result<Run, SpillError>
     requires first { IsFirst D.TapeDisk pass.old disk.old }
     requires inputs { AreInputs (query_of pass.old) pass.old.plan.most (map brought inputs.now) }
-    ensures made { IfOk result (λ run. MadeFirst H.hash_of D.TapeDisk (map brought inputs.now) pass.old disk.old work.old run pass.new disk.new work.new) }
+    ensures made { IfOk result (λ run. MadeFirst H.hash_of D.TapeDisk (map brought inputs.now) pass.old disk.old work.old run pass.new
+        disk.new work.new) }
     ensures undamaged { IfErr result (λ error. error ≢ TapeDamaged) }
-    ensures disk { Leaves D.TapeDisk (failed spill_faults result) disk.old disk.new }
+    ensures disk { DiskFrame D.TapeDisk (failed spill_faults result) disk.old disk.new }
 {
     let mut row = Vec::with_capacity(alloc, pass.plan.query.schema().width())?;
     for input in inputs {
@@ -142,8 +148,9 @@ fn later_passes<H: KeyHash + Drop, D: TapeDisk>(
     requires run { IsSafeRun (query_of pass.old) pass.old.plan.most run }
     requires counted { 1 ≤ work.old.passes }
     ensures made { IfOk result (λ all. MadeLater H.hash_of D.TapeDisk pass.old disk.old run work.old all disk.new work.new) }
-    ensures undamaged { IfErr result (λ error. Continues H.hash_of D.TapeDisk pass.old disk.old run work.old (λ pieces start writes. error ≢ TapeDamaged)) }
-    ensures disk { Leaves D.TapeDisk (failed spill_faults result) disk.old disk.new }
+    ensures undamaged { IfErr result (λ error. Continues H.hash_of D.TapeDisk pass.old disk.old run work.old
+        (λ pieces start writes. error ≢ TapeDamaged)) }
+    ensures disk { DiskFrame D.TapeDisk (failed spill_faults result) disk.old disk.new }
 {
     let mut others = Vec::new(alloc);
     let mut bytes = Vec::new(alloc);

@@ -3,9 +3,9 @@
 ghost use Rattle.std.specs.Prelude.{◌≡◌, ◌≢◌, ◌+◌, ◌≤◌, ◌∷◌, map, IsTrue, IfErr, OnOk, OnErr};
 ghost use Rattle.std.specs.List.{AllByRecursion};
 ghost use Rattle.tape_disks.specs.Calls.{failed};
-ghost use Rattle.tape_disks.specs.Disk.{Leaves};
-ghost use Rattle.spill_lists.specs.Errors.{spill_faults};
-ghost use Rattle.spill_lists.specs.declared.error.SpillError.TheVariants.{TapeDamaged};
+ghost use Rattle.tape_disks.specs.Disk.{DiskFrame};
+ghost use Rattle.spill_partitions.specs.Errors.{spill_faults};
+ghost use Rattle.spill_partitions.specs.declared.error.SpillError.TheVariants.{TapeDamaged};
 ghost use Rattle.agg_protocol.specs.States.{most_rows};
 ghost use Rattle.having_filter.specs.Meaning.{meaning};
 ghost use Rattle.group_runs.specs.Standing.{IsRun};
@@ -19,7 +19,7 @@ use crate::work::Work;
 use group_runs::Run;
 use group_table::KeyHash;
 use having_filter::Query;
-use spill_lists::SpillError;
+use spill_partitions::SpillError;
 use spill_tapes::TapeDisk;
 use std::alloc::Global;
 
@@ -54,12 +54,12 @@ pub fn fold<H: KeyHash + Copy, D: TapeDisk>(
     ensures same { OnErr result (run.new ≡ run.old) }
     ensures uncounted { OnErr result (work.new ≡ work.old) }
     ensures undamaged { IfErr result (λ error. IsTrue (D.honest disk.old) → error ≢ TapeDamaged) }
-    ensures disk { Leaves D.TapeDisk (failed spill_faults result) disk.old disk.new }
+    ensures disk { DiskFrame D.TapeDisk (failed spill_faults result) disk.old disk.new }
 {
     let _schema = query.schema();
     let mut counted = *work;
     let more = aggregated(alloc, query, more, means, disk, &mut counted)?;
-    run.absorb(alloc, query, &more)?;
+    run.merge_from(alloc, query, &more)?;
     *work = counted;
     Ok(())
 }

@@ -1,6 +1,7 @@
 //! The groups of a pass, in a table whose bytes lie in memory contexts.
 
-ghost use Rattle.std.specs.Prelude.{◌≡◌, ◌++◌, ◌∷◌, ◌≤◌, ◌<◌, ℕ, [], map, Some, is_some, length, slice_get, MatchOption, IfOk, IfErr, IfSome, OnOk, OnErr};
+ghost use Rattle.std.specs.Prelude.{◌≡◌, ◌++◌, ◌∷◌, ◌≤◌, ◌<◌, ℕ, [], map, Some, is_some, length, slice_get, MatchOption, IfOk, IfErr};
+ghost use Rattle.std.specs.Prelude.{IfSome, OnOk, OnErr};
 ghost use Rattle.std.specs.List.Sorted.{IsPermutation};
 ghost use Rattle.grouping_model.specs.Datum.{HasKinds};
 ghost use Rattle.grouping_model.specs.Parts.{functions};
@@ -9,21 +10,21 @@ ghost use Rattle.agg_protocol.specs.States.{most_rows};
 ghost use Rattle.aggregation_cost.specs.Cost.{greatest};
 ghost use Rattle.aggregation_cost.specs.Space.{Key, need, fits, fronts};
 ghost use Rattle.group_table.specs.Table.{IsSlot, Names, HasNo, state_in};
-ghost use Rattle.spill_lists.specs.declared.error.SpillError.TheVariants.{NoMemory};
+ghost use Rattle.spill_partitions.specs.declared.error.SpillError.TheVariants.{NoMemory};
 ghost use Rattle.having_filter.specs.Kept.{IsWellFormed};
 ghost use Rattle.having_filter.specs.Meaning.{meaning};
 ghost use Rattle.group_runs.specs.Runs.{Rises, packed_keys};
 ghost use Rattle.hash_agg.specs.Passes.{AreOnce, entries_of, HasPlace, WritesAt, IsSameTable};
 ghost use Rattle.group_runs.specs.Steps.{HaveRoomForRow, AreAdvanced, HaveRoomWithin, AreCombined};
 
-use crate::sorting::{led, told_apart};
+use crate::sorting::{abbreviated, sort_distinct};
 use agg_protocol::BadState;
 use context_tree::{Kind, Tree};
 use group_runs::{Run, advance_slice, combine_within};
 use group_table::{GroupTable, KeyHash, Seed, SipHash, Slot};
 use having_filter::Query;
 use packed_rows::Value;
-use spill_lists::SpillError;
+use spill_partitions::SpillError;
 use std::alloc::{AllocError, Global};
 use std::marker::Model;
 
@@ -126,7 +127,8 @@ impl<H: KeyHash + Drop> Groups<H> {
         ensures few { IfSome result (λ need. HasPlace self.now) }
         ensures within { IfSome result (λ need. need ≤ limit) }
         ensures needed { IfSome result (λ bytes. bytes ≡ need self.now.table.width (packed_keys (entries_of self.now) ++ key.now ∷ [])) }
-        ensures fits { (hash : Key → ℕ) → is_some result ≡ fits (record { limit = limit; width = self.now.table.width; hash = hash }) (packed_keys (entries_of self.now) ++ key.now ∷ []) }
+        ensures fits { (hash : Key → ℕ) → is_some result ≡ fits (record { limit = limit; width = self.now.table.width; hash = hash })
+            (packed_keys (entries_of self.now) ++ key.now ∷ []) }
     {
         let need = self.table.need_for(&self.tree, key)?;
         if need > u128::from(limit) {
@@ -137,7 +139,7 @@ impl<H: KeyHash + Drop> Groups<H> {
 
     /// Adds a group whose key isn't there, while so many bytes of blocks are held at most. The only error is a failed allocation, and
     /// no group is left then.
-    pub(crate) fn enter(&mut self, key: &[u8], states: &[u8], held: u64) -> Result<(), AllocError>
+    pub(crate) fn insert(&mut self, key: &[u8], states: &[u8], held: u64) -> Result<(), AllocError>
         requires absent { HasNo self.old.table self.old.tree key.now }
         requires key { length key.now ≤ 65535 }
         requires states { length states.now ≡ self.old.table.width }
@@ -174,7 +176,9 @@ impl<H: KeyHash + Drop> Groups<H> {
         ensures table { self.new.table ≡ self.old.table }
         ensures hash { self.new.hash ≡ self.old.hash }
         ensures held { self.new.most_held ≡ self.old.most_held }
-        ensures written { OnOk result (WritesAt self.old slot (AreAdvanced (meaning query.now).aggregates most (state_in self.old.table self.old.tree slot) (row_of row.now)) self.new) }
+        ensures written { OnOk result
+            (WritesAt self.old slot (AreAdvanced (meaning query.now).aggregates most (state_in self.old.table self.old.tree slot)
+            (row_of row.now)) self.new) }
         ensures refused { OnErr result (¬ HaveRoomForRow (functions (meaning query.now)) most (state_in self.old.table self.old.tree slot)) }
     {
         let states = GroupTable::state_mut(&mut self.tree, &self.table, slot);
@@ -195,8 +199,11 @@ impl<H: KeyHash + Drop> Groups<H> {
         ensures table { self.new.table ≡ self.old.table }
         ensures hash { self.new.hash ≡ self.old.hash }
         ensures held { self.new.most_held ≡ self.old.most_held }
-        ensures written { OnOk result (WritesAt self.old slot (AreCombined (functions (meaning query.now)) most (state_in self.old.table self.old.tree slot) more.now) self.new) }
-        ensures refused { OnErr result (¬ HaveRoomWithin (functions (meaning query.now)) most (state_in self.old.table self.old.tree slot) more.now) }
+        ensures written { OnOk result
+            (WritesAt self.old slot (AreCombined (functions (meaning query.now)) most (state_in self.old.table self.old.tree slot) more.now)
+            self.new) }
+        ensures refused { OnErr result (¬ HaveRoomWithin (functions (meaning query.now)) most (state_in self.old.table self.old.tree slot)
+            more.now) }
     {
         let states = GroupTable::state_mut(&mut self.tree, &self.table, slot);
         combine_within(query, states, more, most)
@@ -222,8 +229,8 @@ impl<H: KeyHash + Drop> Groups<H> {
         let mut entries = Vec::with_capacity(alloc, self.len())?;
         for place in 0..self.len() {
             let (key, states) = self.entry(place);
-            entries.push(led(key, states))?;
+            entries.push(abbreviated(key, states))?;
         }
-        told_apart(alloc, entries.as_mut_slice())
+        sort_distinct(alloc, entries.as_mut_slice())
     }
 }

@@ -24,7 +24,7 @@ impl<'a> Input<'a> {
     {
         match self {
             Input::Rows(rows) => rows.len() as u64,
-            Input::Flat(rows) => rows.len() as u64,
+            Input::Packed(rows) => rows.len() as u64,
             Input::Groups { rows, .. } => *rows,
         }
     }
@@ -34,7 +34,7 @@ impl<'a> Input<'a> {
 #[derive(Drop)]
 pub(crate) enum Packings<'a> {
     Apart(&'a [Vec<u8>]),
-    OnEnd(&'a PackedRows),
+    Concatenated(&'a PackedRows),
 }
 
 impl<'a> Packings<'a> {
@@ -44,7 +44,7 @@ impl<'a> Packings<'a> {
     {
         match self {
             Packings::Apart(rows) => rows.len(),
-            Packings::OnEnd(rows) => rows.len(),
+            Packings::Concatenated(rows) => rows.len(),
         }
     }
 
@@ -58,7 +58,7 @@ impl<'a> Packings<'a> {
                 Some(row) => row,
                 None => unreachable!(),
             },
-            Packings::OnEnd(rows) => rows.row(place),
+            Packings::Concatenated(rows) => rows.row(place),
         }
     }
 }

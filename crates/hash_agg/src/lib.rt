@@ -15,11 +15,11 @@ mod work;
 
 pub use aggregation::aggregate;
 pub use folding::fold;
-pub use group_runs::{Run, first_states};
+pub use group_runs::{Run, initial_states};
 pub use group_table::{Fnv1a, KeyHash, Seed};
 pub use input::Input;
 pub use laws::{empty_run, more_rows, one_run, same_run};
-pub use means::{GREATEST_LIMIT, LEAST_LIMIT, LimitOutOfRange, Means, USUAL_LIMIT, USUAL_SEED};
-pub use spill_lists::SpillError;
+pub use means::{DEFAULT_LIMIT, DEFAULT_SEED, LimitOutOfRange, MAX_LIMIT, MIN_LIMIT, Means};
+pub use spill_partitions::SpillError;
 pub use spill_tapes::{MemDisk, TapeDisk};
 pub use work::Work;

@@ -7,16 +7,16 @@ use std::marker::Model;
 use thiserror::Error;
 
 /// The least limit of an aggregation, in bytes.
-pub const LEAST_LIMIT: u64 = 65_536;
+pub const MIN_LIMIT: u64 = 65_536;
 
 /// The greatest limit of an aggregation, in bytes.
-pub const GREATEST_LIMIT: u64 = 1_099_511_627_776;
+pub const MAX_LIMIT: u64 = 1_099_511_627_776;
 
 /// The limit of whoever tells none, in bytes.
-pub const USUAL_LIMIT: u64 = 4_194_304;
+pub const DEFAULT_LIMIT: u64 = 4_194_304;
 
 /// The seed of whoever tells none.
-pub const USUAL_SEED: Seed = Seed { low: 0, high: 0 };
+pub const DEFAULT_SEED: Seed = Seed { low: 0, high: 0 };
 
 /// A limit is less than the least one, or more than the greatest.
 #[derive(Clone, Copy, Debug, PartialEq, Eq, Error)]
@@ -49,28 +49,28 @@ impl<H: KeyHash + Copy> Model for Means<H> {
 impl<H: KeyHash + Copy> Means<H> {
     /// A limit in bytes, from 65,536 to 1,099,511,627,776, and a hash function. The seed is a fixed one.
     pub fn new(limit: u64, hash: H) -> Result<Means<H>, LimitOutOfRange>
-        ensures means { IfOk result (λ means. means ≡ record { limit = limit; hash = hash; seed = USUAL_SEED }) }
-        ensures within { IfOk result (λ _. (LEAST_LIMIT ≤ limit) × (limit ≤ GREATEST_LIMIT)) }
-        ensures refused { IfErr result (λ _. (limit < LEAST_LIMIT) ⊎ (GREATEST_LIMIT < limit)) }
+        ensures means { IfOk result (λ means. means ≡ record { limit = limit; hash = hash; seed = DEFAULT_SEED }) }
+        ensures within { IfOk result (λ _. (MIN_LIMIT ≤ limit) × (limit ≤ MAX_LIMIT)) }
+        ensures refused { IfErr result (λ _. (limit < MIN_LIMIT) ⊎ (MAX_LIMIT < limit)) }
     {
-        if limit < LEAST_LIMIT || limit > GREATEST_LIMIT {
+        if limit < MIN_LIMIT || limit > MAX_LIMIT {
             return Err(LimitOutOfRange);
         }
         Ok(Means {
             limit,
             hash,
-            seed: USUAL_SEED,
+            seed: DEFAULT_SEED,
         })
     }
 
     /// The usual limit, of 4,194,304 bytes, and a hash function. The seed is a fixed one.
     pub fn usual(hash: H) -> Means<H>
-        ensures { result ≡ record { limit = USUAL_LIMIT; hash = hash; seed = USUAL_SEED } }
+        ensures { result ≡ record { limit = DEFAULT_LIMIT; hash = hash; seed = DEFAULT_SEED } }
     {
         Means {
-            limit: USUAL_LIMIT,
+            limit: DEFAULT_LIMIT,
             hash,
-            seed: USUAL_SEED,
+            seed: DEFAULT_SEED,
         }
     }
 
@@ -88,7 +88,7 @@ impl<H: KeyHash + Copy> Means<H> {
     /// The limit, in bytes.
     pub fn limit(&self) -> u64
         ensures limit { result ≡ self.now.limit }
-        ensures within { (LEAST_LIMIT ≤ result) × (result ≤ GREATEST_LIMIT) }
+        ensures within { (MIN_LIMIT ≤ result) × (result ≤ MAX_LIMIT) }
     {
         self.limit
     }

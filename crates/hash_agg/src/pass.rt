@@ -2,15 +2,17 @@
 
 ghost use Rattle.std.specs.Prelude.{◌≡◌, ◌≢◌, ◌≤◌, ℕ, List, [], ◌∷◌, is_some, length, IfOk, IfErr, IfSome, OnOk};
 ghost use Rattle.tape_disks.specs.Calls.{failed};
-ghost use Rattle.tape_disks.specs.Disk.{Leaves};
-ghost use Rattle.spill_lists.specs.Errors.{spill_faults};
-ghost use Rattle.spill_lists.specs.declared.error.SpillError.TheVariants.{TapeDamaged};
+ghost use Rattle.tape_disks.specs.Disk.{DiskFrame};
+ghost use Rattle.spill_partitions.specs.Errors.{spill_faults};
+ghost use Rattle.spill_partitions.specs.declared.error.SpillError.TheVariants.{TapeDamaged};
 ghost use Rattle.grouping_model.specs.Grouping.{Group};
 ghost use Rattle.packed_rows.specs.View.{row_of};
 ghost use Rattle.group_runs.specs.Standing.{StandsFor, IsRun};
 ghost use Rattle.hash_agg.specs.Inputs.{brought, packings_in};
 ghost use Rattle.hash_agg.specs.Passes.{IsPlan};
-ghost use Rattle.hash_agg.specs.Added.{Packed_rows, Entries, On_tape, Added, AddedGenuine, AddedList, AddedOne, Adds, AreInputs, CountsPass, Finished, HasRoom, IsFirst, IsFresh, IsReady, IsSelected, RefusedList, enters, query_of, source_of};
+ghost use Rattle.hash_agg.specs.Added.{Packed_rows, Entries, On_tape, Added, AddedGenuine, AddedList, AddedOne, Adds, AreInputs};
+ghost use Rattle.hash_agg.specs.Added.{CountsPass, Finished, HasRoom, IsFirst, IsFresh, IsReady, IsSelected, RefusedList, enters, query_of};
+ghost use Rattle.hash_agg.specs.Added.{source_of};
 
 use crate::groups::Groups;
 use crate::input::{Input, Packings};
@@ -21,7 +23,7 @@ use agg_protocol::BadState;
 use group_runs::Run;
 use group_table::{KeyHash, Seed};
 use packed_rows::Value;
-use spill_lists::{SpillError, SpillLists};
+use spill_partitions::{SpillError, SpillPartitions};
 use spill_tapes::TapeDisk;
 use std::alloc::{AllocError, Global};
 
@@ -49,7 +51,7 @@ impl Buffers {
 pub(crate) struct Pass<'q, H: KeyHash + Drop> {
     pub(crate) plan: Plan<'q>,
     pub(crate) groups: Groups<H>,
-    pub(crate) lists: SpillLists,
+    pub(crate) lists: SpillPartitions,
 }
 
 impl<'q, H: KeyHash + Drop> Pass<'q, H> {
@@ -70,11 +72,11 @@ impl<'q, H: KeyHash + Drop> Pass<'q, H> {
         Ok(Pass {
             plan,
             groups,
-            lists: SpillLists::new(alloc, disk),
+            lists: SpillPartitions::new(alloc, disk),
         })
     }
 
-    /// How many bytes of blocks the table holds at most while a group that isn't there enters it, if it may enter.
+    /// How many bytes of blocks the table holds at most while a group that isn't there enters it, if it may insert.
     fn room_for(&self, key: &[u8]) -> Option<u64>
         requires ready { IsReady self.now }
         requires key { length key.now ≤ 8192 }
@@ -111,7 +113,7 @@ impl<'q, H: KeyHash + Drop> Pass<'q, H> {
         }
         if let Some(need) = self.room_for(key) {
             self.plan.first_after(row, states)?;
-            self.groups.enter(key, states, need)?;
+            self.groups.insert(key, states, need)?;
             return Ok(());
         }
         let hash = self.groups.hash(key);
@@ -140,7 +142,7 @@ impl<'q, H: KeyHash + Drop> Pass<'q, H> {
             };
         }
         if let Some(need) = self.room_for(key) {
-            self.groups.enter(key, states, need)?;
+            self.groups.insert(key, states, need)?;
             return Ok(());
         }
         let hash = self.groups.hash(key);
@@ -283,7 +285,7 @@ impl<'q, H: KeyHash + Drop> Pass<'q, H> {
     {
         match input {
             Input::Rows(rows) => self.add_rows(disk, Packings::Apart(rows), row, buffers),
-            Input::Flat(rows) => self.add_rows(disk, Packings::OnEnd(rows), row, buffers),
+            Input::Packed(rows) => self.add_rows(disk, Packings::Concatenated(rows), row, buffers),
             Input::Groups { run, .. } => self.add_run(disk, run, &mut buffers.tape_record),
         }
     }
@@ -300,7 +302,7 @@ impl<'q, H: KeyHash + Drop> Pass<'q, H> {
         requires fresh { IsFresh self.old }
         ensures added { OnOk result (AddedList H.hash_of D.TapeDisk self.old disk.old self.new disk.new) }
         ensures refused { IfErr result (λ error. RefusedList H.hash_of D.TapeDisk self.old disk.old error self.new) }
-        ensures disk { Leaves D.TapeDisk (failed spill_faults result) disk.old disk.new }
+        ensures disk { DiskFrame D.TapeDisk (failed spill_faults result) disk.old disk.new }
     {
         while let Some((hash, tag)) = self.lists.next(disk, bytes)? {
             self.add_record(alloc, disk, hash, tag, bytes, buffers)?;
@@ -320,7 +322,7 @@ impl<'q, H: KeyHash + Drop> Pass<'q, H> {
         ensures finished { IfOk result (λ run. Finished D.TapeDisk self.old disk.old run self.new disk.new) }
         ensures counted { CountsPass D.TapeDisk self.old disk.old work.old work.new }
         ensures undamaged { IfErr result (λ error. error ≢ TapeDamaged) }
-        ensures disk { Leaves D.TapeDisk (failed spill_faults result) disk.old disk.new }
+        ensures disk { DiskFrame D.TapeDisk (failed spill_faults result) disk.old disk.new }
     {
         work.passes = work.passes.saturating_add(1);
         work.spilled = work.spilled.saturating_add(self.lists.spilled(disk));

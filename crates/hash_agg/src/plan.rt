@@ -8,7 +8,7 @@ ghost use Rattle.grouping_model.specs.Parts.{functions};
 ghost use Rattle.packed_rows.specs.Packing.{packing};
 ghost use Rattle.packed_rows.specs.View.{kinds_of, row_of};
 ghost use Rattle.agg_protocol.specs.States.{most_rows};
-ghost use Rattle.spill_lists.specs.declared.error.SpillError.TheVariants.{TapeDamaged, TapeFault};
+ghost use Rattle.spill_partitions.specs.declared.error.SpillError.TheVariants.{TapeDamaged, TapeFault};
 ghost use Rattle.having_filter.specs.Kept.{IsWellFormed};
 ghost use Rattle.having_filter.specs.Meaning.{meaning};
 ghost use Rattle.group_runs.specs.Standing.{StandsFor};
@@ -17,10 +17,10 @@ ghost use Rattle.hash_agg.specs.Passes.{IsPlan};
 
 use agg_library::StateRow;
 use agg_protocol::BadState;
-use group_runs::{advance_slice, first_states};
+use group_runs::{advance_slice, initial_states};
 use having_filter::Query;
 use packed_rows::{RowError, Value, ValueKind, pack_value, unpack_into};
-use spill_lists::SpillError;
+use spill_partitions::SpillError;
 use std::alloc::{AllocError, Global};
 
 /// A query, what its groups begin with, and the limits of an aggregation: the most rows that a group counts, and how many bytes of
@@ -83,7 +83,7 @@ impl<'a> Plan<'a> {
         ensures limit { IfOk result (λ plan. plan.limit ≡ limit) }
     {
         let _schema = query.schema();
-        let first = first_states(alloc, query)?;
+        let first = initial_states(alloc, query)?;
         Ok(Plan {
             query,
             most,

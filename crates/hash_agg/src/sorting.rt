@@ -3,18 +3,18 @@
 ghost use Rattle.std.specs.Prelude.{◌≡◌, ◌≢◌, ◌++◌, ◌∷◌, IfOk, IfErr, OnOk, slice_index};
 ghost use Rattle.std.specs.List.{All};
 ghost use Rattle.std.specs.List.Sorted.{IsPermutation};
-ghost use Rattle.spill_lists.specs.declared.error.SpillError.TheVariants.{TapeDamaged, TapeFault};
+ghost use Rattle.spill_partitions.specs.declared.error.SpillError.TheVariants.{TapeDamaged, TapeFault};
 ghost use Rattle.group_runs.specs.Runs.{Rises};
-ghost use Rattle.packed_rows.specs.RowsOnEnd.{on_end};
-ghost use Rattle.hash_agg.specs.Passes.{AreOnce, IsLed, pairs};
+ghost use Rattle.packed_rows.specs.ConcatenatedRows.{concatenated};
+ghost use Rattle.hash_agg.specs.Passes.{AreOnce, IsAbbreviated, pairs};
 
 use group_runs::Run;
-use spill_lists::SpillError;
+use spill_partitions::SpillError;
 use std::alloc::{AllocError, Global};
 
 /// The key and the states of a group, behind the first eight bytes of the key as a number: most keys are told apart by
 /// these, without a look at the bytes themselves.
-pub(crate) type Led<'a> = (u64, (&'a [u8], &'a [u8]));
+pub(crate) type AbbreviatedKey<'a> = (u64, (&'a [u8], &'a [u8]));
 
 /// The byte at a place of a key, and 0 behind its last one.
 fn byte_at(key: &[u8], place: usize) -> u8
@@ -24,9 +24,9 @@ fn byte_at(key: &[u8], place: usize) -> u8
 }
 
 /// A group behind the number that its key begins with.
-pub(crate) fn led<'a>(key: &'a [u8], states: &'a [u8]) -> Led<'a>
+pub(crate) fn abbreviated<'a>(key: &'a [u8], states: &'a [u8]) -> AbbreviatedKey<'a>
     ensures group { result.1 ≡ (key.entry, states.entry) }
-    ensures led { IsLed result }
+    ensures abbreviated { IsAbbreviated result }
 {
     let first = u64::from_be_bytes([
         byte_at(key, 0),
@@ -42,22 +42,22 @@ pub(crate) fn led<'a>(key: &'a [u8], states: &'a [u8]) -> Led<'a>
 }
 
 /// Adds references to the groups of a run behind others.
-fn push_all<'a>(entries: &mut Vec<Led<'a>>, run: &'a Run) -> Result<(), AllocError>
+fn push_all<'a>(entries: &mut Vec<AbbreviatedKey<'a>>, run: &'a Run) -> Result<(), AllocError>
     ensures pushed { OnOk result (pairs entries.new.items ≡ pairs entries.old.items ++ run.now) }
-    ensures led { OnOk result (All IsLed entries.old.items → All IsLed entries.new.items) }
+    ensures abbreviated { OnOk result (All IsAbbreviated entries.old.items → All IsAbbreviated entries.new.items) }
 {
     for place in 0..run.len() {
         let (key, states) = run.group(place);
-        entries.push(led(key, states))?;
+        entries.push(abbreviated(key, states))?;
     }
     Ok(())
 }
 
 /// The groups of a run and of others as one run. `TapeDamaged` if two of them have the same key.
 pub(crate) fn united(alloc: Global, first: &Run, others: &[Run]) -> Result<Run, SpillError>
-    ensures sorted { IfOk result (IsPermutation (on_end (first.now ∷ others.now))) }
+    ensures sorted { IfOk result (IsPermutation (concatenated (first.now ∷ others.now))) }
     ensures rises { IfOk result Rises }
-    ensures undamaged { IfErr result (λ error. AreOnce (on_end (first.now ∷ others.now)) → error ≢ TapeDamaged) }
+    ensures undamaged { IfErr result (λ error. AreOnce (concatenated (first.now ∷ others.now)) → error ≢ TapeDamaged) }
     ensures faultless { IfErr result (λ error. error ≢ TapeFault) }
 {
     let mut entries = Vec::new(alloc);
@@ -65,11 +65,11 @@ pub(crate) fn united(alloc: Global, first: &Run, others: &[Run]) -> Result<Run, 
     for run in others {
         push_all(&mut entries, run)?;
     }
-    told_apart(alloc, entries.as_mut_slice())
+    sort_distinct(alloc, entries.as_mut_slice())
 }
 
 /// How many bytes the keys and the states of groups have, if all are as long as those of the first.
-fn room_for(entries: &[Led<'_>]) -> (usize, usize) {
+fn room_for(entries: &[AbbreviatedKey<'_>]) -> (usize, usize) {
     if entries.is_empty() {
         return (0, 0);
     }
@@ -82,8 +82,11 @@ fn room_for(entries: &[Led<'_>]) -> (usize, usize) {
 }
 
 /// Puts groups in the order of their keys. `TapeDamaged` if two of them have the same key.
-pub(crate) fn told_apart(alloc: Global, entries: &mut [Led<'_>]) -> Result<Run, SpillError>
-    requires led { All IsLed entries.old }
+pub(crate) fn sort_distinct(
+    alloc: Global,
+    entries: &mut [AbbreviatedKey<'_>],
+) -> Result<Run, SpillError>
+    requires abbreviated { All IsAbbreviated entries.old }
     ensures sorted { IfOk result (IsPermutation (pairs entries.old)) }
     ensures rises { IfOk result Rises }
     ensures undamaged { IfErr result (λ error. AreOnce (pairs entries.old) → error ≢ TapeDamaged) }

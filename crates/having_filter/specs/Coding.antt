@@ -9,7 +9,8 @@ use Rattle.grouping_model.specs.Datum.{Datum, Kind, Bigint_kind, Boolean_kind, T
 use Rattle.packed_rows.specs.Columns as packed
 use Rattle.grouping_model.specs.Condition as model
 use Rattle.agg_protocol.specs.Signatures.{function_number, function_at, function_at_back}
-use Rattle.query_checks.specs.Forms.{Unary_operator, Negation, Testing, Binary_operator, Conjunction, Disjunction, Comparing, Form, Column, Call, Call_where, Literal, Unary, Binary, Written}
+use Rattle.query_checks.specs.Forms.{Unary_operator, Negation, Testing, Binary_operator, Conjunction, Disjunction, Comparing, Form, Column}
+use Rattle.query_checks.specs.Forms.{Call, Call_where, Literal, Unary, Binary, Written}
 use Rattle.query_checks.specs.declared.order.OrderTerm.{OrderTerm}
 use Rattle.query_checks.specs.Checks.{kind_number, Checked}
 use Rattle.query_checks.specs.Operators.{comparison_number, comparison_at, comparison_at_back, test_number, test_at, test_at_back}
@@ -138,7 +139,8 @@ kind_back Bigint_kind = refl
 kind_back Boolean_kind = refl
 kind_back Text_kind = refl
 
-pub columns_back : (xs : List packed.Column) → map (λ (c : List ℕ × Kind). record { name = c.0; kind = c.1 }) (map (λ (c : packed.Column). (c.name, c.kind)) xs) ≡ xs
+pub columns_back : (xs : List packed.Column) → map (λ (c : List ℕ × Kind). record { name = c.0; kind = c.1 })
+    (map (λ (c : packed.Column). (c.name, c.kind)) xs) ≡ xs
 columns_back [] = refl
 columns_back (x ∷ xs) = ap (λ rest. x ∷ rest) (columns_back xs)
 
@@ -150,8 +152,10 @@ coded_form = code_by Gv itself tree_of form_at form_back
 abbrev pub coded_written : Coded (Written ℕ)
 coded_written =
     code_by (List (Form ℕ × Option (List ℕ)) × (Option (Form ℕ) × (List ℕ × Option (Form ℕ))))
-    (coded× (coded_list (coded× coded_form (coded_option (coded_list coded_ℕ)))) (coded× (coded_option coded_form) (coded× (coded_list coded_ℕ) (coded_option coded_form))))
-    (λ q. (q.items, (q.condition, (q.keys, q.having)))) (λ p. record { items = p.0; condition = p.1.0; keys = p.1.1.0; having = p.1.1.1 }) (λ _. refl)
+    (coded× (coded_list (coded× coded_form (coded_option (coded_list coded_ℕ))))
+    (coded× (coded_option coded_form) (coded× (coded_list coded_ℕ) (coded_option coded_form))))
+    (λ q. (q.items, (q.condition, (q.keys, q.having)))) (λ p. record { items = p.0; condition = p.1.0; keys = p.1.1.0; having = p.1.1.1 })
+    (λ _. refl)
 
 abbrev pub coded_kind : Coded Kind
 coded_kind = code_by ℕ coded_ℕ kind_number kind_of_number kind_back
@@ -163,6 +167,8 @@ coded_term =
 
 abbrev pub coded_checked : Coded Checked
 coded_checked =
-    code_by (List (List ℕ × Kind) × (Written ℕ × List OrderTerm)) (coded× (coded_list (coded× (coded_list coded_ℕ) coded_kind)) (coded× coded_written (coded_list coded_term)))
-    (λ q. (map (λ c. (c.name, c.kind)) q.columns, (q.written, q.order))) (λ p. record { columns = map (λ c. record { name = c.0; kind = c.1 }) p.0; written = p.1.0; order = p.1.1 })
+    code_by (List (List ℕ × Kind) × (Written ℕ × List OrderTerm)) (coded× (coded_list (coded× (coded_list coded_ℕ) coded_kind))
+    (coded× coded_written (coded_list coded_term)))
+    (λ q. (map (λ c. (c.name, c.kind)) q.columns, (q.written, q.order)))
+    (λ p. record { columns = map (λ c. record { name = c.0; kind = c.1 }) p.0; written = p.1.0; order = p.1.1 })
     (λ q i. record { columns = columns_back q.columns i; written = q.written; order = q.order })

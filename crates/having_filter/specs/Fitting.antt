@@ -35,7 +35,8 @@ TakesTwo operator left right = IsTruth left × IsTruth right
 abbrev pub OperandsFit : (Form ℕ → Type 0) → List Kind → Form ℕ → Type 0
 OperandsFit IsRead kinds (Literal value) = Unit {0}
 OperandsFit IsRead kinds (Unary operator x) = OperandsFit IsRead kinds x × TakesOne operator (kind_of_form kinds x)
-OperandsFit IsRead kinds (Binary operator x y) = OperandsFit IsRead kinds x × OperandsFit IsRead kinds y × TakesTwo operator (kind_of_form kinds x) (kind_of_form kinds y)
+OperandsFit IsRead kinds (Binary operator x y) = OperandsFit IsRead kinds x × OperandsFit IsRead kinds y
+    × TakesTwo operator (kind_of_form kinds x) (kind_of_form kinds y)
 OperandsFit IsRead kinds leaf = IsRead leaf
 
 -- a whole condition is a truth value or null too
@@ -55,6 +56,7 @@ IsOfGroup q call = list_any (form_eq ◌==◌ call) (distinct_calls ◌==◌ q.w
 
 pub record HasFittingConditions (q : Checked) : Type 0 where
   pub condition : ForSome q.written.condition (Fits (IsOfRow (kinds q.columns)) (kinds q.columns))
-  pub filters : AllByRecursion (λ call. ForSome (filter_of call) (Fits (IsOfRow (kinds q.columns)) (kinds q.columns))) (distinct_calls ◌==◌ q.written)
+  pub filters : AllByRecursion (λ call. ForSome (filter_of call) (Fits (IsOfRow (kinds q.columns)) (kinds q.columns)))
+      (distinct_calls ◌==◌ q.written)
   pub having : ForSome q.written.having (Fits (IsOfGroup q) (kinds q.columns))
   pub items : AllByRecursion (λ item. AllByRecursion (IsOfGroup q) (reads item.0)) q.written.items

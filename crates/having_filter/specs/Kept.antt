@@ -5,7 +5,7 @@ use Rattle.grouping_model.specs.Datum.{Kind, Bigint_kind, Row, HasKinds}
 use Rattle.grouping_model.specs.Query as query
 use Rattle.grouping_model.specs.Query.{Aggregate}
 use Rattle.grouping_model.specs.Grouping.{argument}
-use Rattle.grouping_model.specs.declared.limits.TheConstants.{MOST_ITEMS, MOST_KEYS, MOST_CALLS}
+use Rattle.grouping_model.specs.declared.limits.TheConstants.{MAX_ITEMS, MAX_KEYS, MAX_CALLS}
 use Rattle.agg_protocol.specs.Arguments.{Takes}
 use Rattle.packed_rows.specs.Columns.{Column, AreColumns}
 use Rattle.query_checks.specs.Forms.{Written, map_form}
@@ -51,9 +51,9 @@ pub record TakesRows (kinds : List Kind) (aggregate : Aggregate) : Type 0 where
 pub record IsWellFormed (q : query.Query) : Type 0 where
   pub keys : AllByRecursion (λ place. place < length q.kinds) q.keys
   pub aggregates : AllByRecursion (TakesRows q.kinds) q.aggregates
-  pub few_items : length q.items ≤ MOST_ITEMS
-  pub few_keys : length q.keys ≤ MOST_KEYS
-  pub few_aggregates : length q.aggregates ≤ MOST_CALLS
+  pub few_items : length q.items ≤ MAX_ITEMS
+  pub few_keys : length q.keys ≤ MAX_KEYS
+  pub few_aggregates : length q.aggregates ≤ MAX_CALLS
 
 -- a term orders by one of these items (own)
 pub record IsTermOf {A : Type 0} (items : List A) (term : OrderTerm) : Type 0 where

@@ -9,7 +9,8 @@ use Rattle.grouping_model.specs.Query as query
 use Rattle.grouping_model.specs.Order.{Term}
 use Rattle.packed_rows.specs.Columns.{kinds}
 use Rattle.query_checks.specs.Forms as form
-use Rattle.query_checks.specs.Forms.{Unary_operator, Negation, Testing, Binary_operator, Conjunction, Disjunction, Comparing, Form, Call, Call_where, Literal, Unary, Binary}
+use Rattle.query_checks.specs.Forms.{Unary_operator, Negation, Testing, Binary_operator, Conjunction, Disjunction, Comparing, Form, Call}
+use Rattle.query_checks.specs.Forms.{Call_where, Literal, Unary, Binary}
 use Rattle.query_checks.specs.Sameness.{form_eq}
 use Rattle.query_checks.specs.Calls.{distinct_calls}
 use Rattle.query_checks.specs.Checks.{Checked}

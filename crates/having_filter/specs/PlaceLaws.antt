@@ -1,5 +1,6 @@
 -- Laws: the names of columns and their places; what is defined here, laws alone say.
-use Rattle.std.proofs.Common.{◌≡◌, ◌<◌, ◌==◌, ℕ, true, List, [], ◌∷◌, map, length, Option, Some, None, option_map, refl, ap, sym, ◌∙◌, subst}
+use Rattle.std.proofs.Common.{◌≡◌, ◌<◌, ◌==◌, ℕ, true, List, [], ◌∷◌, map, length, Option, Some, None, option_map, refl, ap, sym, ◌∙◌}
+use Rattle.std.proofs.Common.{subst}
 use Rattle.std.specs.Prelude.{is_some, unwrap_or, slice_index_or}
 use Rattle.std.specs.Str.{bytes_eq}
 use Rattle.std.specs.List.{AllByRecursion}
@@ -28,12 +29,15 @@ found_at columns name at e =
     let there = slice_get-get_or columns at anything found.0 in
     record {
       in_range = found.0;
-      named = ap (λ (o : Option Column). unwrap_or (option_map (λ (c : Column). c.name) o) []) there ∙ sym ((bytes_eq-Decides name (slice_index_or columns at anything).name).0 found.1);
+      named = ap (λ (o : Option Column). unwrap_or (option_map (λ (c : Column). c.name) o) []) there
+          ∙ sym ((bytes_eq-Decides name (slice_index_or columns at anything).name).0 found.1);
     }
 
-by_place : (columns : List Column) (name : List ℕ) (found : Option ℕ) → place_of name columns ≡ found → is_some found ≡ true → IsPlaced columns name (place columns name)
+by_place : (columns : List Column) (name : List ℕ) (found : Option ℕ) → place_of name columns ≡ found → is_some found ≡ true
+    → IsPlaced columns name (place columns name)
 by_place columns name None e t = absurd (false≢true t)
-by_place columns name (Some at) e t = subst (λ k. IsPlaced columns name k) (sym (ap (λ (o : Option ℕ). unwrap_or o 0) e)) (found_at columns name at e)
+by_place columns name (Some at) e t = subst (λ k. IsPlaced columns name k) (sym (ap (λ (o : Option ℕ). unwrap_or o 0) e))
+    (found_at columns name at e)
 
 pub placed_name : (columns : List Column) (name : List ℕ) → is_column columns name ≡ true → IsPlaced columns name (place columns name)
 placed_name columns name t = by_place columns name (place_of name columns) refl t
@@ -47,20 +51,25 @@ pub same_places : (columns : List Column) → Agrees (λ name. is_column columns
 same_places columns =
     record {
       agree = λ a b p q. both_ways (place columns a == place columns b) (bytes_eq a b)
-          (λ e. (bytes_eq-Decides a b).1 (sym (placed_name columns a p).named ∙ ap (name_at columns) (eqb-true (place columns a) (place columns b) e) ∙ (placed_name columns b q).named))
+          (λ e. (bytes_eq-Decides a b).1 (sym (placed_name columns a p).named
+          ∙ ap (name_at columns) (eqb-true (place columns a) (place columns b) e) ∙ (placed_name columns b q).named))
           (λ e. eq-eqb (place columns a) (place columns b) (ap (place columns) ((bytes_eq-Decides a b).0 e)));
     }
 
 -- the names of the places of columns
-pub list_back : (columns : List Column) (names : List (List ℕ)) → AllByRecursion (λ name. is_column columns name ≡ true) names → map (name_at columns) (map (place columns) names) ≡ names
+pub list_back : (columns : List Column) (names : List (List ℕ)) → AllByRecursion (λ name. is_column columns name ≡ true) names
+    → map (name_at columns) (map (place columns) names) ≡ names
 list_back columns [] all = refl
 list_back columns (name ∷ names) all = λ i. (placed_name columns name all.0).named i ∷ list_back columns names all.1 i
 
 -- the distinct places of columns are those of their distinct names
-pub distinct_places : (columns : List Column) (names : List (List ℕ)) → AllByRecursion (λ name. is_column columns name ≡ true) names → first_of_each ◌==◌ (map (place columns) names) ≡ map (place columns) (first_of_each bytes_eq names)
-distinct_places columns names all = distinct_image (λ name. is_column columns name ≡ true) (place columns) ◌==◌ bytes_eq (same_places columns) names all
+pub distinct_places : (columns : List Column) (names : List (List ℕ)) → AllByRecursion (λ name. is_column columns name ≡ true) names
+    → first_of_each ◌==◌ (map (place columns) names) ≡ map (place columns) (first_of_each bytes_eq names)
+distinct_places columns names all = distinct_image (λ name. is_column columns name ≡ true) (place columns) ◌==◌ bytes_eq
+    (same_places columns) names all
 
 -- places of columns are in range
-pub places_in_range : (columns : List Column) (names : List (List ℕ)) → AllByRecursion (λ name. is_column columns name ≡ true) names → AllByRecursion (λ at. at < length columns) (map (place columns) names)
+pub places_in_range : (columns : List Column) (names : List (List ℕ)) → AllByRecursion (λ name. is_column columns name ≡ true) names
+    → AllByRecursion (λ at. at < length columns) (map (place columns) names)
 places_in_range columns [] all = tt
 places_in_range columns (name ∷ names) all = ((placed_name columns name all.0).in_range, places_in_range columns names all.1)

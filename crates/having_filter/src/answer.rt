@@ -1,6 +1,7 @@
 //! Answers.
 
-ghost use Rattle.std.specs.Prelude.{◌≡◌, ◌<◌, ◌++◌, ◌∷◌, [], map, length, slice_get, slice_index_or, All, List, Some, IfSome, IsTrue, ◌↔◌, IfOk, OnOk, OnErr};
+ghost use Rattle.std.specs.Prelude.{◌≡◌, ◌<◌, ◌++◌, ◌∷◌, [], map, length, slice_get, slice_index_or, All, List, Some, IfSome, IsTrue, ◌↔◌};
+ghost use Rattle.std.specs.Prelude.{IfOk, OnOk, OnErr};
 ghost use Rattle.grouping_model.specs.Aggregates.{Outcome, Plain};
 ghost use Rattle.grouping_model.specs.Datum.{Null};
 ghost use Rattle.agg_protocol.specs.Results.{outcome_of};
@@ -33,7 +34,7 @@ impl Model for AnswerRows {
 
     ghost Value = { List (List Outcome) };
 
-    ghost use Rattle.packed_rows.specs.RowsOnEnd.{cut, AreRows};
+    ghost use Rattle.packed_rows.specs.ConcatenatedRows.{cut, AreRows};
 
     ghost view = { λ a. cut a.values 0 a.ends.items };
 

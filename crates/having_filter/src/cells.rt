@@ -1,6 +1,7 @@
 //! Values in one run.
 
-ghost use Rattle.std.specs.Prelude.{◌≡◌, ◌+◌, ◌<◌, ◌++◌, ◌∷◌, [], map, take, length, slice_get, slice_range, string_bytes, Some, IfOk, OnOk, OnErr};
+ghost use Rattle.std.specs.Prelude.{◌≡◌, ◌+◌, ◌<◌, ◌++◌, ◌∷◌, [], map, take, length, slice_get, slice_range, string_bytes, Some, IfOk};
+ghost use Rattle.std.specs.Prelude.{OnOk, OnErr};
 ghost use Rattle.agg_protocol.specs.Results.{outcome_of};
 ghost use Rattle.having_filter.specs.Answers.{outcome_in, LiesIn, IsPart, Grows};
 

@@ -1,6 +1,7 @@
 //! Queries that were checked.
 
-ghost use Rattle.std.specs.Prelude.{◌≡◌, ◌≢◌, ◌==◌, ◌<◌, ◌↔◌, true, OnOk, IsTrue, map, length, option_map, IfOk, IfErr, Ok, Err, Some, slice_get, string_bytes};
+ghost use Rattle.std.specs.Prelude.{◌≡◌, ◌≢◌, ◌==◌, ◌<◌, ◌↔◌, true, OnOk, IsTrue, map, length, option_map, IfOk, IfErr, Ok, Err, Some};
+ghost use Rattle.std.specs.Prelude.{slice_get, string_bytes};
 ghost use Rattle.grouping_model.specs.Condition.{is_met};
 ghost use Rattle.grouping_model.specs.Grouping.{column_of};
 ghost use Rattle.grouping_model.specs.Answer.{outcome_at};
@@ -143,7 +144,8 @@ impl Query {
     ///
     /// The first of these that is found anywhere in the query: `TooMany` for over 64 items, 16 distinct columns of GROUP
     /// BY, 32 distinct aggregates among the items and in HAVING, or a canonical text of over 16,384 bytes; `TooDeep` for
-    /// a condition that is nested more than 64 deep; `NoSuchColumn`, also for a name or a place in ORDER BY that no item has; `AggregateHere` for an aggregate in WHERE or in a
+    /// a condition that is nested more than 64 deep; `NoSuchColumn`, also for a name or a place in ORDER BY that no item has;
+    /// `AggregateHere` for an aggregate in WHERE or in a
     /// FILTER; `TypeMismatch` for an argument, an operand or a condition of the wrong kind; `NotGrouped` for a column
     /// among the items or in HAVING that stands outside aggregates and isn't in GROUP BY; `AmbiguousOrder` for a name in
     /// ORDER BY that two items have which aren't the same column or call.

@@ -12,7 +12,7 @@ use agg_protocol::ResultValue;
 use query_checks::{AggCall, Cond};
 
 /// The values that the columns and calls of a condition have.
-pub(crate) trait Leaves<C> {
+pub(crate) trait DiskFrame<C> {
     // The value of each column and call.
     ghost outcome: { Self → Form C → Outcome };
 
@@ -26,7 +26,10 @@ pub(crate) trait Leaves<C> {
 }
 
 /// The value of a condition, by three-valued logic.
-pub(crate) fn value<'a, C, L: Leaves<C>>(condition: &'a Cond<C>, leaves: &'a L) -> ResultValue<'a>
+pub(crate) fn value<'a, C, L: DiskFrame<C>>(
+    condition: &'a Cond<C>,
+    leaves: &'a L,
+) -> ResultValue<'a>
     ensures { outcome_of result ≡
         value_of (L.outcome leaves.now) (condition_by At (form_of condition.now)) }
 {

@@ -159,7 +159,8 @@ fn push_holding(
     pushed
 }
 
-/// What a replica holds, as lines: its columns, its query, and of each origin its groups, their bytes in a summary file and the numbers that
+/// What a replica holds, as lines: its columns, its query, and of each origin its groups, their bytes in a summary file and the numbers
+/// that
 /// are missing. No line comes of one whose file would be too long.
 pub fn holding_lines(alloc: Global, replica: &Replica) -> Result<Vec<String>, AllocError> {
     let mut lines = Vec::new(alloc);

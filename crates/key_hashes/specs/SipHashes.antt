@@ -24,7 +24,13 @@ round v =
 
 -- the seed, xored into the letters "somepseudorandomlygeneratedbytes"
 unfoldable pub first_words : Seed → Words
-first_words seed = record { v0 = bit_xor seed.low 0x736f6d6570736575; v1 = bit_xor seed.high 0x646f72616e646f6d; v2 = bit_xor seed.low 0x6c7967656e657261; v3 = bit_xor seed.high 0x7465646279746573 }
+first_words seed = record {
+  v0 = bit_xor seed.low 0x736f6d6570736575;
+  v1 = bit_xor seed.high 0x646f72616e646f6d;
+  v2 = bit_xor seed.low
+      0x6c7967656e657261;
+  v3 = bit_xor seed.high 0x7465646279746573;
+}
 
 -- one more word of the key
 unfoldable pub with_word : Words → ℕ → Words

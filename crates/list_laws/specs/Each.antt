@@ -8,7 +8,8 @@ each_weaker P Q gives [] all = tt
 each_weaker P Q gives (x ∷ xs) all = (gives x all.0, each_weaker P Q gives xs all.1)
 
 -- of each two things, and what both give
-pub each_both : {X : Type 0} (P Q R : X → Type 0) → ((x : X) → P x → Q x → R x) → (xs : List X) → AllByRecursion P xs → AllByRecursion Q xs → AllByRecursion R xs
+pub each_both : {X : Type 0} (P Q R : X → Type 0) → ((x : X) → P x → Q x → R x) → (xs : List X) → AllByRecursion P xs → AllByRecursion Q xs
+    → AllByRecursion R xs
 each_both P Q R gives [] all more = tt
 each_both P Q R gives (x ∷ xs) all more = (gives x all.0 more.0, each_both P Q R gives xs all.1 more.1)
 

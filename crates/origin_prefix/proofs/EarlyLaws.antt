@@ -8,7 +8,8 @@ use Rattle.std.proofs.lemmas.List.Kept.{IsStrictlySortedBy-filter}
 use Rattle.std.specs.List.Sorted.{IsStrictlySortedBy}
 use Rattle.std.specs.BTreeMap.Range.{entries_between, range_contains}
 use Rattle.std.specs.declared.ops.Bound.TheVariants.{Excluded, Unbounded}
-use Rattle.std.specs.Prelude.{◌≡◌, ◌≢◌, ◌↔◌, refl, ℕ, ◌<◌, ◌≤◌, ◌⊎◌, nat_lt, Bool, true, false, not, cond, IsTrue, if◌then◌else◌, List, [], ◌∷◌, Option, Some, None}
+use Rattle.std.specs.Prelude.{◌≡◌, ◌≢◌, ◌↔◌, refl, ℕ, ◌<◌, ◌≤◌, ◌⊎◌, nat_lt, Bool, true, false, not, cond, IsTrue, if◌then◌else◌, List, []}
+use Rattle.std.specs.Prelude.{◌∷◌, Option, Some, None}
 use Rattle.std.proofs.Common.{◌∙◌, sym, ap, subst, inl, inr, arith}
 use Rattle.std.specs.Ordering.{eq_by_cmp, nat_cmp}
 use Rattle.origin_prefix.specs.Parts.{Batches, rows_at}
@@ -23,8 +24,10 @@ AtNumber old number rows new = (n : ℕ) → rows_at new n ≡ cond (eq_by_cmp n
 pub put_there : (old new : Batches) (number : ℕ) (rows : List (List ℕ)) → AtNumber old number rows new → rows_at new number ≡ Some rows
 put_there old new number rows put = put number ∙ ap (λ b. cond b (Some rows) (rows_at old number)) (is_itself number)
 
-pub put_elsewhere : (old new : Batches) (number : ℕ) (rows : List (List ℕ)) → AtNumber old number rows new → (n : ℕ) → n ≢ number → rows_at new n ≡ rows_at old n
-put_elsewhere old new number rows put n other = put n ∙ ap (λ b. cond b (Some rows) (rows_at old n)) (is_other number n (λ e. other (sym e)))
+pub put_elsewhere : (old new : Batches) (number : ℕ) (rows : List (List ℕ)) → AtNumber old number rows new → (n : ℕ) → n ≢ number
+    → rows_at new n ≡ rows_at old n
+put_elsewhere old new number rows put n other = put n
+    ∙ ap (λ b. cond b (Some rows) (rows_at old n)) (is_other number n (λ e. other (sym e)))
 
 -- one batch more was copied, whose number was not there
 pub copied : (number : ℕ) (rows : List (List ℕ)) (old new rest : Batches) → rows_at old number ≡ None → AtNumber old number rows new
@@ -36,7 +39,8 @@ copied number rows old new rest none put n = go (same_or_other n number)
         subst (λ m. either (rows_at new m) (rows_at rest m) ≡ either (rows_at old m) (rows_at ((number, rows) ∷ rest) m)) (sym same)
         (ap (λ o. either o (rows_at rest number)) (put_there old new number rows put)
         ∙ sym (ap (λ o. either o (rows_at ((number, rows) ∷ rest) number)) none ∙ at_head number rows rest))
-    go (inr other) = ap (λ o. either o (rows_at rest n)) (put_elsewhere old new number rows put n other) ∙ ap (either (rows_at old n)) (sym (behind_head n number rows rest other))
+    go (inr other) = ap (λ o. either o (rows_at rest n)) (put_elsewhere old new number rows put n other)
+        ∙ ap (either (rows_at old n)) (sym (behind_head n number rows rest other))
 
 -- ---- batches that differ
 
@@ -49,7 +53,8 @@ differs_later above number rows rest other same n d = go (same_or_other n number
     go : (n ≡ number) ⊎ (n ≢ number) → DiffersAt above rest other n
     go (inl e) =
         let here : d.rows ≡ rows = some_is d.rows rows (sym d.there ∙ ap (rows_at ((number, rows) ∷ rest)) e ∙ at_head number rows rest) in
-        absurd (same (subst (λ m. above < m) e d.behind) d.those (sym (ap (rows_at other) e) ∙ d.there_too) (λ equal. d.differ (here ∙ equal)))
+        absurd (same (subst (λ m. above < m) e d.behind) d.those (sym (ap (rows_at other) e) ∙ d.there_too)
+        (λ equal. d.differ (here ∙ equal)))
     go (inr apart) =
         record {
           behind = d.behind;
@@ -64,15 +69,18 @@ pub none_differ : (above : ℕ) (other : Batches) (n : ℕ) → ¬ (DiffersAt ab
 none_differ above other n d = absurd (true≢false (sym (ap is_some d.there)))
 
 -- none below the first of some rising batches does
-pub none_lower : (above number : ℕ) (rows : List (List ℕ)) (rest other : Batches) → IsStrictlySortedBy nat_cmp (numbers ((number, rows) ∷ rest))
+pub none_lower : (above number : ℕ) (rows : List (List ℕ)) (rest other : Batches)
+    → IsStrictlySortedBy nat_cmp (numbers ((number, rows) ∷ rest))
     → (lower : ℕ) → lower < number → ¬ (DiffersAt above ((number, rows) ∷ rest) other lower)
 none_lower above number rows rest other rising lower low d =
     let apart : lower ≢ number = λ same. omega (arith, low, same) in
-    let none : rows_at rest lower ≡ None = none_found (λ (e : ℕ × List (List ℕ)). number < e.0) rest lower (above_first number rows rest rising) (λ x high. omega (arith, low, high)) in
+    let none : rows_at rest lower ≡ None = none_found (λ (e : ℕ × List (List ℕ)). number < e.0) rest lower
+    (above_first number rows rest rising) (λ x high. omega (arith, low, high)) in
     absurd (true≢false (sym (ap is_some (sym none ∙ sym (behind_head lower number rows rest apart) ∙ d.there))))
 
 -- rows that are there are the same or not
-pub differ_from : (same : Bool) (rows those : List (List ℕ)) (found : Option (List (List ℕ))) → found ≡ Some those → IsTrue same ↔ (rows ≡ those)
+pub differ_from : (same : Bool) (rows those : List (List ℕ)) (found : Option (List (List ℕ))) → found ≡ Some those → IsTrue same
+    ↔ (rows ≡ those)
     → IsTrue (not same) ↔ ((x : List (List ℕ)) × (found ≡ Some x) × (rows ≢ x))
 differ_from same rows those found is test = (to, back)
   where
@@ -99,7 +107,8 @@ passed_over number rows old rest there n = go (same_or_other n number)
 
     go : (n ≡ number) ⊎ (n ≢ number) → either (rows_at old n) (rows_at rest n) ≡ either (rows_at old n) (rows_at ((number, rows) ∷ rest) n)
     go (inr other) = ap (either (rows_at old n)) (sym (behind_head n number rows rest other))
-    go (inl same) = of_some (rows_at old n) (rows_at rest n) (rows_at ((number, rows) ∷ rest) n) (ap (λ m. is_some (rows_at old m)) same ∙ there)
+    go (inl same) = of_some (rows_at old n) (rows_at rest n) (rows_at ((number, rows) ∷ rest) n) (ap (λ m. is_some (rows_at old m)) same
+        ∙ there)
 
 -- ---- batches behind a number
 
@@ -107,7 +116,8 @@ passed_over number rows old rest there n = go (same_or_other n number)
 abbrev pub behind_number : ℕ → Batches → Batches
 behind_number above batches = entries_between nat_cmp (Excluded above) Unbounded batches
 
-pub found_behind : (above : ℕ) (batches : Batches) (n : ℕ) → rows_at (behind_number above batches) n ≡ (if nat_lt above n then rows_at batches n else None)
+pub found_behind : (above : ℕ) (batches : Batches) (n : ℕ) → rows_at (behind_number above batches) n
+    ≡ (if nat_lt above n then rows_at batches n else None)
 found_behind above batches n =
     lookup-filter-keys (eq_by_cmp nat_cmp n) (λ k. range_contains nat_cmp (Excluded above) Unbounded k) (nat_lt above n)
     (λ k same. ap (λ m. range_contains nat_cmp (Excluded above) Unbounded m) (sym (is_same n k same)) ∙ below) batches
@@ -120,10 +130,12 @@ found_behind above batches n =
         go (inr high) = grind (arith, high)
 
 -- what holds of each batch holds of each behind a number
-pub all_behind : (P : ℕ × List (List ℕ) → Type 0) (above : ℕ) (batches : Batches) → AllByRecursion P batches → AllByRecursion P (behind_number above batches)
+pub all_behind : (P : ℕ × List (List ℕ) → Type 0) (above : ℕ) (batches : Batches) → AllByRecursion P batches
+    → AllByRecursion P (behind_number above batches)
 all_behind P above batches all =
     recursion_from_All P (behind_number above batches)
-    (All-filter (λ (e : ℕ × List (List ℕ)). range_contains nat_cmp (Excluded above) Unbounded e.0) P batches (All-from_recursion P batches all))
+    (All-filter (λ (e : ℕ × List (List ℕ)). range_contains nat_cmp (Excluded above) Unbounded e.0) P batches
+    (All-from_recursion P batches all))
 
 -- each of them is behind it
 pub are_behind : (above : ℕ) (batches : Batches) → AllByRecursion (λ (e : ℕ × List (List ℕ)). above < e.0) (behind_number above batches)
@@ -139,8 +151,10 @@ are_behind above (batch ∷ batches) =
     low e = grind arith
 
 -- they rise
-pub behind_rises : (above : ℕ) (batches : Batches) → IsStrictlySortedBy nat_cmp (numbers batches) → IsStrictlySortedBy nat_cmp (numbers (behind_number above batches))
-behind_rises above batches rising = subst (IsStrictlySortedBy nat_cmp) (sym (go batches)) (IsStrictlySortedBy-filter nat_cmp in_range (numbers batches) rising)
+pub behind_rises : (above : ℕ) (batches : Batches) → IsStrictlySortedBy nat_cmp (numbers batches)
+    → IsStrictlySortedBy nat_cmp (numbers (behind_number above batches))
+behind_rises above batches rising = subst (IsStrictlySortedBy nat_cmp) (sym (go batches))
+    (IsStrictlySortedBy-filter nat_cmp in_range (numbers batches) rising)
   where
     in_range : ℕ → Bool
     in_range n = range_contains nat_cmp (Excluded above) Unbounded n
@@ -148,19 +162,22 @@ behind_rises above batches rising = subst (IsStrictlySortedBy nat_cmp) (sym (go 
     go : (bs : Batches) → numbers (behind_number above bs) ≡ filter in_range (numbers bs)
     go [] = refl
     go (b ∷ bs) =
-        elim (in_range b.0) as (λ t. numbers (cond t (b ∷ behind_number above bs) (behind_number above bs)) ≡ cond t (b.0 ∷ filter in_range (numbers bs)) (filter in_range (numbers bs))) [
+        elim (in_range b.0) as (λ t. numbers (cond t (b ∷ behind_number above bs) (behind_number above bs))
+        ≡ cond t (b.0 ∷ filter in_range (numbers bs)) (filter in_range (numbers bs))) [
           | true ↦ ap (λ ns. b.0 ∷ ns) (go bs)
           | false ↦ go bs
         ]
 
 -- the same rows are behind it
-pub differs_behind : (above : ℕ) (one other : Batches) (n : ℕ) → DiffersAt above one other n → DiffersAt above (behind_number above one) other n
+pub differs_behind : (above : ℕ) (one other : Batches) (n : ℕ) → DiffersAt above one other n
+    → DiffersAt above (behind_number above one) other n
 differs_behind above one other n d =
     record {
       behind = d.behind;
       rows = d.rows;
       those = d.those;
-      there = found_behind above one n ∙ ap (λ b. if b then rows_at one n else None) (let low = d.behind in let e : nat_lt above n ≡ true = grind (arith, low) in e) ∙ d.there;
+      there = found_behind above one n ∙ ap (λ b. if b then rows_at one n else None) (let low = d.behind in let e : nat_lt above n
+          ≡ true = grind (arith, low) in e) ∙ d.there;
       there_too = d.there_too;
       differ = d.differ;
     }

@@ -18,10 +18,13 @@ Copied above from old new = (n : ℕ) → rows_at new n ≡ either (rows_at old 
 
 abbrev pub KeepsBehind : ℕ → Batches → Batches → Batches → Type 0
 KeepsBehind above from old new =
-    (ks : List Kind) → AllByRecursion (λ (b : ℕ × List (List ℕ)). above < b.0 → IsBehind ks above b) from → AllByRecursion (IsBehind ks above) old → AllByRecursion (IsBehind ks above) new
+    (ks : List Kind) → AllByRecursion (λ (b : ℕ × List (List ℕ)). above < b.0 → IsBehind ks above b) from
+    → AllByRecursion (IsBehind ks above) old → AllByRecursion (IsBehind ks above) new
 
-module _ (query : Checked) (a b own shorter : Part) (start first both : Batches) (view : a ≡ own) (other_view : b ≡ shorter) (none : start ≡ []) (own_is : IsPartOf query own)
-    (shorter_is : IsPartOf query shorter) (first_copied : Copied a.prefix a.early start first) (then_copied : Copied a.prefix b.early first both)
+module _ (query : Checked) (a b own shorter : Part) (start first both : Batches) (view : a ≡ own) (other_view : b ≡ shorter) (none : start
+    ≡ []) (own_is : IsPartOf query own)
+    (shorter_is : IsPartOf query shorter) (first_copied : Copied a.prefix a.early start first)
+    (then_copied : Copied a.prefix b.early first both)
     (first_keeps : KeepsBehind a.prefix a.early start first) (then_keeps : KeepsBehind a.prefix b.early first both)
     (rising : IsStrictlySortedBy nat_cmp (numbers both)) where
   is : IsPartOf query a
@@ -39,10 +42,12 @@ module _ (query : Checked) (a b own shorter : Part) (start first both : Batches)
   behind_all : AllByRecursion (IsBehind (kinds query.columns) a.prefix) both
   behind_all =
       then_keeps (kinds query.columns)
-      (each_weaker (IsEarly (kinds query.columns) b.prefix) (λ (e : ℕ × List (List ℕ)). a.prefix < e.0 → IsBehind (kinds query.columns) a.prefix e)
+      (each_weaker (IsEarly (kinds query.columns) b.prefix) (λ (e : ℕ × List (List ℕ)). a.prefix < e.0
+      → IsBehind (kinds query.columns) a.prefix e)
       (λ e early low. record { behind = low; within = early.within; rows = early.rows }) b.early other.early)
       (keeps (kinds query.columns)
-      (each_weaker (IsEarly (kinds query.columns) a.prefix) (λ (e : ℕ × List (List ℕ)). a.prefix < e.0 → IsBehind (kinds query.columns) a.prefix e)
+      (each_weaker (IsEarly (kinds query.columns) a.prefix) (λ (e : ℕ × List (List ℕ)). a.prefix < e.0
+      → IsBehind (kinds query.columns) a.prefix e)
       (λ e early low. record { behind = low; within = early.within; rows = early.rows }) a.early is.early) tt)
 
   pub united_open : IsOpen query a.prefix a.run both
@@ -52,7 +57,8 @@ module _ (query : Checked) (a b own shorter : Part) (start first both : Batches)
   inside_united =
       record {
         rising = rising;
-        above = each_weaker (IsBehind (kinds query.columns) a.prefix) (λ (e : ℕ × List (List ℕ)). a.prefix < e.0) (λ e i. i.behind) both behind_all;
+        above = each_weaker (IsBehind (kinds query.columns) a.prefix) (λ (e : ℕ × List (List ℕ)). a.prefix < e.0) (λ e i. i.behind) both
+            behind_all;
         rows = λ n low.
             let above : nat_lt a.prefix n ≡ true = grind arith in
             then_copied n
@@ -61,4 +67,5 @@ module _ (query : Checked) (a b own shorter : Part) (start first both : Batches)
       }
 
   pub united_batches : Unites own.prefix own shorter both
-  united_batches = subst (λ (p : Part). Unites p.prefix p shorter both) view (subst (λ (p : Part). Unites a.prefix a p both) other_view inside_united)
+  united_batches = subst (λ (p : Part). Unites p.prefix p shorter both) view (subst (λ (p : Part). Unites a.prefix a p both) other_view
+      inside_united)

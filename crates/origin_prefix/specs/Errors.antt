@@ -1,7 +1,7 @@
 -- Why a batch is not taken, or parts are not joined. All of this is our own.
 use Rattle.std.specs.Prelude.{ℕ}
-use Rattle.spill_lists.specs.Errors.{spill_faults}
-use Rattle.spill_lists.specs.declared.error.SpillError.TheVariants.{NoMemory}
+use Rattle.spill_partitions.specs.Errors.{spill_faults}
+use Rattle.spill_partitions.specs.declared.error.SpillError.TheVariants.{NoMemory}
 use Rattle.origin_prefix.specs.declared.error.JoinError.{JoinError}
 use Rattle.origin_prefix.specs.declared.error.JoinError.TheVariants.{OriginDisagrees, Spill}
 use Rattle.origin_prefix.specs.declared.error.RefusedBatch.{RefusedBatch}

@@ -9,7 +9,7 @@ use Rattle.hash_agg.specs.Counting.{AreCounted}
 use Rattle.hash_agg.specs.declared.work.Work.{Work}
 use Rattle.origin_prefix.specs.declared.error.JoinError.{JoinError}
 use Rattle.origin_prefix.specs.declared.error.JoinError.TheVariants.{OriginDisagrees, Spill}
-use Rattle.origin_prefix.specs.Parts.{Batches, Part, rows_at, Settles, aggregations_behind}
+use Rattle.origin_prefix.specs.Parts.{Batches, Part, rows_at, Drains, aggregations_behind}
 
 -- the part whose prefix is the longer one, and the other
 abbrev pub longer : Part → Part → Part
@@ -38,7 +38,8 @@ DiffersBehind above one other = (number : ℕ) × DiffersAt above one other numb
 -- the first such number, or that there is none
 abbrev pub IsFirstDifference : ℕ → Batches → Batches → Option ℕ → Type 0
 IsFirstDifference above one other None = ¬ (DiffersBehind above one other)
-IsFirstDifference above one other (Some number) = DiffersAt above one other number × ((lower : ℕ) → lower < number → ¬ (DiffersAt above one other lower))
+IsFirstDifference above one other (Some number) = DiffersAt above one other number
+    × ((lower : ℕ) → lower < number → ¬ (DiffersAt above one other lower))
 
 -- two parts disagree: the same prefix has different groups, or a number behind both prefixes different rows
 abbrev pub PartsDisagree : Part → Part → Type 0
@@ -47,7 +48,8 @@ PartsDisagree a b = ((a.prefix ≡ b.prefix) × (a.run ≢ b.run)) ⊎ DiffersBe
 -- where they do first: in the groups of the same prefix, or at the first such number
 abbrev pub DisagreeAt : Option ℕ → Part → Part → Type 0
 DisagreeAt None a b = (a.prefix ≡ b.prefix) × (a.run ≢ b.run)
-DisagreeAt (Some number) a b = (a.prefix ≡ b.prefix → a.run ≡ b.run) × IsFirstDifference (max a.prefix b.prefix) a.early b.early (Some number)
+DisagreeAt (Some number) a b = (a.prefix ≡ b.prefix → a.run ≡ b.run)
+    × IsFirstDifference (max a.prefix b.prefix) a.early b.early (Some number)
 
 -- what a refusal to join two parts says of them
 abbrev pub JoinTells : JoinError → Part → Part → Type 0
@@ -64,10 +66,11 @@ pub record Unites (prefix : ℕ) (a b : Part) (behind : Batches) : Type 0 where
 pub record Joins (honest : Bool) (query : Query) (a b new : Part) : Type 0 where
   pub behind : Batches
   pub united : Unites (longer a b).prefix (longer a b) (shorter a b) behind
-  pub settled : Settles honest query (longer a b).prefix (longer a b).run behind new
+  pub drained : Drains honest query (longer a b).prefix (longer a b).run behind new
 
 -- what joining two parts takes was counted: the aggregation of the early batches of both that follow the longer prefix
-pub record JoinIsCounted (query : Query) (setting : Setting) (a b : Part) (old : Work) (writes : ℕ) (new : Work) (written : ℕ) : Type 0 where
+pub record JoinIsCounted (query : Query) (setting : Setting) (a b : Part) (old : Work) (writes : ℕ) (new : Work) (written : ℕ) :
+    Type 0 where
   pub behind : Batches
   pub united : Unites (longer a b).prefix (longer a b) (shorter a b) behind
   pub counted : AreCounted query setting (aggregations_behind (longer a b).prefix behind) old writes new written

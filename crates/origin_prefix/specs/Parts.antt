@@ -1,5 +1,6 @@
 -- What is held of one origin, and what becomes of it where batches follow its prefix. All of this is our own.
-use Rattle.std.specs.Prelude.{◌≡◌, ◌≢◌, ℕ, suc, ◌+◌, ◌*◌, ◌<◌, ◌≤◌, ◌==◌, ◌||◌, ◌&&◌, Bool, false, nat_le, nat_eq, List, [], ◌∷◌, map, take, drop, length, Option, Some, None, if◌then◌else◌, IsTrue}
+use Rattle.std.specs.Prelude.{◌≡◌, ◌≢◌, ℕ, suc, ◌+◌, ◌*◌, ◌<◌, ◌≤◌, ◌==◌, ◌||◌, ◌&&◌, Bool, false, nat_le, nat_eq, List, [], ◌∷◌, map, take}
+use Rattle.std.specs.Prelude.{drop, length, Option, Some, None, if◌then◌else◌, IsTrue}
 use Rattle.std.specs.List.{AllByRecursion}
 use Rattle.std.specs.List.Sorted.{IsStrictlySortedBy}
 use Rattle.std.specs.Map.{lookup}
@@ -8,7 +9,7 @@ use Rattle.std.specs.Ordering.{eq_by_cmp, nat_cmp}
 use Rattle.std.specs.BTreeMap.{insert_entry}
 use Rattle.grouping_model.specs.Datum.{Kind}
 use Rattle.grouping_model.specs.Query.{Query}
-use Rattle.grouping_model.specs.declared.limits.TheConstants.{LAST_NUMBER, MOST_ROWS}
+use Rattle.grouping_model.specs.declared.limits.TheConstants.{LAST_NUMBER, MAX_ROWS}
 use Rattle.grouping_model.specs.declared.delivered.Delivered.{Delivered}
 use Rattle.grouping_model.specs.declared.delivered.Delivered.TheVariants as reply
 use Rattle.packed_rows.specs.Columns.{kinds}
@@ -64,16 +65,16 @@ IsEarly kinds prefix = IsBehind kinds (prefix + 1)
 -- before them
 pub record IsPartOf (query : Checked) (part : Part) : Type 0 where
   pub within : part.prefix ≤ LAST_NUMBER
-  pub run : IsRun (meaning query) (part.prefix * MOST_ROWS) part.run
-  pub few : length part.run ≤ part.prefix * MOST_ROWS
+  pub run : IsRun (meaning query) (part.prefix * MAX_ROWS) part.run
+  pub few : length part.run ≤ part.prefix * MAX_ROWS
   pub rising : IsStrictlySortedBy nat_cmp (map (λ (batch : ℕ × List (List ℕ)). batch.0) part.early)
   pub early : AllByRecursion (IsEarly (kinds query.columns) part.prefix) part.early
 
 -- a prefix with its run, and batches behind it that may follow it
 pub record IsOpen (query : Checked) (prefix : ℕ) (run : List Entry) (batches : Batches) : Type 0 where
   pub within : prefix ≤ LAST_NUMBER
-  pub is_run : IsRun (meaning query) (prefix * MOST_ROWS) run
-  pub few : length run ≤ prefix * MOST_ROWS
+  pub is_run : IsRun (meaning query) (prefix * MAX_ROWS) run
+  pub few : length run ≤ prefix * MAX_ROWS
   pub rising : IsStrictlySortedBy nat_cmp (map (λ (batch : ℕ × List (List ℕ)). batch.0) batches)
   pub above : AllByRecursion (IsBehind (kinds query.columns) prefix) batches
 
@@ -91,7 +92,8 @@ rows_following number batches = map (λ (batch : ℕ × List (List ℕ)). batch.
 abbrev pub Folds : (honest : Bool) → Query → List Entry → ℕ → List (List (List ℕ)) → List Entry → Type 0
 Folds honest query old rows [] new = new ≡ old
 Folds honest query old rows (batch ∷ batches) new =
-    IsRunOver query (Counted old rows ∷ map Packed (batch ∷ batches)) new × (IsTrue honest → IsAggregate query (Counted old rows ∷ map Packed (batch ∷ batches)) new)
+    IsRunOver query (Counted old rows ∷ map Packed (batch ∷ batches)) new
+    × (IsTrue honest → IsAggregate query (Counted old rows ∷ map Packed (batch ∷ batches)) new)
 
 -- the batches behind a prefix: the early ones, and the one next to it where its rows are given
 abbrev pub behind : ℕ → Batches → Option (List (List ℕ)) → Batches
@@ -108,13 +110,14 @@ aggregations_behind prefix batches = aggregation_of (rows_following prefix batch
 
 -- those that a delivery takes: none, if the batch isn't next to the prefix
 abbrev pub aggregations_on : Part → ℕ → List (List ℕ) → List (List Brought)
-aggregations_on part number rows = if number == part.prefix + 1 then aggregations_behind part.prefix (behind part.prefix part.early (Some rows)) else []
+aggregations_on part number rows = if number == part.prefix + 1
+    then aggregations_behind part.prefix (behind part.prefix part.early (Some rows)) else []
 
 -- a prefix with its run takes those of the batches behind it that follow without a gap, over a disk that may be honest; the others
 -- stay early
-pub record Settles (honest : Bool) (query : Query) (prefix : ℕ) (run : List Entry) (batches : Batches) (new : Part) : Type 0 where
+pub record Drains (honest : Bool) (query : Query) (prefix : ℕ) (run : List Entry) (batches : Batches) (new : Part) : Type 0 where
   pub upto : new.prefix ≡ prefix + following prefix batches
-  pub folded : Folds honest query run (prefix * MOST_ROWS) (rows_following prefix batches) new.run
+  pub folded : Folds honest query run (prefix * MAX_ROWS) (rows_following prefix batches) new.run
   pub early : new.early ≡ drop (following prefix batches) batches
 
 -- a batch is there already, with other rows
@@ -136,4 +139,4 @@ Delivers honest query old number rows new reply.Known =
 Delivers honest query old number rows new reply.Early =
     (tells old number ≡ false) × (number ≢ old.prefix + 1) × (new ≡ record old { early = insert_entry nat_cmp old.early number rows })
 Delivers honest query old number rows new (reply.Folded upto) =
-    (number ≡ old.prefix + 1) × (upto ≡ new.prefix) × Settles honest query old.prefix old.run (behind old.prefix old.early (Some rows)) new
+    (number ≡ old.prefix + 1) × (upto ≡ new.prefix) × Drains honest query old.prefix old.run (behind old.prefix old.early (Some rows)) new

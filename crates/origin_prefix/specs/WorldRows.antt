@@ -11,7 +11,8 @@ count_length first zero = refl
 count_length first (suc n) = ap suc (count_length (first + 1) n)
 
 -- they are rows of the world's columns
-pub batch_kinds : (ks : List Kind) (world : World) → IsWorld ks world → (origin n : ℕ) → AllByRecursion (HasKinds ks) (batch_rows world origin n)
+pub batch_kinds : (ks : List Kind) (world : World) → IsWorld ks world → (origin n : ℕ)
+    → AllByRecursion (HasKinds ks) (batch_rows world origin n)
 batch_kinds ks world is origin n =
     elim (world origin n) as (λ o. world origin n ≡ o → AllByRecursion (HasKinds ks) (unwrap_or o [])) [
       | None ↦ λ e. tt

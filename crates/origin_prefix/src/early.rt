@@ -1,6 +1,7 @@
 //! Early batches, by their numbers.
 
-ghost use Rattle.std.specs.Prelude.{◌≡◌, ◌≢◌, ◌+◌, ◌<◌, ◌≤◌, ◌++◌, ◌↔◌, ℕ, List, Some, None, map, drop, length, nat_lt, IfOk, OnOk, if◌then◌else◌, IsTrue};
+ghost use Rattle.std.specs.Prelude.{◌≡◌, ◌≢◌, ◌+◌, ◌<◌, ◌≤◌, ◌++◌, ◌↔◌, ℕ, List, Some, None, map, drop, length, nat_lt, IfOk, OnOk};
+ghost use Rattle.std.specs.Prelude.{if◌then◌else◌, IsTrue};
 ghost use Rattle.std.specs.List.{AllByRecursion};
 ghost use Rattle.grouping_model.specs.declared.limits.TheConstants.{LAST_NUMBER};
 ghost use Rattle.hash_agg.specs.Inputs.{Packed, brought};
@@ -36,7 +37,7 @@ pub(crate) fn add_following<'a>(
         if next.checked_sub(upto) != Some(1) {
             return Ok(upto);
         }
-        inputs.push(Input::Flat(rows))?;
+        inputs.push(Input::Packed(rows))?;
         upto = *next;
     }
     Ok(upto)

@@ -3,13 +3,13 @@
 ghost use Rattle.std.specs.Prelude.{◌≡◌, ◌≢◌, ◌≤◌, ℕ, Option, None, IsTrue, IfOk, IfErr, OnOk, OnErr};
 ghost use Rattle.having_filter.specs.Meaning.{meaning};
 ghost use Rattle.hash_agg.specs.Counting.{AreCounted, setting_by};
-ghost use Rattle.origin_prefix.specs.Parts.{Batches, IsPartOf, Settles, aggregations_behind};
+ghost use Rattle.origin_prefix.specs.Parts.{Batches, IsPartOf, Drains, aggregations_behind};
 ghost use Rattle.origin_prefix.specs.Joins.{PartsDisagree, DisagreeAt, JoinTells, Joins, Unites, JoinIsCounted};
 ghost use Rattle.origin_prefix.specs.Errors.{join_faults};
 ghost use Rattle.tape_disks.specs.Calls.{failed};
-ghost use Rattle.tape_disks.specs.Disk.{Leaves};
-ghost use Rattle.spill_lists.specs.Errors.{spill_faults};
-ghost use Rattle.spill_lists.specs.declared.error.SpillError.TheVariants.{TapeDamaged};
+ghost use Rattle.tape_disks.specs.Disk.{DiskFrame};
+ghost use Rattle.spill_partitions.specs.Errors.{spill_faults};
+ghost use Rattle.spill_partitions.specs.declared.error.SpillError.TheVariants.{TapeDamaged};
 ghost use Rattle.origin_prefix.specs.declared.error.JoinError.TheVariants.{OriginDisagrees, Spill};
 
 use crate::early::{copy_above, first_difference};
@@ -43,7 +43,7 @@ impl OriginPart {
         ensures agree { IfOk result (λ _. ¬ (PartsDisagree self.now other.now)) }
         ensures tells { IfErr result (λ why. JoinTells why self.now other.now) }
         ensures undamaged { IfErr result (λ e. IsTrue (D.honest disk.old) → e ≢ Spill TapeDamaged) }
-        ensures disk { Leaves D.TapeDisk (failed join_faults result) disk.old disk.new }
+        ensures disk { DiskFrame D.TapeDisk (failed join_faults result) disk.old disk.new }
     {
         self.agree(other)?;
         if self.prefix < other.prefix {
@@ -84,7 +84,7 @@ impl OriginPart {
         requires shorter { shorter.now.prefix ≤ self.now.prefix }
         ensures joins { IfOk result (λ part. (behind : Batches)
             × Unites self.now.prefix self.now shorter.now behind
-            × Settles (D.honest disk.old) (meaning query.now) self.now.prefix self.now.run behind part) }
+            × Drains (D.honest disk.old) (meaning query.now) self.now.prefix self.now.run behind part) }
         ensures counted { OnOk result (IsTrue (D.honest disk.old) → (behind : Batches)
             × Unites self.now.prefix self.now shorter.now behind
             × AreCounted (meaning query.now) (setting_by H.hash_of (meaning query.now) means.now)
@@ -93,7 +93,7 @@ impl OriginPart {
         ensures uncounted { OnErr result (work.new ≡ work.old) }
         ensures part { IfOk result (IsPartOf query.now) }
         ensures undamaged { IfErr result (λ error. IsTrue (D.honest disk.old) → error ≢ TapeDamaged) }
-        ensures disk { Leaves D.TapeDisk (failed spill_faults result) disk.old disk.new }
+        ensures disk { DiskFrame D.TapeDisk (failed spill_faults result) disk.old disk.new }
     {
         let mut early = BTreeMap::new(self.alloc);
         copy_above(self.alloc, &self.early, self.prefix, &mut early)?;
@@ -104,7 +104,7 @@ impl OriginPart {
             run: self.run.try_clone(self.alloc)?,
             early,
         };
-        part.settle(query, None, means, disk, work)?;
+        part.drain(query, None, means, disk, work)?;
         Ok(part)
     }
 }

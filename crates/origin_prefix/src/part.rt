@@ -2,7 +2,7 @@
 
 ghost use Rattle.std.specs.Prelude.{◌≡◌, ◌≢◌, ◌≤◌, ◌+◌, ◌*◌, ℕ, List, [], map, false, IfOk, IfErr, OnOk, OnErr, IsTrue, nat_le, ◌||◌};
 ghost use Rattle.std.specs.Option.{is_some, option_copied};
-ghost use Rattle.grouping_model.specs.declared.limits.TheConstants.{LAST_NUMBER, MOST_ROWS};
+ghost use Rattle.grouping_model.specs.declared.limits.TheConstants.{LAST_NUMBER, MAX_ROWS};
 ghost use Rattle.std.specs.List.{AllByRecursion};
 ghost use Rattle.std.specs.List.Sorted.{IsStrictlySortedBy};
 ghost use Rattle.hash_agg.specs.Inputs.{Packed, brought};
@@ -10,11 +10,12 @@ ghost use Rattle.hash_agg.specs.Counting.{AreCounted, setting_by};
 ghost use Rattle.having_filter.specs.Meaning.{meaning};
 ghost use Rattle.packed_rows.specs.Columns.{kinds};
 ghost use Rattle.batch_reader.specs.Rows.{ArePackedRows};
-ghost use Rattle.origin_prefix.specs.Parts.{Part, empty, rows_at, is_nothing, IsOpen, IsPartOf, behind, following, rows_following, aggregations_behind, aggregations_on, Folds, Settles, Delivers, BatchTells};
+ghost use Rattle.origin_prefix.specs.Parts.{Part, empty, rows_at, is_nothing, IsOpen, IsPartOf, behind, following, rows_following};
+ghost use Rattle.origin_prefix.specs.Parts.{aggregations_behind, aggregations_on, Folds, Drains, Delivers, BatchTells};
 ghost use Rattle.tape_disks.specs.Calls.{failed};
-ghost use Rattle.tape_disks.specs.Disk.{Leaves};
-ghost use Rattle.spill_lists.specs.Errors.{spill_faults};
-ghost use Rattle.spill_lists.specs.declared.error.SpillError.TheVariants.{TapeDamaged};
+ghost use Rattle.tape_disks.specs.Disk.{DiskFrame};
+ghost use Rattle.spill_partitions.specs.Errors.{spill_faults};
+ghost use Rattle.spill_partitions.specs.declared.error.SpillError.TheVariants.{TapeDamaged};
 ghost use Rattle.origin_prefix.specs.Errors.{no_memory, batch_faults};
 ghost use Rattle.origin_prefix.specs.declared.error.JoinError.TheVariants.{OriginDisagrees, Spill};
 ghost use Rattle.grouping_model.specs.declared.delivered.Delivered.TheVariants.{Early, Known};
@@ -25,7 +26,7 @@ use crate::early::{add_following, drop_first};
 use crate::error::{JoinError, RefusedBatch};
 use batch_reader::{Batch, PackedRows};
 use grouping_model::Delivered;
-use grouping_model::limits::MOST_ROWS;
+use grouping_model::limits::MAX_ROWS;
 use hash_agg::{Input, KeyHash, Means, Run, SpillError, TapeDisk, Work, fold};
 use having_filter::Query;
 use std::alloc::{AllocError, Global};
@@ -54,9 +55,9 @@ impl Model for OriginPart {
 
 /// The most rows that the batches 1 to a number have.
 pub fn most_rows(number: u32) -> u64
-    ensures { result ≡ number * MOST_ROWS }
+    ensures { result ≡ number * MAX_ROWS }
 {
-    u64::from(number) * u64::from(MOST_ROWS)
+    u64::from(number) * u64::from(MAX_ROWS)
 }
 
 /// What is replied to a batch whose number is kept early, with these rows.
@@ -93,7 +94,7 @@ fn following_inputs<'a>(
     let mut inputs = Vec::new(alloc);
     let mut number = prefix;
     if let Some(rows) = next {
-        inputs.push(Input::Flat(rows))?;
+        inputs.push(Input::Packed(rows))?;
         number += 1;
     }
     let upto = add_following(early, number, &mut inputs)?;
@@ -167,7 +168,7 @@ impl OriginPart {
 
     /// Folds the early batches that follow the prefix without a gap, behind the rows of the batch next to it where these
     /// are given; what their aggregation took is added to `work`. A refusal changes nothing.
-    pub(crate) fn settle<H: KeyHash + Copy, D: TapeDisk>(
+    pub(crate) fn drain<H: KeyHash + Copy, D: TapeDisk>(
         &mut self,
         query: &Query,
         next: Option<&PackedRows>,
@@ -177,7 +178,7 @@ impl OriginPart {
     ) -> Result<(), SpillError>
         requires may { IsOpen query.now self.old.prefix self.old.run
             (behind self.old.prefix self.old.early (option_copied next)) }
-        ensures settled { OnOk result (Settles (D.honest disk.old) (meaning query.now) self.old.prefix self.old.run
+        ensures drained { OnOk result (Drains (D.honest disk.old) (meaning query.now) self.old.prefix self.old.run
             (behind self.old.prefix self.old.early (option_copied next.entry)) self.new) }
         ensures counted { OnOk result (IsTrue (D.honest disk.old) →
             AreCounted (meaning query.now) (setting_by H.hash_of (meaning query.now) means.now)
@@ -187,7 +188,7 @@ impl OriginPart {
         ensures same { OnErr result (self.new ≡ self.old) }
         ensures uncounted { OnErr result (work.new ≡ work.old) }
         ensures undamaged { IfErr result (λ error. IsTrue (D.honest disk.old) → error ≢ TapeDamaged) }
-        ensures disk { Leaves D.TapeDisk (failed spill_faults result) disk.old disk.new }
+        ensures disk { DiskFrame D.TapeDisk (failed spill_faults result) disk.old disk.new }
     {
         let next_is_given = next.is_some();
         let (inputs, upto) = following_inputs(self.alloc, self.prefix, next, &self.early)?;
@@ -270,7 +271,7 @@ impl OriginPart {
         ensures refused { IfErr result (λ e. (e.batch ≡ batch) × (self.new ≡ self.old)) }
         ensures tells { IfErr result (λ e. BatchTells e.why self.old batch.number batch.rows) }
         ensures undamaged { IfErr result (λ e. IsTrue (D.honest disk.old) → e.why ≢ Spill TapeDamaged) }
-        ensures disk { Leaves D.TapeDisk (failed batch_faults result) disk.old disk.new }
+        ensures disk { DiskFrame D.TapeDisk (failed batch_faults result) disk.old disk.new }
     {
         if batch.number <= self.prefix {
             return Ok(Delivered::Known);
@@ -281,7 +282,7 @@ impl OriginPart {
         if batch.number - 1 != self.prefix {
             return self.keep_early(batch);
         }
-        match self.settle(query, Some(&batch.rows), means, disk, work) {
+        match self.drain(query, Some(&batch.rows), means, disk, work) {
             Ok(()) => Ok(Delivered::Folded { upto: self.prefix }),
             Err(error) => {
                 let why = JoinError::from(error);

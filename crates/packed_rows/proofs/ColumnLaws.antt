@@ -1,5 +1,6 @@
 -- What a map from names to kinds says of a schema's columns.
-use Rattle.std.specs.Prelude.{◌≡◌, ℕ, zero, suc, ◌<◌, List, [], ◌∷◌, ◌++◌, map, length, slice_get, slice_index_or, option_map, Option, Some, None, string_bytes, position, cond, not, nat_lt, ◌+◌, take, codes, is_some, true, false, ◌||◌}
+use Rattle.std.specs.Prelude.{◌≡◌, ℕ, zero, suc, ◌<◌, List, [], ◌∷◌, ◌++◌, map, length, slice_get, slice_index_or, option_map, Option, Some}
+use Rattle.std.specs.Prelude.{None, string_bytes, position, cond, not, nat_lt, ◌+◌, take, codes, is_some, true, false, ◌||◌}
 use Rattle.std.specs.String.{string_eq}
 use Rattle.indexmap.specs.IndexMap.{IndexMap, get_by, insert_entry}
 use Rattle.indexmap.proofs.CallerLemmas.{insert_entry-new}
@@ -31,18 +32,23 @@ heads x y xs ys e = cc
 tails : (x y : Kind) (xs ys : List Kind) → x ∷ xs ≡ y ∷ ys → xs ≡ ys
 tails x y xs ys e = cc
 
-pub kind_at : (columns : List Column) (ks : List ValueKind) (k : ℕ) (d : ValueKind) → kinds_of ks ≡ kinds columns → k < length columns → option_map (λ c. c.kind) (slice_get columns k) ≡ Some (kind_of (slice_index_or ks k d))
+pub kind_at : (columns : List Column) (ks : List ValueKind) (k : ℕ) (d : ValueKind) → kinds_of ks ≡ kinds columns → k < length columns
+    → option_map (λ c. c.kind) (slice_get columns k) ≡ Some (kind_of (slice_index_or ks k d))
 kind_at [] ks k d e h = absurd (omega (arith, h))
 kind_at (c ∷ columns) [] k d e h = absurd cc
 kind_at (c ∷ columns) (x ∷ ks) zero d e h = ap Some (sym (heads (kind_of x) c.kind (kinds_of ks) (kinds columns) e))
-kind_at (c ∷ columns) (x ∷ ks) (suc k) d e h = kind_at columns ks k d (tails (kind_of x) c.kind (kinds_of ks) (kinds columns) e) (omega (arith, h))
+kind_at (c ∷ columns) (x ∷ ks) (suc k) d e h = kind_at columns ks k d (tails (kind_of x) c.kind (kinds_of ks) (kinds columns) e)
+    (omega (arith, h))
 
-pub name_at : (entries : List (String Global × ValueKind)) (k : ℕ) (d : String Global) → k < length (columns_of entries) → option_map (λ c. c.name) (slice_get (columns_of entries) k) ≡ Some (string_bytes (slice_index_or (map (λ e. e.0) entries) k d))
+pub name_at : (entries : List (String Global × ValueKind)) (k : ℕ) (d : String Global) → k < length (columns_of entries)
+    → option_map (λ c. c.name) (slice_get (columns_of entries) k) ≡ Some (string_bytes (slice_index_or (map (λ e. e.0) entries) k d))
 name_at [] k d h = absurd (omega (arith, h))
 name_at (e ∷ entries) zero d h = refl
 name_at (e ∷ entries) (suc k) d h = name_at entries k d (omega (arith, h))
 
-same_place : (name : List ℕ) (entries : List (String Global × ValueKind)) → position_or_len (λ k. bytes_eq name (string_bytes k)) (map (λ e. e.0) entries) ≡ position_or_len (λ (c : Column). bytes_eq name c.name) (columns_of entries)
+same_place : (name : List ℕ) (entries : List (String Global × ValueKind))
+    → position_or_len (λ k. bytes_eq name (string_bytes k)) (map (λ e. e.0) entries)
+    ≡ position_or_len (λ (c : Column). bytes_eq name c.name) (columns_of entries)
 same_place name [] = refl
 same_place name (e ∷ entries) = ap (λ n. cond (not (bytes_eq name (string_bytes e.0))) (1 + n) 0) (same_place name entries)
 
@@ -53,7 +59,8 @@ same_length (e ∷ entries) = ap (λ n. suc n) (same_length entries)
 found_at : (m n m' n' : ℕ) → m ≡ m' → n ≡ n' → (◌≡◌ {A = Option ℕ} (cond (nat_lt m n) (Some m) None) (cond (nat_lt m' n') (Some m') None))
 found_at m n m' n' p q = λ i. cond (nat_lt (p i) (q i)) (Some (p i)) None
 
-pub place_is : (name : List ℕ) (entries : List (String Global × ValueKind)) → position (λ k. bytes_eq name (string_bytes k)) (map (λ e. e.0) entries) ≡ place_of name (columns_of entries)
+pub place_is : (name : List ℕ) (entries : List (String Global × ValueKind))
+    → position (λ k. bytes_eq name (string_bytes k)) (map (λ e. e.0) entries) ≡ place_of name (columns_of entries)
 place_is name entries = found_at _ _ _ _ (same_place name entries) (same_length entries)
 
 -- ---- printing
@@ -62,7 +69,8 @@ abbrev pub separator : List Column → List ℕ
 separator [] = []
 separator (column ∷ columns) = codes ", "
 
-pub printed_push : (columns : List Column) (column : Column) → printed (columns ++ column ∷ []) ≡ printed columns ++ separator columns ++ column_text column
+pub printed_push : (columns : List Column) (column : Column) → printed (columns ++ column ∷ []) ≡ printed columns ++ separator columns
+    ++ column_text column
 printed_push [] column = refl
 printed_push (a ∷ []) column = refl
 printed_push (a ∷ b ∷ columns) column =
@@ -78,35 +86,49 @@ later_separator [] i p h = absurd (omega (arith, h))
 later_separator (c ∷ columns) zero p h = absurd (omega (arith, p))
 later_separator (c ∷ columns) (suc i) p h = refl
 
-column_eta : (column : Column) (name : List ℕ) (kind : Kind) → column.name ≡ name → column.kind ≡ kind → column ≡ record { name = name; kind = kind }
+column_eta : (column : Column) (name : List ℕ) (kind : Kind) → column.name ≡ name → column.kind ≡ kind → column
+    ≡ record { name = name; kind = kind }
 column_eta column name kind p q = λ i. record { name = p i; kind = q i }
 
-column_is : (columns : List Column) (i : ℕ) (d : Column) (name : List ℕ) (kind : Kind) → i < length columns → option_map (λ c. c.name) (slice_get columns i) ≡ Some name → option_map (λ c. c.kind) (slice_get columns i) ≡ Some kind → slice_index_or columns i d ≡ record { name = name; kind = kind }
+column_is : (columns : List Column) (i : ℕ) (d : Column) (name : List ℕ) (kind : Kind) → i < length columns
+    → option_map (λ c. c.name) (slice_get columns i) ≡ Some name → option_map (λ c. c.kind) (slice_get columns i) ≡ Some kind
+    → slice_index_or columns i d ≡ record { name = name; kind = kind }
 column_is [] i d name kind h p q = absurd (omega (arith, h))
 column_is (c ∷ columns) zero d name kind h p q = column_eta c name kind (same_Some c.name name p) (same_Some c.kind kind q)
 column_is (c ∷ columns) (suc i) d name kind h p q = column_is columns i d name kind (omega (arith, h)) p q
 
-pub printed_more : (columns : List Column) (i : ℕ) (name : List ℕ) (kind : Kind) → i < length columns → option_map (λ c. c.name) (slice_get columns i) ≡ Some name → option_map (λ c. c.kind) (slice_get columns i) ≡ Some kind → printed (take (i + 1) columns) ≡ printed (take i columns) ++ separator (take i columns) ++ column_text (record { name = name; kind = kind })
+pub printed_more : (columns : List Column) (i : ℕ) (name : List ℕ) (kind : Kind) → i < length columns
+    → option_map (λ c. c.name) (slice_get columns i) ≡ Some name → option_map (λ c. c.kind) (slice_get columns i) ≡ Some kind
+    → printed (take (i + 1) columns) ≡ printed (take i columns) ++ separator (take i columns)
+    ++ column_text (record { name = name; kind = kind })
 printed_more columns i name kind h p q =
     let column : Column = record { name = name; kind = kind } in
-    ap printed (take_more columns i column h ∙ ap (λ (c : Column). take i columns ++ c ∷ []) (column_is columns i column name kind h p q)) ∙ printed_push (take i columns) column
+    ap printed (take_more columns i column h ∙ ap (λ (c : Column). take i columns ++ c ∷ []) (column_is columns i column name kind h p q))
+    ∙ printed_push (take i columns) column
 
 -- ---- a new column
 
-pub column_new : (entries : List (String Global × ValueKind)) (name : String Global) (kind : ValueKind) → columns_of (entries ++ (name, kind) ∷ []) ≡ columns_of entries ++ record { name = string_bytes name; kind = kind_of kind } ∷ []
+pub column_new : (entries : List (String Global × ValueKind)) (name : String Global) (kind : ValueKind)
+    → columns_of (entries ++ (name, kind) ∷ []) ≡ columns_of entries ++ record { name = string_bytes name; kind = kind_of kind } ∷ []
 column_new [] name kind = refl
-column_new (e ∷ entries) name kind = ap (λ (w : List Column). record { name = string_bytes e.0; kind = kind_of e.1 } ∷ w) (column_new entries name kind)
+column_new (e ∷ entries) name kind = ap (λ (w : List Column). record { name = string_bytes e.0; kind = kind_of e.1 }
+    ∷ w) (column_new entries name kind)
 
 -- whether a map has a column of a name
-pub named_column : (name : List ℕ) (entries : List (String Global × ValueKind)) → is_some (lookup (λ k. bytes_eq name (string_bytes k)) entries) ≡ list_any (bytes_eq name) (names (columns_of entries))
+pub named_column : (name : List ℕ) (entries : List (String Global × ValueKind))
+    → is_some (lookup (λ k. bytes_eq name (string_bytes k)) entries) ≡ list_any (bytes_eq name) (names (columns_of entries))
 named_column name entries = is_some-lookup (λ k. bytes_eq name (string_bytes k)) entries ∙ each entries
   where
-    each : (es : List (String Global × ValueKind)) → list_any (λ k. bytes_eq name (string_bytes k)) (keys_of es) ≡ list_any (bytes_eq name) (names (columns_of es))
+    each : (es : List (String Global × ValueKind)) → list_any (λ k. bytes_eq name (string_bytes k)) (keys_of es)
+        ≡ list_any (bytes_eq name) (names (columns_of es))
     each [] = refl
     each (e ∷ es) = ap (λ b. bytes_eq name (string_bytes e.0) || b) (each es)
 
 -- a map with a new name has one more column
-pub new_column : {S : Type 0} (m m' : IndexMap (String Global) ValueKind S) (name : List ℕ) (key : String Global) (kind : ValueKind) → string_bytes key ≡ name → is_some (lookup (λ k. bytes_eq name (string_bytes k)) m.entries) ≡ false → m'.entries ≡ insert_entry string_eq m.entries key kind → columns_of m'.entries ≡ columns_of m.entries ++ record { name = name; kind = kind_of kind } ∷ []
+pub new_column : {S : Type 0} (m m' : IndexMap (String Global) ValueKind S) (name : List ℕ) (key : String Global) (kind : ValueKind)
+    → string_bytes key ≡ name → is_some (lookup (λ k. bytes_eq name (string_bytes k)) m.entries) ≡ false → m'.entries
+    ≡ insert_entry string_eq m.entries key kind → columns_of m'.entries ≡ columns_of m.entries
+    ++ record { name = name; kind = kind_of kind } ∷ []
 new_column m m' name key kind named none entries =
     let absent : get_by (λ k. bytes_eq (string_bytes key) (string_bytes k)) m ≡ None =
     subst (λ (w : List ℕ). get_by (λ k. bytes_eq w (string_bytes k)) m ≡ None) (sym named) (none_there _ none) in
@@ -114,12 +136,14 @@ new_column m m' name key kind named none entries =
     ∙ ap (λ (w : List ℕ). columns_of m.entries ++ record { name = w; kind = kind_of kind } ∷ []) named
 
 -- a map's names are distinct
-pub distinct_names : (entries : List (String Global × ValueKind)) → IsDistinct string_eq (keys_of entries) → IsDistinct bytes_eq (names (columns_of entries))
+pub distinct_names : (entries : List (String Global × ValueKind)) → IsDistinct string_eq (keys_of entries)
+    → IsDistinct bytes_eq (names (columns_of entries))
 unfolding IsDistinct
 distinct_names [] d = tt
 distinct_names (e ∷ es) d = (others es d.0, distinct_names es d.1)
   where
-    others : (es : List (String Global × ValueKind)) → AllByRecursion (λ k. string_eq e.0 k ≡ false) (keys_of es) → AllByRecursion (λ n. bytes_eq (string_bytes e.0) n ≡ false) (names (columns_of es))
+    others : (es : List (String Global × ValueKind)) → AllByRecursion (λ k. string_eq e.0 k ≡ false) (keys_of es)
+        → AllByRecursion (λ n. bytes_eq (string_bytes e.0) n ≡ false) (names (columns_of es))
     others [] all = tt
     others (x ∷ xs) all = (all.0, others xs all.1)
 
@@ -129,7 +153,9 @@ columns_long [] = refl
 columns_long (e ∷ es) = ap (λ n. suc n) (columns_long es)
 
 -- nothing is wrong with a new name
-pub no_fault : (entries : List (String Global × ValueKind)) (name : List ℕ) → (length entries ≡ 32 → ⊥) → is_some (lookup (λ k. bytes_eq name (string_bytes k)) entries) ≡ false → is_reserved name ≡ false → ¬ (AddFault name (columns_of entries) BadSchema)
+pub no_fault : (entries : List (String Global × ValueKind)) (name : List ℕ) → (length entries ≡ 32 → ⊥)
+    → is_some (lookup (λ k. bytes_eq name (string_bytes k)) entries) ≡ false → is_reserved name ≡ false
+    → ¬ (AddFault name (columns_of entries) BadSchema)
 no_fault entries name few none free = λ fault.
     elim fault [
       | inl full ↦ few (sym (columns_long entries) ∙ full)
@@ -143,8 +169,10 @@ no_fault entries name few none free = λ fault.
     clash e = cc
 
 -- columns whose names and kinds are clones are the same
-pub cloned_columns : (entries clones : List (String Global × ValueKind)) → AllZip (λ p q. (string_bytes q.0 ≡ string_bytes p.0) × (q.1 ≡ p.1)) entries clones → columns_of clones ≡ columns_of entries
+pub cloned_columns : (entries clones : List (String Global × ValueKind)) → AllZip (λ p q. (string_bytes q.0 ≡ string_bytes p.0)
+    × (q.1 ≡ p.1)) entries clones → columns_of clones ≡ columns_of entries
 cloned_columns [] [] all = refl
 cloned_columns [] (d ∷ clones) all = absurd all
 cloned_columns (e ∷ entries) [] all = absurd all
-cloned_columns (e ∷ entries) (d ∷ clones) all = λ i. record { name = all.0.0 i; kind = kind_of (all.0.1 i) } ∷ cloned_columns entries clones all.1 i
+cloned_columns (e ∷ entries) (d ∷ clones) all = λ i. record { name = all.0.0 i; kind = kind_of (all.0.1 i) }
+    ∷ cloned_columns entries clones all.1 i

@@ -11,7 +11,8 @@ use Rattle.packed_rows.specs.Field.{IsBigintField}
 use Rattle.std.specs.Str.Parse.{AllDigits, IsNumeral, without_leading_sign}
 
 -- a sign and digits are ASCII, whichever sign it is
-signed_ascii : (c : ℕ) (cs : List ℕ) (minus plus : Bool) → eqb c 45 ≡ minus → eqb c 43 ≡ plus → AllDigits 10 (cond minus cs (cond plus cs (c ∷ cs))) → IsAscii (c ∷ cs)
+signed_ascii : (c : ℕ) (cs : List ℕ) (minus plus : Bool) → eqb c 45 ≡ minus → eqb c 43 ≡ plus
+    → AllDigits 10 (cond minus cs (cond plus cs (c ∷ cs))) → IsAscii (c ∷ cs)
 signed_ascii c cs true plus m p h = IsAscii-cons c cs (omega (arith, eqb-true c 45 m)) (IsAscii-from_digits cs h)
 signed_ascii c cs false true m p h = IsAscii-cons c cs (omega (arith, eqb-true c 43 p)) (IsAscii-from_digits cs h)
 signed_ascii c cs false false m p h = IsAscii-from_digits (c ∷ cs) h

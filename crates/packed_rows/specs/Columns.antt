@@ -1,10 +1,11 @@
 -- The columns of a table, and the text of a schema. Where no source is named, the rule is our own.
-use Rattle.std.specs.Prelude.{◌≡◌, ℕ, ◌≤◌, ◌||◌, false, List, [], ◌∷◌, ◌++◌, map, length, codes, string_bytes, Option, Some, None, Ok, position, if◌then◌else◌}
+use Rattle.std.specs.Prelude.{◌≡◌, ℕ, ◌≤◌, ◌||◌, false, List, [], ◌∷◌, ◌++◌, map, length, codes, string_bytes, Option, Some, None, Ok}
+use Rattle.std.specs.Prelude.{position, if◌then◌else◌}
 use Rattle.std.specs.List.{AllByRecursion, IsDistinct}
 use Rattle.std.specs.Str.{bytes_eq}
 use Rattle.std.specs.declared.alloc.Global.{Global}
 use Rattle.std.specs.declared.string.String.{String}
-use Rattle.grouping_model.specs.declared.limits.TheConstants.{MOST_COLUMNS}
+use Rattle.grouping_model.specs.declared.limits.TheConstants.{MAX_COLUMNS}
 use Rattle.query_tokens.specs.declared.word.Symbol.TheVariants.{Comma}
 use Rattle.query_tokens.specs.Words.{Lexeme, Name, Sign, Placed}
 use Rattle.query_tokens.specs.Tokens.{tokens_in}
@@ -42,7 +43,7 @@ pub record IsColumnName (name : List ℕ) : Type 0 where
 -- the columns of a schema: 1 to 32, no two of one name (PostgreSQL 17, CREATE TABLE; the numbers are our own)
 pub record AreColumns (columns : List Column) : Type 0 where
   pub some : 1 ≤ length columns
-  pub most : length columns ≤ MOST_COLUMNS
+  pub most : length columns ≤ MAX_COLUMNS
   pub named : AllByRecursion IsColumnName (names columns)
   pub distinct : IsDistinct bytes_eq (names columns)
 

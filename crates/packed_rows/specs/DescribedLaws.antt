@@ -18,8 +18,10 @@ none_described lexemes d = d
 abbrev pub column : List ℕ → Kind → Column
 column name kind = record { name = name; kind = kind }
 
-pub column_is : (name word : List ℕ) (kind : Kind) (c : Column) → DescribesColumn name word c → kind_named word ≡ Some kind → c ≡ column name kind
-column_is name word kind c d e = let same : c.kind ≡ kind = same_Some c.kind kind (sym d.of_kind ∙ e) in λ i. record { name = d.named i; kind = same i }
+pub column_is : (name word : List ℕ) (kind : Kind) (c : Column) → DescribesColumn name word c → kind_named word ≡ Some kind → c
+    ≡ column name kind
+column_is name word kind c d e = let same : c.kind
+    ≡ kind = same_Some c.kind kind (sym d.of_kind ∙ e) in λ i. record { name = d.named i; kind = same i }
 
 -- from each member to each
 pub all_members : {X : Type 0} (P : X → Type 0) (xs : List X) → ((x : X) → Contains xs x → P x) → AllByRecursion P xs

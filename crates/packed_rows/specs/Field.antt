@@ -3,7 +3,8 @@ use Rattle.std.specs.Prelude.{◌≡◌, ◌<◌, ◌⊎◌, ℕ, ℤ, Bool, tru
 use Rattle.std.specs.Int.{w64}
 use Rattle.std.specs.Char.{to_ascii_lowercase}
 use Rattle.std.specs.Str.Parse.{IsNumeral, without_leading_sign, signed_digits_value}
-use Rattle.grouping_model.specs.Datum.{Datum, Kind, Row, IsText, null_field, Null, Bigint, Boolean, Text, Bigint_kind, Boolean_kind, Text_kind}
+use Rattle.grouping_model.specs.Datum.{Datum, Kind, Row, IsText, null_field, Null, Bigint, Boolean, Text, Bigint_kind, Boolean_kind}
+use Rattle.grouping_model.specs.Datum.{Text_kind}
 
 -- a bigint: a plus, a minus or neither, then one or more digits, in the range of 64 bits
 -- (PostgreSQL 17, 8.1.1 Integer Types; no white space round it, no underscores, no other base)
@@ -44,4 +45,6 @@ ReadsRow kinds fields row = ⊥
 
 -- the leftmost bad field: this one is bad, and those before it are not
 abbrev pub IsLeftmostBad : List Kind → List (List ℕ) → ℕ → Type 0
-IsLeftmostBad kinds fields column = (column < length kinds) × IsBadField (slice_index_or kinds column Bigint_kind) (slice_index_or fields column []) × (row : Row) × ReadsRow (take column kinds) (take column fields) row
+IsLeftmostBad kinds fields column = (column < length kinds)
+    × IsBadField (slice_index_or kinds column Bigint_kind) (slice_index_or fields column []) × (row : Row)
+    × ReadsRow (take column kinds) (take column fields) row

@@ -1,7 +1,8 @@
 -- Laws: what an input field stands for; nothing here is a definition.
 use Rattle.std.specs.Prelude.{ℕ, List, [], ◌∷◌}
 use Rattle.std.proofs.Common.{subst}
-use Rattle.grouping_model.specs.Datum.{Datum, Kind, Null, Bigint, Boolean, Text, Bigint_kind, Boolean_kind, Text_kind, IsText, HasKind, HasKinds, Row}
+use Rattle.grouping_model.specs.Datum.{Datum, Kind, Null, Bigint, Boolean, Text, Bigint_kind, Boolean_kind, Text_kind, IsText, HasKind}
+use Rattle.grouping_model.specs.Datum.{HasKinds, Row}
 use Rattle.packed_rows.specs.Field.{Reads, ReadsRow}
 
 -- what is read has the column's kind

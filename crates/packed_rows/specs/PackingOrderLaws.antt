@@ -10,4 +10,5 @@ pub less : (x y : ℕ) → x < y → nat_cmp x y ≡ Less
 less x y lt = cond-true (nat_lt x y) Less (cond (x == y) Equal Greater) (lt-ltb x y lt)
 
 pub tied : (x : ℕ) → nat_cmp x x ≡ Equal
-tied x = cond-false (nat_lt x x) Less (cond (x == x) Equal Greater) (le-ltb x x (le_refl x)) ∙ cond-true (x == x) Equal Greater (eq-eqb x x refl)
+tied x = cond-false (nat_lt x x) Less (cond (x == x) Equal Greater) (le-ltb x x (le_refl x))
+    ∙ cond-true (x == x) Equal Greater (eq-eqb x x refl)

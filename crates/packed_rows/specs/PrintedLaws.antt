@@ -11,7 +11,8 @@ use Rattle.packed_rows.specs.Columns.{Column, DescribesColumn, Describes, IsSche
 use Rattle.packed_rows.specs.DescribedLaws.{column_is, none_described}
 
 -- what was read, from the lexemes that were read
-pub read_ok : (read : Result (List Placed) Fault) (ws : List Lexeme) → lexemes_read read ≡ Ok ws → (ts : List Placed) × (read ≡ Ok ts) × (lexemes_of ts ≡ ws)
+pub read_ok : (read : Result (List Placed) Fault) (ws : List Lexeme) → lexemes_read read ≡ Ok ws → (ts : List Placed) × (read ≡ Ok ts)
+    × (lexemes_of ts ≡ ws)
 read_ok (Ok ts) ws e = (ts, refl, same_Some (lexemes_of ts) ws (ap result_ok e))
 read_ok (Err f) ws e = absurd (none-some ws (ap result_ok e))
 
@@ -22,7 +23,8 @@ same_column name word c d x y = column_is name word d.kind c x y.of_kind ∙ sym
 one_description : (a b : List Column) (lexemes : List Lexeme) → Describes lexemes a → Describes lexemes b → a ≡ b
 unfolding Describes
 one_description (c ∷ []) (d ∷ []) (Name name ∷ Name word ∷ []) p q = ap (λ x. x ∷ []) (same_column name word c d p q)
-one_description (c ∷ tail) (d ∷ rest) (Name name ∷ Name word ∷ Sign Comma ∷ more) p q = λ i. same_column name word c d p.0 q.0 i ∷ one_description tail rest more p.1 q.1 i
+one_description (c ∷ tail) (d ∷ rest) (Name name ∷ Name word ∷ Sign Comma ∷ more) p q = λ i. same_column name word c d p.0 q.0 i
+    ∷ one_description tail rest more p.1 q.1 i
 one_description (c ∷ []) (d ∷ next ∷ rest) (Name name ∷ Name word ∷ []) p q = absurd q
 one_description [] b lexemes p q = absurd (none_described lexemes p)
 one_description a [] lexemes p q = absurd (none_described lexemes q)

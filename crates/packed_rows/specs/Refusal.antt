@@ -2,7 +2,7 @@
 use Rattle.std.specs.Prelude.{◌≡◌, ◌≢◌, ℕ, List, length, IsTrue, ◌⊎◌}
 use Rattle.std.specs.List.{list_any}
 use Rattle.std.specs.Str.{bytes_eq}
-use Rattle.grouping_model.specs.declared.limits.TheConstants.{MOST_COLUMNS}
+use Rattle.grouping_model.specs.declared.limits.TheConstants.{MAX_COLUMNS}
 use Rattle.grouping_model.specs.Datum.{Kind}
 use Rattle.packed_rows.specs.declared.error.RowError.{RowError}
 use Rattle.packed_rows.specs.declared.error.RowError.TheVariants.{NoMemory, BadSchema, BadField, WrongWidth, BadPacked}
@@ -28,7 +28,8 @@ PackFault kinds fields error = ⊥
 -- the error of a new column, unless memory ran out: there are 32, or one of its name, or the name is a reserved word
 abbrev pub AddFault : List ℕ → List Column → RowError → Type 0
 AddFault name columns NoMemory = Unit {0}
-AddFault name columns BadSchema = (length columns ≡ MOST_COLUMNS) ⊎ IsTrue (list_any (bytes_eq name) (names columns)) ⊎ IsTrue (is_reserved name)
+AddFault name columns BadSchema = (length columns ≡ MAX_COLUMNS) ⊎ IsTrue (list_any (bytes_eq name) (names columns))
+    ⊎ IsTrue (is_reserved name)
 AddFault name columns error = ⊥
 
 -- the error of a schema's text, unless memory ran out: it is the text of no schema

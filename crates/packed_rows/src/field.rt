@@ -7,7 +7,7 @@ ghost use Rattle.std.specs.Prelude.{◌≡◌, ◌≢◌, List, ℕ};
 ghost use Rattle.grouping_model.specs.Datum.{Datum, Kind, Row, HasKind, HasKinds, null_field};
 
 use crate::value::{Value, ValueKind};
-use grouping_model::limits::LONGEST_TEXT;
+use grouping_model::limits::MAX_TEXT_LEN;
 use std::str;
 
 /// The field of a null, in a column of whatever kind.
@@ -38,7 +38,7 @@ pub(crate) fn read_text(field: &[u8]) -> Option<&str>
     ensures found { IfSome result (λ text. IsTextField field.now text.now) }
     ensures none { IfNone result ((text : List ℕ) → ¬ (IsTextField field.now text)) }
 {
-    if field.len() > LONGEST_TEXT || field.contains(&0) {
+    if field.len() > MAX_TEXT_LEN || field.contains(&0) {
         return None;
     }
     str::from_utf8(field).ok()

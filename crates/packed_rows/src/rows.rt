@@ -14,7 +14,7 @@ use crate::packing::pack_value;
 use crate::schema::Schema;
 use crate::unpacking::unpack_key;
 use crate::value::{Value, ValueKind};
-use grouping_model::limits::LONGEST_TEXT;
+use grouping_model::limits::MAX_TEXT_LEN;
 use std::alloc::Global;
 
 /// How many bytes the packing of a field has at most, if it stands for a value.
@@ -24,7 +24,7 @@ fn most_bytes(kind: ValueKind, field: &[u8]) -> usize
     match kind {
         ValueKind::Bigint => 9,
         ValueKind::Boolean => 2,
-        ValueKind::Text => field.len().min(LONGEST_TEXT) + 2,
+        ValueKind::Text => field.len().min(MAX_TEXT_LEN) + 2,
     }
 }
 

@@ -13,7 +13,7 @@ ghost use Rattle.packed_rows.specs.Refusal.{AddFault, ParseFault, ReadFault};
 
 use crate::error::RowError;
 use crate::value::ValueKind;
-use grouping_model::limits::MOST_COLUMNS;
+use grouping_model::limits::MAX_COLUMNS;
 use indexmap::IndexMap;
 use query_tokens::{Symbol, Token, TokenError, Word, is_reserved, tokens_up_to};
 use std::alloc::Global;
@@ -22,14 +22,14 @@ use std::alloc::Global;
 pub(crate) type Columns = IndexMap<String, ValueKind>;
 
 /// The most tokens that the text of a schema has: for each column a name, a kind and a comma.
-const MOST_TOKENS: usize = 3 * MOST_COLUMNS;
+const MAX_TOKENS: usize = 3 * MAX_COLUMNS;
 
 /// The tokens of a text. One with more tokens than a schema has is read no further.
 pub(crate) fn read_tokens(alloc: Global, text: &str) -> Result<Vec<Token>, RowError>
     ensures read { IfOk result (λ found. tokens_in text.now ≡ Ok (all_placed found.items)) }
     ensures refused { IfErr result (ParseFault text.now) }
 {
-    match tokens_up_to(alloc, text, MOST_TOKENS) {
+    match tokens_up_to(alloc, text, MAX_TOKENS) {
         Ok(Some(found)) => Ok(found),
         Ok(None) => Err(RowError::BadSchema),
         Err(TokenError::NoMemory) => Err(RowError::NoMemory),
@@ -97,7 +97,7 @@ fn add_column(
     ensures distinct { OnOk result (IsDistinct bytes_eq (names (columns_of columns.new.entries))) }
     ensures refused { IfErr result (AddFault name.now (columns_of columns.old.entries)) }
 {
-    if columns.len() == MOST_COLUMNS || columns.contains_key(name) || is_reserved(name) {
+    if columns.len() == MAX_COLUMNS || columns.contains_key(name) || is_reserved(name) {
         return Err(RowError::BadSchema);
     }
     columns.insert(String::from_str(alloc, name)?, kind)?;

@@ -1,6 +1,7 @@
 //! Reading values back from bytes.
 
-ghost use Rattle.std.specs.Prelude.{◌≡◌, ◌≢◌, ◌++◌, ◌∷◌, ◌<◌, ℕ, ℤ, Bool, List, if◌then◌else◌, IfSome, IfNone, IfOk, IfErr, OnErr, OnOk, length, Contains, FitsSigned};
+ghost use Rattle.std.specs.Prelude.{◌≡◌, ◌≢◌, ◌++◌, ◌∷◌, ◌<◌, ℕ, ℤ, Bool, List, if◌then◌else◌, IfSome, IfNone, IfOk, IfErr, OnErr, OnOk};
+ghost use Rattle.std.specs.Prelude.{length, Contains, FitsSigned};
 ghost use Rattle.std.specs.Int.{w64, to_be_bytes};
 ghost use Rattle.grouping_model.specs.Datum.{Datum, Kind, Row, IsText, HasKind, HasKinds, null_field};
 ghost use Rattle.packed_rows.specs.View.{datum_of, row_of, kind_of, kinds_of};

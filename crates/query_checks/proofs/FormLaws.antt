@@ -8,7 +8,8 @@ use Rattle.query_checks.specs.Reads.{columns_pass, filters_pass}
 use Rattle.query_checks.specs.Checks.{depth, is_shallow, place}
 
 -- columns that are changed twice
-column_twice : {B C D : Type 0} (f : B → C) (g : C → D) (column : Option B) → option_map g (option_map f column) ≡ option_map (λ c. g (f c)) column
+column_twice : {B C D : Type 0} (f : B → C) (g : C → D) (column : Option B) → option_map g (option_map f column)
+    ≡ option_map (λ c. g (f c)) column
 column_twice f g None = refl
 column_twice f g (Some c) = refl
 
@@ -21,10 +22,12 @@ mapped_twice f g (Unary operator x) = ap (Unary operator) (mapped_twice f g x)
 mapped_twice f g (Binary operator x y) = λ i. Binary operator (mapped_twice f g x i) (mapped_twice f g y i)
 
 -- from names to places
-pub mapped_names : (columns : List packed.Column) (x : Form (String Global)) → map_reads (λ name. place columns (string_bytes name)) (λ call. None) x ≡ map_form (place columns) (names_of x)
+pub mapped_names : (columns : List packed.Column) (x : Form (String Global))
+    → map_reads (λ name. place columns (string_bytes name)) (λ call. None) x ≡ map_form (place columns) (names_of x)
 mapped_names columns x = sym (mapped_twice string_bytes (place columns) x)
 
-pub clause_placed : (columns : List packed.Column) (clause : Option (Cond (String Global))) → option_map (map_reads (λ name. place columns (string_bytes name)) (λ call. None)) (option_map form_of clause)
+pub clause_placed : (columns : List packed.Column) (clause : Option (Cond (String Global)))
+    → option_map (map_reads (λ name. place columns (string_bytes name)) (λ call. None)) (option_map form_of clause)
     ≡ option_map (map_form (place columns)) (option_map (λ c. names_of (form_of c)) clause)
 clause_placed columns None = refl
 clause_placed columns (Some c) = ap (λ x. Some x) (mapped_names columns (form_of c))

@@ -1,5 +1,6 @@
 -- The canonical text piece by piece.
-use Rattle.std.proofs.Common.{◌≡◌, ℕ, List, [], ◌∷◌, ◌++◌, Option, option_map, codes, string_bytes, String, Global, ap, sym, ◌∙◌, append_assoc, append-nil}
+use Rattle.std.proofs.Common.{◌≡◌, ℕ, List, [], ◌∷◌, ◌++◌, Option, option_map, codes, string_bytes, String, Global, ap, sym, ◌∙◌}
+use Rattle.std.proofs.Common.{append_assoc, append-nil}
 use Rattle.std.specs.List.{flat_map}
 use Rattle.grouping_model.specs.Aggregates.{Function}
 use Rattle.query_checks.specs.declared.condition.Cond.{Cond}
@@ -11,8 +12,10 @@ regroup t a b c d = ap (λ x. x ++ d) (ap (λ x. x ++ c) (append_assoc t a b) �
 
 -- a call with a FILTER
 pub filtered_call : (text : List ℕ) (function : Function) (column : Option (String Global)) (filter : Cond (String Global))
-    → (((text ++ call_text function (option_map string_bytes column)) ++ codes " FILTER (WHERE ") ++ spelled (names_of (form_of filter))) ++ codes ")" ≡ text ++ spelled (names_of (Call_where function column (form_of filter)))
-filtered_call text function column filter = regroup text (call_text function (option_map string_bytes column)) (codes " FILTER (WHERE ") (spelled (names_of (form_of filter))) (codes ")")
+    → (((text ++ call_text function (option_map string_bytes column)) ++ codes " FILTER (WHERE ") ++ spelled (names_of (form_of filter)))
+    ++ codes ")" ≡ text ++ spelled (names_of (Call_where function column (form_of filter)))
+filtered_call text function column filter = regroup text (call_text function (option_map string_bytes column)) (codes " FILTER (WHERE ")
+    (spelled (names_of (form_of filter))) (codes ")")
 
 -- ---- texts that commas part
 

@@ -1,5 +1,6 @@
 -- The checks of a query, in their order (PostgreSQL 17, SELECT; the limits and the order are our own).
-use Rattle.std.specs.Prelude.{◌≡◌, ℕ, ◌+◌, max, ◌==◌, ◌&&◌, ◌||◌, not, nat_le, nat_lt, Bool, true, false, if◌then◌else◌, List, map, length, Option, Some, None, Result, Ok, Err, option_map, unwrap_or, is_some, slice_get}
+use Rattle.std.specs.Prelude.{◌≡◌, ℕ, ◌+◌, max, ◌==◌, ◌&&◌, ◌||◌, not, nat_le, nat_lt, Bool, true, false, if◌then◌else◌, List, map, length}
+use Rattle.std.specs.Prelude.{Option, Some, None, Result, Ok, Err, option_map, unwrap_or, is_some, slice_get}
 use Rattle.std.specs.List.{list_all}
 use Rattle.std.specs.Option.{option_map_or}
 use Rattle.std.specs.Str.{bytes_eq}
@@ -7,14 +8,16 @@ use Rattle.grouping_model.specs.Datum as datum
 use Rattle.grouping_model.specs.Datum.{Datum, Kind, Bigint_kind, Boolean_kind, Text_kind}
 use Rattle.grouping_model.specs.Aggregates.{Function}
 use Rattle.grouping_model.specs.Condition.{Is_null}
-use Rattle.grouping_model.specs.declared.limits.TheConstants.{MOST_ITEMS, MOST_KEYS, MOST_CALLS, LONGEST_QUERY, DEEPEST_CONDITION}
+use Rattle.grouping_model.specs.declared.limits.TheConstants.{MAX_ITEMS, MAX_KEYS, MAX_CALLS, MAX_QUERY_LEN, DEEPEST_CONDITION}
 use Rattle.agg_protocol.specs.Signatures.{Argument, Values_of, signature}
 use Rattle.packed_rows.specs.Columns as packed
 use Rattle.packed_rows.specs.Columns.{place_of}
 use Rattle.query_checks.specs.declared.error.QueryError.{QueryError}
-use Rattle.query_checks.specs.declared.error.QueryError.TheVariants.{NoSuchColumn, NotGrouped, TypeMismatch, AggregateHere, TooMany, TooDeep, AmbiguousOrder}
+use Rattle.query_checks.specs.declared.error.QueryError.TheVariants.{NoSuchColumn, NotGrouped, TypeMismatch, AggregateHere, TooMany}
+use Rattle.query_checks.specs.declared.error.QueryError.TheVariants.{TooDeep, AmbiguousOrder}
 use Rattle.query_checks.specs.declared.order.OrderTerm.{OrderTerm}
-use Rattle.query_checks.specs.Forms.{Unary_operator, Testing, Binary_operator, Comparing, Form, Column, Call, Call_where, Literal, Unary, Binary, Written, map_form}
+use Rattle.query_checks.specs.Forms.{Unary_operator, Testing, Binary_operator, Comparing, Form, Column, Call, Call_where, Literal, Unary}
+use Rattle.query_checks.specs.Forms.{Binary, Written, map_form}
 pub use Rattle.query_checks.specs.Reads.{is_plain, is_grouped_by, columns_pass, filters_pass}
 use Rattle.query_checks.specs.Sameness.{first_of_each}
 use Rattle.query_checks.specs.Order.{Asked, order_of, names_items, is_ambiguously_ordered}
@@ -29,13 +32,14 @@ pub record Checked : Type 0 where
 
 -- whether all conditions of a query pass, WHERE and HAVING by a test of conditions, the items by one of their own
 abbrev pub all_of : {C : Type 0} → (Form C → Bool) → (Form C → Bool) → Written C → Bool
-all_of item_passes passes q = list_all (λ item. item_passes item.0) q.items && (option_map_or passes q.condition true && option_map_or passes q.having true)
+all_of item_passes passes q = list_all (λ item. item_passes item.0) q.items
+    && (option_map_or passes q.condition true && option_map_or passes q.having true)
 
 -- more items, keys, aggregates or bytes than there may be
 abbrev pub has_too_many : Asked → Bool
 has_too_many q =
-    nat_lt MOST_ITEMS (length q.written.items) || (nat_lt MOST_KEYS (length (first_of_each bytes_eq q.written.keys))
-    || (nat_lt MOST_CALLS (length (distinct_calls bytes_eq q.written)) || nat_lt LONGEST_QUERY (length (spelling q))))
+    nat_lt MAX_ITEMS (length q.written.items) || (nat_lt MAX_KEYS (length (first_of_each bytes_eq q.written.keys))
+    || (nat_lt MAX_CALLS (length (distinct_calls bytes_eq q.written)) || nat_lt MAX_QUERY_LEN (length (spelling q))))
 
 -- how deep a condition is: an operand with nothing in it is 1, and a FILTER has a depth of its own
 abbrev pub depth : {C : Type 0} → Form C → ℕ
@@ -56,7 +60,8 @@ is_column columns name = is_some (place_of name columns)
 
 -- whether all names of a query are columns'
 abbrev pub has_columns : List packed.Column → Written (List ℕ) → Bool
-has_columns columns q = all_of (columns_pass (is_column columns)) (columns_pass (is_column columns)) q && list_all (is_column columns) q.keys
+has_columns columns q = all_of (columns_pass (is_column columns)) (columns_pass (is_column columns)) q
+    && list_all (is_column columns) q.keys
 
 -- an aggregate stands neither in WHERE nor in a FILTER
 abbrev pub are_plain : Written ℕ → Bool
@@ -114,9 +119,11 @@ takes_two operator left right = is_boolean left && is_boolean right
 -- whether all operands and arguments have a kind that fits. A FILTER is a whole condition
 abbrev pub operands_fit : List Kind → Form ℕ → Bool
 operands_fit kinds (Call function column) = takes_column kinds function column
-operands_fit kinds (Call_where function column filter) = takes_column kinds function column && (operands_fit kinds filter && is_boolean (kind_of_form kinds filter))
+operands_fit kinds (Call_where function column filter) = takes_column kinds function column
+    && (operands_fit kinds filter && is_boolean (kind_of_form kinds filter))
 operands_fit kinds (Unary operator x) = operands_fit kinds x && takes_one operator (kind_of_form kinds x)
-operands_fit kinds (Binary operator x y) = (operands_fit kinds x && operands_fit kinds y) && takes_two operator (kind_of_form kinds x) (kind_of_form kinds y)
+operands_fit kinds (Binary operator x y) = (operands_fit kinds x && operands_fit kinds y)
+    && takes_two operator (kind_of_form kinds x) (kind_of_form kinds y)
 operands_fit kinds other = true
 
 -- a whole condition: it is boolean too

@@ -19,9 +19,11 @@ unchanged (Unary operator x) = ap (Unary operator) (unchanged x)
 unchanged (Binary operator x y) = λ i. Binary operator (unchanged x i) (unchanged y i)
 
 -- a call that becomes no column is read as a call
-pub call_stays : {C D : Type 0} (column : C → D) (call : Form C → Option D) (x : Form C) → call x ≡ None → map_call column call x ≡ map_reads column call x
+pub call_stays : {C D : Type 0} (column : C → D) (call : Form C → Option D) (x : Form C) → call x ≡ None → map_call column call x
+    ≡ map_reads column call x
 call_stays column call (Call f c) none = ap (λ becomes. exchanged becomes (Call f (option_map column c))) (sym none)
-call_stays column call (Call_where f c x) none = ap (λ becomes. exchanged becomes (Call_where f (option_map column c) (map_reads column call x))) (sym none)
+call_stays column call (Call_where f c x) none = ap
+    (λ becomes. exchanged becomes (Call_where f (option_map column c) (map_reads column call x))) (sym none)
 call_stays column call (Column c) none = refl
 call_stays column call (Literal x) none = refl
 call_stays column call (Unary operator x) none = refl
@@ -31,7 +33,8 @@ pub call_unchanged : {C : Type 0} (x : Form C) → map_call (λ c. c) (λ call. 
 call_unchanged x = call_stays (λ c. c) (λ call. None) x refl ∙ unchanged x
 
 -- whether the changed columns pass a test
-column_passes : {B C : Type 0} (P : C → Bool) (f : B → C) (column : Option B) → option_map_or P (option_map f column) true ≡ option_map_or (λ c. P (f c)) column true
+column_passes : {B C : Type 0} (P : C → Bool) (f : B → C) (column : Option B) → option_map_or P (option_map f column) true
+    ≡ option_map_or (λ c. P (f c)) column true
 column_passes P f None = refl
 column_passes P f (Some c) = refl
 
@@ -47,11 +50,13 @@ columns_mapped P f (Binary operator x y) = λ i. columns_mapped P f x i && colum
 pub record TakenBack {C D : Type 0} (P : C → Bool) (f : C → D) (g : D → C) : Type 0 where
   pub back : (c : C) → P c ≡ true → g (f c) ≡ c
 
-column_back : {C D : Type 0} (P : C → Bool) (f : C → D) (g : D → C) → TakenBack P f g → (column : Option C) → option_map_or P column true ≡ true → option_map g (option_map f column) ≡ column
+column_back : {C D : Type 0} (P : C → Bool) (f : C → D) (g : D → C) → TakenBack P f g → (column : Option C) → option_map_or P column true
+    ≡ true → option_map g (option_map f column) ≡ column
 column_back P f g taken None p = refl
 column_back P f g taken (Some c) p = ap (λ d. Some d) (taken.back c p)
 
-pub form_back : {C D : Type 0} (P : C → Bool) (f : C → D) (g : D → C) → TakenBack P f g → (x : Form C) → columns_pass P x ≡ true → map_form g (map_form f x) ≡ x
+pub form_back : {C D : Type 0} (P : C → Bool) (f : C → D) (g : D → C) → TakenBack P f g → (x : Form C) → columns_pass P x ≡ true
+    → map_form g (map_form f x) ≡ x
 form_back P f g taken (Column c) p = ap (λ d. Column d) (taken.back c p)
 form_back P f g taken (Call function column) p = ap (Call function) (column_back P f g taken column p)
 form_back P f g taken (Call_where function column filter) p =

@@ -72,7 +72,8 @@ exchanged (Some column) call = Column column
 abbrev pub map_reads : {C D : Type 0} → (C → D) → (Form C → Option D) → Form C → Form D
 map_reads column call (Column c) = Column (column c)
 map_reads column call (Call f c) = exchanged (call (Call f c)) (Call f (option_map column c))
-map_reads column call (Call_where f c x) = exchanged (call (Call_where f c x)) (Call_where f (option_map column c) (map_reads column call x))
+map_reads column call (Call_where f c x) = exchanged (call (Call_where f c x))
+    (Call_where f (option_map column c) (map_reads column call x))
 map_reads column call (Literal value) = Literal value
 map_reads column call (Unary operator x) = Unary operator (map_reads column call x)
 map_reads column call (Binary operator x y) = Binary operator (map_reads column call x) (map_reads column call y)

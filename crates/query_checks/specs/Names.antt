@@ -1,7 +1,8 @@
 -- The names of what checks of a query refuse, as replies show them. All of this is our own.
 use Rattle.std.specs.Prelude.{ℕ, List, codes}
 use Rattle.query_checks.specs.declared.error.QueryError.{QueryError}
-use Rattle.query_checks.specs.declared.error.QueryError.TheVariants.{NoMemory, NoSuchColumn, NotGrouped, TypeMismatch, AggregateHere, TooMany, TooDeep, AmbiguousOrder}
+use Rattle.query_checks.specs.declared.error.QueryError.TheVariants.{NoMemory, NoSuchColumn, NotGrouped, TypeMismatch, AggregateHere}
+use Rattle.query_checks.specs.declared.error.QueryError.TheVariants.{TooMany, TooDeep, AmbiguousOrder}
 
 abbrev pub query_name : QueryError → List ℕ
 query_name NoMemory = codes "NoMemory"

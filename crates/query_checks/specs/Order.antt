@@ -1,6 +1,7 @@
 -- ORDER BY: its terms as they are written, and the items that they mean (PostgreSQL 17, 7.5 Sorting Rows, and SELECT, ORDER
 -- BY Clause; that a term is the name or the place of an item, and no other expression, is our own).
-use Rattle.std.specs.Prelude.{ℕ, ◌-◌, ◌==◌, ◌&&◌, not, nat_le, ℤ, pos, Bool, false, if◌then◌else◌, List, length, map, string_bytes, Option, Some, None, option_map, is_some, unwrap_or, filter, position}
+use Rattle.std.specs.Prelude.{ℕ, ◌-◌, ◌==◌, ◌&&◌, not, nat_le, ℤ, pos, Bool, false, if◌then◌else◌, List, length, map, string_bytes, Option}
+use Rattle.std.specs.Prelude.{Some, None, option_map, is_some, unwrap_or, filter, position}
 use Rattle.std.specs.List.{list_any, list_all, filter_map}
 use Rattle.std.specs.Str.{bytes_eq}
 use Rattle.query_checks.specs.declared.condition.RawQuery.{RawQuery}

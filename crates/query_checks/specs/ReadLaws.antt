@@ -10,7 +10,8 @@ use Rattle.query_checks.specs.Forms.{Form, Column, Call, Call_where, Literal, Un
 use Rattle.query_checks.specs.Reads.{reads, is_call, calls_in, columns_pass}
 
 -- what two operands read, and which of it are calls
-pub both_pass : {C : Type 0} (P : Form C → Bool) (x y : Form C) → list_all P (reads x ++ reads y) ≡ (list_all P (reads x) && list_all P (reads y))
+pub both_pass : {C : Type 0} (P : Form C → Bool) (x y : Form C) → list_all P (reads x ++ reads y)
+    ≡ (list_all P (reads x) && list_all P (reads y))
 both_pass P x y = list_all-append P (reads x) (reads y)
 
 pub calls_in_two : {C : Type 0} (x y : Form C) → filter is_call (reads x ++ reads y) ≡ calls_in x ++ calls_in y
@@ -39,4 +40,5 @@ calls_pass P (Literal x) p = tt
 calls_pass P (Unary operator x) p = calls_pass P x p
 calls_pass P (Binary operator x y) p =
     let ps = and_parts (columns_pass P x) (columns_pass P y) p in
-    subst (AllByRecursion (Passes P)) (sym (calls_in_two x y)) (each_append (Passes P) (calls_in x) (calls_in y) (calls_pass P x ps.0) (calls_pass P y ps.1))
+    subst (AllByRecursion (Passes P)) (sym (calls_in_two x y)) (each_append (Passes P) (calls_in x) (calls_in y) (calls_pass P x ps.0)
+    (calls_pass P y ps.1))

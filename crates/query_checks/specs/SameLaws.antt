@@ -11,21 +11,24 @@ use Rattle.grouping_model.specs.Datum as datum
 use Rattle.grouping_model.specs.Datum.{Datum}
 use Rattle.grouping_model.specs.Aggregates.{Function}
 use Rattle.agg_protocol.specs.Signatures.{function_eq, function_number, function_at, function_at_back}
-use Rattle.query_checks.specs.Forms.{Unary_operator, Negation, Testing, Binary_operator, Conjunction, Disjunction, Comparing, Form, Column, Call, Call_where, Literal, Unary, Binary, map_form}
+use Rattle.query_checks.specs.Forms.{Unary_operator, Negation, Testing, Binary_operator, Conjunction, Disjunction, Comparing, Form, Column}
+use Rattle.query_checks.specs.Forms.{Call, Call_where, Literal, Unary, Binary, map_form}
 use Rattle.query_checks.specs.Reads.{columns_pass}
 use Rattle.query_checks.specs.Sameness.{form_eq, option_same, unary_eq, binary_eq, literal_eq}
 use Rattle.query_checks.specs.Operators.{test_number, test_at, test_at_back, comparison_number, comparison_at, comparison_at_back}
 use Rattle.query_checks.specs.DistinctLaws.{Agrees}
 
 -- columns that are there or not, over other columns
-column_image : {C D : Type 0} (P : C → Bool) (f : C → D) (after : D → D → Bool) (before : C → C → Bool) → Agrees (λ c. P c ≡ true) f after before → (c d : Option C) → option_map_or P c true ≡ true → option_map_or P d true ≡ true
+column_image : {C D : Type 0} (P : C → Bool) (f : C → D) (after : D → D → Bool) (before : C → C → Bool)
+    → Agrees (λ c. P c ≡ true) f after before → (c d : Option C) → option_map_or P c true ≡ true → option_map_or P d true ≡ true
     → option_same after (option_map f c) (option_map f d) ≡ option_same before c d
 column_image P f after before same (Some c) (Some d) p q = same.agree c d p q
 column_image P f after before same None None p q = refl
 column_image P f after before same c d p q = refl
 
 -- conditions over other columns are the same where the conditions are
-pub form_image : {C D : Type 0} (P : C → Bool) (f : C → D) (after : D → D → Bool) (before : C → C → Bool) → Agrees (λ c. P c ≡ true) f after before → (x y : Form C) → columns_pass P x ≡ true → columns_pass P y ≡ true
+pub form_image : {C D : Type 0} (P : C → Bool) (f : C → D) (after : D → D → Bool) (before : C → C → Bool)
+    → Agrees (λ c. P c ≡ true) f after before → (x y : Form C) → columns_pass P x ≡ true → columns_pass P y ≡ true
     → form_eq after (map_form f x) (map_form f y) ≡ form_eq before x y
 form_image P h after before same (Column a) (Column b) p q = same.agree a b p q
 form_image P h after before same (Call f a) (Call g b) p q = ap (λ e. function_eq f g && e) (column_image P h after before same a b p q)
@@ -47,13 +50,15 @@ unary_one : (a b : Unary_operator) → unary_eq a b ≡ true → a ≡ b
 unary_one Negation Negation e = refl
 unary_one (Testing a negated) (Testing b also) e =
     let parts = and_parts (test_number a == test_number b) (beq negated also) e in
-    λ i. Testing ((sym (test_at_back a) ∙ ap test_at (eqb-true (test_number a) (test_number b) parts.0) ∙ test_at_back b) i) ((booleans_Decides negated also).0 parts.1 i)
+    λ i. Testing ((sym (test_at_back a) ∙ ap test_at (eqb-true (test_number a) (test_number b) parts.0) ∙ test_at_back b) i)
+    ((booleans_Decides negated also).0 parts.1 i)
 unary_one a b e = absurd (false≢true e)
 
 binary_one : (a b : Binary_operator) → binary_eq a b ≡ true → a ≡ b
 binary_one Conjunction Conjunction e = refl
 binary_one Disjunction Disjunction e = refl
-binary_one (Comparing a) (Comparing b) e = ap Comparing (sym (comparison_at_back a) ∙ ap comparison_at (eqb-true (comparison_number a) (comparison_number b) e) ∙ comparison_at_back b)
+binary_one (Comparing a) (Comparing b) e = ap Comparing (sym (comparison_at_back a)
+    ∙ ap comparison_at (eqb-true (comparison_number a) (comparison_number b) e) ∙ comparison_at_back b)
 binary_one a b e = absurd (false≢true e)
 
 literal_one : (x y : Datum) → literal_eq x y ≡ true → x ≡ y

@@ -8,7 +8,8 @@ use Rattle.grouping_model.specs.Datum as datum
 use Rattle.grouping_model.specs.Datum.{Datum}
 use Rattle.agg_protocol.specs.Signatures.{function_eq}
 use Rattle.query_checks.specs.Operators.{comparison_number, test_number}
-use Rattle.query_checks.specs.Forms.{Unary_operator, Negation, Testing, Binary_operator, Conjunction, Disjunction, Comparing, Form, Column, Call, Call_where, Literal, Unary, Binary}
+use Rattle.query_checks.specs.Forms.{Unary_operator, Negation, Testing, Binary_operator, Conjunction, Disjunction, Comparing, Form, Column}
+use Rattle.query_checks.specs.Forms.{Call, Call_where, Literal, Unary, Binary}
 
 -- whether two operators are the same
 abbrev pub unary_eq : Unary_operator → Unary_operator → Bool

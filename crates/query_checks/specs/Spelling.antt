@@ -8,7 +8,8 @@ use Rattle.grouping_model.specs.Datum.{Datum, Null, Bigint, Boolean, Text}
 use Rattle.grouping_model.specs.Aggregates.{Function}
 pub use Rattle.agg_protocol.specs.Signatures.{Argument, Each_row, Any_value, Values_of, Signature, signature, functions, is_value, is_named}
 unfoldable pub use Rattle.agg_protocol.specs.Signatures.{function_named}
-use Rattle.query_checks.specs.Forms.{Unary_operator, Negation, Testing, Binary_operator, Conjunction, Disjunction, Comparing, Form, Column, Call, Call_where, Literal, Unary, Binary, Written}
+use Rattle.query_checks.specs.Forms.{Unary_operator, Negation, Testing, Binary_operator, Conjunction, Disjunction, Comparing, Form, Column}
+use Rattle.query_checks.specs.Forms.{Call, Call_where, Literal, Unary, Binary, Written}
 use Rattle.query_checks.specs.declared.order.OrderTerm.{OrderTerm}
 use Rattle.query_checks.specs.Operators.{comparison_level, comparison_text, test_text}
 pub use Rattle.query_checks.specs.Labels.{function_name, own_name, kept_alias, label_of}
@@ -81,7 +82,8 @@ spelled (Call function column) = call_text function column
 spelled (Call_where function column filter) = call_text function column ++ codes " FILTER (WHERE " ++ spelled filter ++ codes ")"
 spelled (Literal value) = literal_text value
 spelled (Unary operator x) = unary_text operator (operand (unary_level operator) x (spelled x))
-spelled (Binary operator x y) = operand (left_level operator) x (spelled x) ++ operator_text operator ++ operand (right_level operator) y (spelled y)
+spelled (Binary operator x y) = operand (left_level operator) x (spelled x) ++ operator_text operator
+    ++ operand (right_level operator) y (spelled y)
 
 -- the query that its canonical text says: each column of GROUP BY once, no alias that is the item's own name, and of ORDER
 -- BY the terms that order, by their places, with NULLS only where it says what the direction doesn't (own)
@@ -89,7 +91,13 @@ abbrev pub canonical_item : Form (List ℕ) × Option (List ℕ) → Form (List 
 canonical_item item = (item.0, kept_alias (own_name item.0) item.1)
 
 abbrev pub canonical_written : Written (List ℕ) → Written (List ℕ)
-canonical_written q = record { items = map canonical_item q.items; condition = q.condition; keys = first_of_each bytes_eq q.keys; having = q.having }
+canonical_written q = record {
+  items = map canonical_item q.items;
+  condition = q.condition;
+  keys = first_of_each bytes_eq q.keys;
+  having =
+      q.having;
+}
 
 abbrev pub nulls_said : Bool → Bool → Option Bool
 nulls_said false false = None
@@ -98,7 +106,12 @@ nulls_said true true = None
 nulls_said true false = Some false
 
 abbrev pub canonical_term : OrderTerm → Term
-canonical_term term = record { target = By_place (pos (term.item + 1)); descending = term.descending; nulls_first = nulls_said term.descending term.nulls_first }
+canonical_term term = record {
+  target = By_place (pos (term.item + 1));
+  descending = term.descending;
+  nulls_first = nulls_said
+      term.descending term.nulls_first;
+}
 
 abbrev pub canonical : Asked → Asked
 canonical q = record { written = canonical_written q.written; terms = map canonical_term (order_of q) }

@@ -12,7 +12,7 @@ ghost use Rattle.query_checks.specs.Parts.{written_of_parts};
 use crate::condition::{AggCall, Cond, Item, RawQuery};
 use crate::distinct::distinct;
 use crate::parts::Parts;
-use grouping_model::limits::MOST_CALLS;
+use grouping_model::limits::MAX_CALLS;
 use std::alloc::{AllocError, Global};
 
 /// Adds the calls in a condition behind others, from the left.
@@ -103,11 +103,11 @@ fn all_calls<'a, C>(
 /// Whether the items and HAVING have more distinct calls than they may have.
 pub(crate) fn has_too_many_calls(alloc: Global, raw: &RawQuery) -> Result<bool, AllocError>
     ensures { IfOk result (λ many.
-        many ≡ nat_lt MOST_CALLS (length (distinct_calls bytes_eq (written_of raw.now)))) }
+        many ≡ nat_lt MAX_CALLS (length (distinct_calls bytes_eq (written_of raw.now)))) }
 {
     let calls = all_calls(alloc, &raw.items, &raw.having)?;
-    let found = distinct(alloc, &calls, MOST_CALLS)?;
-    Ok(found.len() > MOST_CALLS)
+    let found = distinct(alloc, &calls, MAX_CALLS)?;
+    Ok(found.len() > MAX_CALLS)
 }
 
 impl Parts {

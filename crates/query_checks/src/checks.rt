@@ -7,7 +7,8 @@ ghost use Rattle.packed_rows.specs.View.{kind_of, kinds_of};
 ghost use Rattle.query_checks.specs.Forms.{Testing, form_of, call_form};
 ghost use Rattle.query_checks.specs.Operators.{test_of};
 ghost use Rattle.query_checks.specs.Reads.{is_plain, is_grouped_by};
-ghost use Rattle.query_checks.specs.Checks.{depth, is_shallow, are_shallow, kind_of_form, kind_asked, kinds_agree, is_boolean, takes_column, takes_one, operands_fit, condition_fits};
+ghost use Rattle.query_checks.specs.Checks.{depth, is_shallow, are_shallow, kind_of_form, kind_asked, kinds_agree, is_boolean};
+ghost use Rattle.query_checks.specs.Checks.{takes_column, takes_one, operands_fit, condition_fits};
 
 use crate::condition::{AggCall, Cond};
 use crate::operators::IsTest;

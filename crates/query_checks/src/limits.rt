@@ -15,7 +15,7 @@ use crate::distinct::distinct;
 use crate::error::QueryError;
 use crate::order::order_of;
 use crate::spelling::spelled;
-use grouping_model::limits::{LONGEST_QUERY, MOST_ITEMS, MOST_KEYS};
+use grouping_model::limits::{MAX_ITEMS, MAX_KEYS, MAX_QUERY_LEN};
 use std::alloc::{AllocError, Global};
 
 /// Names, without what holds them.
@@ -31,13 +31,13 @@ fn borrowed_names(alloc: Global, names: &[String]) -> Result<Vec<&str>, AllocErr
 
 /// The distinct names of some, by the first of each. Where they are more than keys may be, one more than that is found.
 fn distinct_names(alloc: Global, names: &[String]) -> Result<Vec<&str>, AllocError>
-    ensures all { IfOk result (λ found. length found.items ≤ MOST_KEYS →
+    ensures all { IfOk result (λ found. length found.items ≤ MAX_KEYS →
         texts_of found.items ≡ first_of_each bytes_eq (map string_bytes names.now)) }
-    ensures more { IfOk result (λ found. MOST_KEYS < length found.items →
-        MOST_KEYS < length (first_of_each bytes_eq (map string_bytes names.now))) }
+    ensures more { IfOk result (λ found. MAX_KEYS < length found.items →
+        MAX_KEYS < length (first_of_each bytes_eq (map string_bytes names.now))) }
 {
     let borrowed = borrowed_names(alloc, names)?;
-    let found = distinct(alloc, &borrowed, MOST_KEYS)?;
+    let found = distinct(alloc, &borrowed, MAX_KEYS)?;
     Ok(found)
 }
 
@@ -48,11 +48,11 @@ pub(crate) fn text_within(alloc: Global, raw: &RawQuery) -> Result<String, Query
     ensures refused { IfErr result (λ e. e ≢ NoMemory → e ≡ TooMany) }
     ensures too_many { IfErr result (λ e. e ≢ NoMemory → has_too_many (asked_of raw.now) ≡ true) }
 {
-    if raw.items.len() > MOST_ITEMS {
+    if raw.items.len() > MAX_ITEMS {
         return Err(QueryError::TooMany);
     }
     let keys = distinct_names(alloc, &raw.keys)?;
-    if keys.len() > MOST_KEYS {
+    if keys.len() > MAX_KEYS {
         return Err(QueryError::TooMany);
     }
     if has_too_many_calls(alloc, raw)? {
@@ -60,7 +60,7 @@ pub(crate) fn text_within(alloc: Global, raw: &RawQuery) -> Result<String, Query
     }
     let order = order_of(alloc, raw)?;
     let text = spelled(alloc, raw, &keys, &order)?;
-    if text.len() > LONGEST_QUERY {
+    if text.len() > MAX_QUERY_LEN {
         return Err(QueryError::TooMany);
     }
     Ok(text)

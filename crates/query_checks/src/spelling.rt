@@ -10,7 +10,8 @@ ghost use Rattle.packed_rows.specs.View.{texts_of};
 ghost use Rattle.query_checks.specs.Forms.{form_of, call_form, item_form, names_of, items_of, written_of};
 ghost use Rattle.query_checks.specs.Order.{asked_of, order_of};
 ghost use Rattle.query_checks.specs.Sameness.{first_of_each};
-ghost use Rattle.query_checks.specs.Spelling.{call_text, level, operand, spelled, own_name, kept_alias, item_text, parted, clause_text, keys_text, written_text, direction_text, term_text, order_text, spelling};
+ghost use Rattle.query_checks.specs.Spelling.{call_text, level, operand, spelled, own_name, kept_alias, item_text, parted, clause_text};
+ghost use Rattle.query_checks.specs.Spelling.{keys_text, written_text, direction_text, term_text, order_text, spelling};
 
 use crate::condition::{AggCall, Cond, Item, RawQuery};
 use crate::order::OrderTerm;

@@ -1,7 +1,7 @@
 -- The grammar of queries, one constructor a rule (after PostgreSQL 17, SELECT; which parts there are is our own). `limit`
 -- is how many parentheses of one condition may be open at once.
 use Rattle.std.specs.Prelude.{ℕ, ℤ, ◌≡◌, Bool, true, false, List, [], ◌∷◌, ◌++◌, Option, Some, None, codes}
-use Rattle.grouping_model.specs.declared.limits.TheConstants.{MOST_OPEN}
+use Rattle.grouping_model.specs.declared.limits.TheConstants.{MAX_OPEN}
 use Rattle.query_tokens.specs.declared.word.Symbol.TheVariants as symbols
 use Rattle.query_tokens.specs.Words.{Lexeme, Name, Integer, Sign}
 use Rattle.query_tokens.specs.Reserved.{is_reserved}
@@ -97,4 +97,4 @@ pub record Begins (limit : ℕ) (ts : List Lexeme) : Type 0 where
 
 -- how many parentheses of one condition may be open at once (own)
 abbrev pub most_open : ℕ
-most_open = MOST_OPEN
+most_open = MAX_OPEN

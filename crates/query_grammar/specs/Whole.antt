@@ -6,12 +6,14 @@ use Rattle.query_grammar.specs.Grammar.{Named}
 use Rattle.query_checks.specs.Order.{Target, By_name, By_place, Term, Asked}
 use Rattle.query_tokens.specs.Reserved.{is_reserved}
 use Rattle.query_grammar.specs.Terminals.{function_named, is_word, is_sign}
-use Rattle.query_grammar.specs.Reading.{Read, ◌>>=◌, unexpected, after, choose, expect, name_at, function_or_column, condition_at, conditions}
+use Rattle.query_grammar.specs.Reading.{Read, ◌>>=◌, unexpected, after, choose, expect, name_at, function_or_column, condition_at}
+use Rattle.query_grammar.specs.Reading.{conditions}
 
 -- an item's value: a column, or a call
 unfoldable pub item_value_at : ℕ → List Lexeme → Read Named
 item_value_at limit [] = unexpected []
-item_value_at limit (Name w ∷ ts) = if is_reserved w then unexpected (Name w ∷ ts) else function_or_column (conditions limit) w (function_named w) ts
+item_value_at limit (Name w ∷ ts) = if is_reserved w then unexpected (Name w ∷ ts)
+    else function_or_column (conditions limit) w (function_named w) ts
 item_value_at limit (Integer z ∷ ts) = unexpected (Integer z ∷ ts)
 item_value_at limit (Text s ∷ ts) = unexpected (Text s ∷ ts)
 item_value_at limit (Sign s ∷ ts) = unexpected (Sign s ∷ ts)

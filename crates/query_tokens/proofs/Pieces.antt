@@ -7,7 +7,8 @@ use Rattle.query_tokens.specs.Spelling.{IsLexeme, AreApart, Piece, spell, text_o
 use Rattle.query_tokens.specs.Lemmas.Respelled.{word_again}
 use Rattle.query_tokens.specs.Lemmas.Pieces.{pieces_again}
 
-pub tokens_again : (pieces : List Piece) (ts : List Placed) → AreApart pieces → tokens_in (text_of pieces) ≡ Ok ts → lexemes_of ts ≡ lexemes_in pieces
+pub tokens_again : (pieces : List Piece) (ts : List Placed) → AreApart pieces → tokens_in (text_of pieces) ≡ Ok ts → lexemes_of ts
+    ≡ lexemes_in pieces
 tokens_again pieces ts apart read =
     let again = pieces_again 0 pieces apart in
     let same = rw read at again in cc
@@ -25,7 +26,8 @@ one_spelling w v legal other same =
     let pair : ◌≡◌ {A = Lexeme × List ℕ} (w, []) (v, []) = cc in
     ap (λ (x : Lexeme × List ℕ). x.0) pair
 
-pub one_text : (these those : List Piece) → AreApart these → AreApart those → text_of these ≡ text_of those → lexemes_in these ≡ lexemes_in those
+pub one_text : (these those : List Piece) → AreApart these → AreApart those → text_of these ≡ text_of those → lexemes_in these
+    ≡ lexemes_in those
 one_text these those apart others same =
     let this = pieces_again 0 these apart in
     let that = pieces_again 0 those others in

@@ -1,5 +1,6 @@
 -- Where tokens and faults stand.
-use Rattle.std.proofs.Common.{◌≡◌, ℕ, zero, suc, ◌+◌, ◌-◌, ◌<◌, ◌≤◌, Bool, true, false, cond, List, [], ◌∷◌, length, Option, Some, None, Result, Ok, Err, refl, arith}
+use Rattle.std.proofs.Common.{◌≡◌, ℕ, zero, suc, ◌+◌, ◌-◌, ◌<◌, ◌≤◌, Bool, true, false, cond, List, [], ◌∷◌, length, Option, Some, None}
+use Rattle.std.proofs.Common.{Result, Ok, Err, refl, arith}
 use Rattle.std.specs.Prelude.{◌==◌, ◌&&◌}
 use Rattle.std.specs.Char.{is_ascii_digit}
 use Rattle.std.specs.List.{list_any}
@@ -8,7 +9,8 @@ use Rattle.query_tokens.specs.declared.fault.Fault.TheVariants.{Syntax, NumberTo
 use Rattle.query_tokens.specs.declared.word.Symbol.{Symbol}
 use Rattle.query_tokens.specs.Words.{Lexeme, Text, Placed, RiseWithin}
 use Rattle.query_tokens.specs.Bytes.{is_space, begins_name, first_is, symbol_of_one, symbol_of_two}
-use Rattle.query_tokens.specs.Tokens.{◌>>=◌, name_at, integer_at, string_content, text_or_fault, text_at, symbol_or_fault, longest_symbol, symbol_at, word_at, tokens_at, tokens_in}
+use Rattle.query_tokens.specs.Tokens.{◌>>=◌, name_at, integer_at, string_content, text_or_fault, text_at, symbol_or_fault, longest_symbol}
+use Rattle.query_tokens.specs.Tokens.{symbol_at, word_at, tokens_at, tokens_in}
 use Rattle.std.proofs.lemmas.Bool.Decides.{nat_tests}
 use Rattle.std.proofs.lemmas.Grind.{common_steps}
 
@@ -47,7 +49,8 @@ integer_faults at negative bytes = grind (arith, nat_tests, common_steps)
 
 text_or_faults : (at : ℕ) (q : Option (List ℕ × List ℕ)) → FaultsAt at (text_or_fault at q)
 text_or_faults at None = fails at
-text_or_faults at (Some x) = either (list_any (λ b. b == 0) x.0) at (Err (Syntax at)) (Ok (Text x.0, x.1)) (fails at) (reads at (Text x.0, x.1))
+text_or_faults at (Some x) = either (list_any (λ b. b == 0) x.0) at (Err (Syntax at)) (Ok (Text x.0, x.1)) (fails at)
+    (reads at (Text x.0, x.1))
 
 text_faults : (at : ℕ) (bytes : List ℕ) → FaultsAt at (text_at at bytes)
 unfolding text_at
@@ -93,7 +96,8 @@ IfPlaces low high (Err f) = IsBelow high f
 record StandsWithin (low high : ℕ) (read : Result (List Placed) Fault) : Type 0 where
   places : IfPlaces low high read
 
-either_places : (t : Bool) (low high : ℕ) (x y : Result (List Placed) Fault) → StandsWithin low high x → StandsWithin low high y → StandsWithin low high (cond t x y)
+either_places : (t : Bool) (low high : ℕ) (x y : Result (List Placed) Fault) → StandsWithin low high x → StandsWithin low high y
+    → StandsWithin low high (cond t x y)
 either_places true low high x y h k = h
 either_places false low high x y h k = k
 
@@ -109,11 +113,13 @@ fault_below : (at high : ℕ) (f : Fault) → at < high → IsFaultAt at f → I
 fault_below at high (Syntax x) within is = omega (arith, within, is)
 fault_below at high NumberTooLarge within is = tt
 
-one_more : (at high : ℕ) (w : Lexeme) (read : Result (List Placed) Fault) → at < high → StandsWithin (at + 1) high read → StandsWithin at high (read >>= λ ts. Ok (record { at = at; lexeme = w } ∷ ts))
+one_more : (at high : ℕ) (w : Lexeme) (read : Result (List Placed) Fault) → at < high → StandsWithin (at + 1) high read
+    → StandsWithin at high (read >>= λ ts. Ok (record { at = at; lexeme = w } ∷ ts))
 one_more at high w (Ok ts) within h = record { places = (omega arith, within, h.places) }
 one_more at high w (Err f) within h = record { places = h.places }
 
-word_then : (at high : ℕ) (read : Result (Lexeme × List ℕ) Fault) (after : Lexeme × List ℕ → Result (List Placed) Fault) → at < high → FaultsAt at read → ((w : Lexeme × List ℕ) → StandsWithin (at + 1) high (after w))
+word_then : (at high : ℕ) (read : Result (Lexeme × List ℕ) Fault) (after : Lexeme × List ℕ → Result (List Placed) Fault) → at < high
+    → FaultsAt at read → ((w : Lexeme × List ℕ) → StandsWithin (at + 1) high (after w))
     → StandsWithin at high (read >>= λ w. after w >>= λ ts. Ok (record { at = at; lexeme = w.0 } ∷ ts))
 word_then at high (Ok w) after within h more = one_more at high w.0 (after w) within (more w)
 word_then at high (Err f) after within h more = record { places = fault_below at high f within h.fault }
@@ -122,12 +128,15 @@ stand_within : (within at high : ℕ) (bytes : List ℕ) → at + length bytes �
 unfolding tokens_at
 stand_within zero at high [] end = record { places = tt {0} }
 stand_within (suc within) at high [] end = record { places = tt {0} }
-stand_within (suc within) at high (b ∷ bs) end = lower at (at + 1) high (tokens_at within (at + 1) bs) (omega arith) (stand_within within (at + 1) high bs (omega (arith, end)))
+stand_within (suc within) at high (b ∷ bs) end = lower at (at + 1) high (tokens_at within (at + 1) bs) (omega arith)
+    (stand_within within (at + 1) high bs (omega (arith, end)))
 stand_within zero at high (b ∷ bs) end =
     let next : at + 1 + length bs ≡ high = omega (arith, end) in
     let inside : at < high = omega (arith, end) in
-    either_places (is_space b) at high _ _ (lower at (at + 1) high (tokens_at 0 (at + 1) bs) (omega arith) (stand_within 0 (at + 1) high bs next))
-    (word_then at high (word_at at (b ∷ bs)) (λ (w : Lexeme × List ℕ). tokens_at (length bs - length w.1) (at + 1) bs) inside (word_faults at (b ∷ bs)) (λ w. stand_within (length bs - length w.1) (at + 1) high bs next))
+    either_places (is_space b) at high _ _ (lower at (at + 1) high (tokens_at 0 (at + 1) bs) (omega arith)
+    (stand_within 0 (at + 1) high bs next))
+    (word_then at high (word_at at (b ∷ bs)) (λ (w : Lexeme × List ℕ). tokens_at (length bs - length w.1) (at + 1) bs) inside
+    (word_faults at (b ∷ bs)) (λ w. stand_within (length bs - length w.1) (at + 1) high bs next))
 
 pub tokens_rise : (text : List ℕ) (ts : List Placed) → tokens_in text ≡ Ok ts → RiseWithin 0 (length text) ts
 tokens_rise text ts read = let p = (stand_within 0 0 (length text) text (omega arith)).places in rw read at p

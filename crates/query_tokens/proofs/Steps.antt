@@ -1,5 +1,6 @@
 -- Reading tokens one after the other, as a loop does.
-use Rattle.std.proofs.Common.{◌≡◌, ℕ, ◌+◌, ◌-◌, ◌≤◌, ◌<◌, true, false, List, [], ◌∷◌, ◌++◌, length, get_or, drop, Result, Ok, Err, refl, sym, ap, ◌∙◌, append_assoc, arith}
+use Rattle.std.proofs.Common.{◌≡◌, ℕ, ◌+◌, ◌-◌, ◌≤◌, ◌<◌, true, false, List, [], ◌∷◌, ◌++◌, length, get_or, drop, Result, Ok, Err, refl}
+use Rattle.std.proofs.Common.{sym, ap, ◌∙◌, append_assoc, arith}
 use Rattle.std.proofs.lemmas.List.{length-drop}
 use Rattle.query_tokens.specs.declared.fault.Fault.{Fault}
 use Rattle.query_tokens.specs.declared.fault.TokenError.{TokenError}
@@ -15,7 +16,8 @@ use Rattle.query_tokens.specs.Lemmas.Steps.{passes, word_end}
 abbrev pub with_front : List Placed → Result (List Placed) Fault → Result (List Placed) Fault
 with_front front read = read >>= λ ts. Ok (front ++ ts)
 
-regroup : (front : List Placed) (t : Placed) (read : Result (List Placed) Fault) → with_front front (read >>= λ ts. Ok (t ∷ ts)) ≡ with_front (front ++ t ∷ []) read
+regroup : (front : List Placed) (t : Placed) (read : Result (List Placed) Fault) → with_front front (read >>= λ ts. Ok (t ∷ ts))
+    ≡ with_front (front ++ t ∷ []) read
 regroup front t (Ok ts) = ap (λ (x : List Placed). Ok x) (simp append_assoc)
 regroup front t (Err f) = refl
 
@@ -26,21 +28,25 @@ placed at w = record { at = at; lexeme = w } ∷ []
 abbrev pub Told : ℕ → List Placed → List ℕ → Result (List Placed) Fault → Type 0
 Told size front rest total = with_front front (tokens_at 0 (size - length rest) rest) ≡ total
 
-pub passes_space : (size : ℕ) (front : List Placed) (rest : List ℕ) (total : Result (List Placed) Fault) → 0 < length rest → length rest ≤ size → is_space (get_or rest 0 0) ≡ true → Told size front rest total → Told size front (drop 1 rest) total
+pub passes_space : (size : ℕ) (front : List Placed) (rest : List ℕ) (total : Result (List Placed) Fault) → 0 < length rest
+    → length rest ≤ size → is_space (get_or rest 0 0) ≡ true → Told size front rest total → Told size front (drop 1 rest) total
 unfolding tokens_at
 passes_space size front [] total some within blank so_far = absurd (omega (arith, some))
 passes_space size front (b ∷ bs) total some within blank so_far = grind (arith, nat_tests, common_steps)
 
 -- what a word leaves is shorter
-pub shorter : (at : ℕ) (rest : List ℕ) (w : Lexeme) (after : List ℕ) → 0 < length rest → word_at at rest ≡ Ok (w, after) → length after < length rest
+pub shorter : (at : ℕ) (rest : List ℕ) (w : Lexeme) (after : List ℕ) → 0 < length rest → word_at at rest ≡ Ok (w, after)
+    → length after < length rest
 shorter at [] w after some h = absurd (omega (arith, some))
 shorter at (b ∷ bs) w after some h =
     let e = word_end at b bs w after h in
     let len : length after ≡ length bs - e.len = ap length e.rest_is ∙ length-drop e.len bs in
     omega (arith, len)
 
-pub goes_on : (size : ℕ) (front : List Placed) (rest : List ℕ) (w : Lexeme) (after : List ℕ) (total : Result (List Placed) Fault) → 0 < length rest → length rest ≤ size → is_space (get_or rest 0 0) ≡ false
-    → word_at (size - length rest) rest ≡ Ok (w, after) → Told size front rest total → Told size (front ++ placed (size - length rest) w) after total
+pub goes_on : (size : ℕ) (front : List Placed) (rest : List ℕ) (w : Lexeme) (after : List ℕ) (total : Result (List Placed) Fault)
+    → 0 < length rest → length rest ≤ size → is_space (get_or rest 0 0) ≡ false
+    → word_at (size - length rest) rest ≡ Ok (w, after) → Told size front rest total
+    → Told size (front ++ placed (size - length rest) w) after total
 unfolding tokens_at
 goes_on size front [] w after total some within solid h so_far = absurd (omega (arith, some))
 goes_on size front (b ∷ bs) w after total some within solid h so_far =
@@ -49,23 +55,28 @@ goes_on size front (b ∷ bs) w after total some within solid h so_far =
     let len : length after ≡ length bs - e.len = ap length e.rest_is ∙ length-drop e.len bs in
     let skip : length bs - length after ≡ e.len = omega (arith, len, e.within) in
     let here : at + 1 + e.len ≡ size - length after = omega (arith, len, e.within, within) in
-    let rest : tokens_at (length bs - length after) (at + 1) bs ≡ tokens_at 0 (size - length after) after = rw skip (passes e.len (at + 1) bs ∙ rw (here, ← e.rest_is) refl) in
-    let one : with_front front (tokens_at 0 at (b ∷ bs)) ≡ with_front (front ++ placed at w) (tokens_at 0 (size - length after) after) = rw (solid, h, rest) (regroup front (record { at = at; lexeme = w }) (tokens_at 0 (size - length after) after)) in
+    let rest : tokens_at (length bs - length after) (at + 1) bs
+    ≡ tokens_at 0 (size - length after) after = rw skip (passes e.len (at + 1) bs ∙ rw (here, ← e.rest_is) refl) in
+    let one : with_front front (tokens_at 0 at (b ∷ bs)) ≡ with_front (front ++ placed at w) (tokens_at 0 (size - length after) after) =
+    rw (solid, h, rest) (regroup front (record { at = at; lexeme = w }) (tokens_at 0 (size - length after) after)) in
     sym one ∙ so_far
 
-pub ends : (e : TokenError) (size : ℕ) (front : List Placed) (rest : List ℕ) (total : Result (List Placed) Fault) → 0 < length rest → is_space (get_or rest 0 0) ≡ false → Fails e (word_at (size - length rest) rest) → Told size front rest total → Fails e total
+pub ends : (e : TokenError) (size : ℕ) (front : List Placed) (rest : List ℕ) (total : Result (List Placed) Fault) → 0 < length rest
+    → is_space (get_or rest 0 0) ≡ false → Fails e (word_at (size - length rest) rest) → Told size front rest total → Fails e total
 unfolding tokens_at
 ends errors.NoMemory size front rest total some solid h so_far = tt
 ends (errors.Fault f) size front [] total some solid h so_far = absurd (omega (arith, some))
 ends (errors.Fault f) size front (b ∷ bs) total some solid h so_far = grind (arith, nat_tests, common_steps)
 
-pub is_done : (size : ℕ) (front : List Placed) (rest : List ℕ) (total : Result (List Placed) Fault) → length rest < 1 → Told size front rest total → total ≡ Ok front
+pub is_done : (size : ℕ) (front : List Placed) (rest : List ℕ) (total : Result (List Placed) Fault) → length rest < 1
+    → Told size front rest total → total ≡ Ok front
 unfolding tokens_at
 is_done size front (b ∷ bs) total none so_far = absurd (omega (arith, none))
 is_done size front [] total none so_far = grind (arith, nat_tests, common_steps)
 
 -- where a byte is left that is no white space, a text that has tokens has more than were read
-pub more_left : (size : ℕ) (front : List Placed) (rest : List ℕ) (total : Result (List Placed) Fault) (ts : List Placed) → 0 < length rest → is_space (get_or rest 0 0) ≡ false → Told size front rest total → total ≡ Ok ts → length front < length ts
+pub more_left : (size : ℕ) (front : List Placed) (rest : List ℕ) (total : Result (List Placed) Fault) (ts : List Placed) → 0 < length rest
+    → is_space (get_or rest 0 0) ≡ false → Told size front rest total → total ≡ Ok ts → length front < length ts
 unfolding tokens_at
 more_left size front [] total ts some solid so_far e = absurd (omega (arith, some))
 more_left size front (b ∷ bs) total ts some solid so_far e = grind (arith, nat_tests, common_steps)

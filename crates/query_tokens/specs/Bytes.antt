@@ -3,7 +3,8 @@
 use Rattle.std.specs.Prelude.{ℕ, Bool, false, ◌&&◌, ◌||◌, ◌==◌, nat_lt, List, [], ◌∷◌, Option, Some, None, if◌then◌else◌}
 use Rattle.std.specs.Char.{is_ascii_alphabetic, is_ascii_alphanumeric}
 use Rattle.query_tokens.specs.declared.word.Symbol.{Symbol}
-use Rattle.query_tokens.specs.declared.word.Symbol.TheVariants.{Open, Close, Comma, Star, Semicolon, Equal, Unequal, Less, AtMost, More, AtLeast}
+use Rattle.query_tokens.specs.declared.word.Symbol.TheVariants.{Open, Close, Comma, Star, Semicolon, Equal, Unequal, Less, AtMost, More}
+use Rattle.query_tokens.specs.declared.word.Symbol.TheVariants.{AtLeast}
 
 -- white space: tab, line feed, vertical tab, form feed, carriage return and space (4.1)
 abbrev pub is_space : ℕ → Bool

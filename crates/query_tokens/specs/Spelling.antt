@@ -1,12 +1,14 @@
 -- The canonical spelling of tokens, and texts that are made of spelled tokens and spaces.
-use Rattle.std.specs.Prelude.{ℕ, ◌≤◌, ◌≡◌, Bool, true, false, ◌==◌, ◌||◌, if◌then◌else◌, List, [], ◌∷◌, ◌++◌, map, length, Result, Ok, Contains, FitsSigned, codes}
+use Rattle.std.specs.Prelude.{ℕ, ◌≤◌, ◌≡◌, Bool, true, false, ◌==◌, ◌||◌, if◌then◌else◌, List, [], ◌∷◌, ◌++◌, map, length, Result, Ok}
+use Rattle.std.specs.Prelude.{Contains, FitsSigned, codes}
 use Rattle.std.specs.Int.{w64}
 use Rattle.std.specs.Char.{to_ascii_lowercase}
 use Rattle.std.specs.List.{list_all, flat_map}
 use Rattle.std.specs.Fmt.{signed_decimal}
-use Rattle.grouping_model.specs.declared.limits.TheConstants.{LONGEST_NAME}
+use Rattle.grouping_model.specs.declared.limits.TheConstants.{MAX_NAME_LEN}
 use Rattle.query_tokens.specs.declared.word.Symbol.{Symbol}
-use Rattle.query_tokens.specs.declared.word.Symbol.TheVariants.{Open, Close, Comma, Star, Semicolon, Equal, Unequal, Less, AtMost, More, AtLeast}
+use Rattle.query_tokens.specs.declared.word.Symbol.TheVariants.{Open, Close, Comma, Star, Semicolon, Equal, Unequal, Less, AtMost, More}
+use Rattle.query_tokens.specs.declared.word.Symbol.TheVariants.{AtLeast}
 use Rattle.query_tokens.specs.declared.fault.Fault.{Fault}
 use Rattle.query_tokens.specs.Words.{Lexeme, Name, Integer, Text, Sign, Placed}
 use Rattle.query_tokens.specs.Bytes.{begins_name, is_in_name, first_is}
@@ -18,7 +20,7 @@ pub record IsName (name : List ℕ) : Type 0 where
   pub begins : first_is begins_name name ≡ true
   pub continues : list_all is_in_name name ≡ true
   pub lower : map to_ascii_lowercase name ≡ name
-  pub within : length name ≤ LONGEST_NAME
+  pub within : length name ≤ MAX_NAME_LEN
 
 -- a lexeme that a text can have: a name as above, an integer of 64 bits, a string without the character 0, any symbol
 abbrev pub IsLexeme : Lexeme → Type 0

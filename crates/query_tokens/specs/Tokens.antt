@@ -1,9 +1,10 @@
 -- Which tokens a text has, from left to right, or else its first fault (PostgreSQL 17, 4.1 Lexical Structure; that the
 -- first fault from the left is told, and at which byte: own).
-use Rattle.std.specs.Prelude.{ℕ, zero, suc, ◌+◌, ◌-◌, ◌*◌, ◌^◌, ◌≡◌, ℤ, pos, neg_ℤ, Bool, true, false, nat_lt, nat_le, ◌==◌, ◌&&◌, if◌then◌else◌, List, [], ◌∷◌, map, length, take, drop, Option, Some, None, Result, Ok, Err}
+use Rattle.std.specs.Prelude.{ℕ, zero, suc, ◌+◌, ◌-◌, ◌*◌, ◌^◌, ◌≡◌, ℤ, pos, neg_ℤ, Bool, true, false, nat_lt, nat_le, ◌==◌, ◌&&◌}
+use Rattle.std.specs.Prelude.{if◌then◌else◌, List, [], ◌∷◌, map, length, take, drop, Option, Some, None, Result, Ok, Err}
 use Rattle.std.specs.Char.{is_ascii_digit, to_ascii_lowercase}
 use Rattle.std.specs.List.{prefix_len, list_any}
-use Rattle.grouping_model.specs.declared.limits.TheConstants.{LONGEST_NAME}
+use Rattle.grouping_model.specs.declared.limits.TheConstants.{MAX_NAME_LEN}
 use Rattle.query_tokens.specs.declared.word.Symbol.{Symbol}
 use Rattle.query_tokens.specs.declared.fault.Fault.{Fault}
 use Rattle.query_tokens.specs.declared.fault.Fault.TheVariants.{Syntax, NumberTooLarge}
@@ -33,7 +34,7 @@ Gives view (Err e) read = Fails e read
 unfoldable pub name_at : ℕ → List ℕ → Result (Lexeme × List ℕ) Fault
 name_at at bytes =
     let len = prefix_len is_in_name bytes in
-    if nat_lt LONGEST_NAME len then Err (Syntax at) else Ok (Name (map to_ascii_lowercase (take len bytes)), drop len bytes)
+    if nat_lt MAX_NAME_LEN len then Err (Syntax at) else Ok (Name (map to_ascii_lowercase (take len bytes)), drop len bytes)
 
 -- the number that decimal digits stand for, where those before them stand for so_far
 abbrev pub number_after : ℕ → List ℕ → ℕ

@@ -13,7 +13,8 @@ use Rattle.query_tokens.specs.Spelling.{spell, spell_symbol}
 abbrev pub IsTextOf : Lexeme → List ℕ → Type 0
 IsTextOf (Name name) bytes = map to_ascii_lowercase bytes ≡ name
 IsTextOf (Integer z) bytes =
-    (negative : Bool) × (digits : List ℕ) × (bytes ≡ (if negative then 45 ∷ digits else digits)) × (list_all is_ascii_digit digits ≡ true) × (integer_of negative (number_after 0 digits) ≡ Some z)
+    (negative : Bool) × (digits : List ℕ) × (bytes ≡ (if negative then 45 ∷ digits else digits)) × (list_all is_ascii_digit digits ≡ true)
+    × (integer_of negative (number_after 0 digits) ≡ Some z)
 IsTextOf (Text text) bytes = bytes ≡ spell (Text text)
 IsTextOf (Sign symbol) bytes = (bytes ≡ spell_symbol symbol) ⊎ ((symbol ≡ Unequal) × (bytes ≡ codes "!="))
 
@@ -22,4 +23,5 @@ IsTextOf (Sign symbol) bytes = (bytes ≡ spell_symbol symbol) ⊎ ((symbol ≡ 
 unfoldable pub MakeUp : ℕ → List Placed → List ℕ → Type 0
 MakeUp at [] bytes = list_all is_space bytes ≡ true
 MakeUp at (t ∷ ts) bytes =
-    (blank : List ℕ) × (own : List ℕ) × (rest : List ℕ) × (bytes ≡ blank ++ (own ++ rest)) × (list_all is_space blank ≡ true) × (t.at ≡ at + length blank) × IsTextOf t.lexeme own × MakeUp (t.at + length own) ts rest
+    (blank : List ℕ) × (own : List ℕ) × (rest : List ℕ) × (bytes ≡ blank ++ (own ++ rest)) × (list_all is_space blank ≡ true)
+    × (t.at ≡ at + length blank) × IsTextOf t.lexeme own × MakeUp (t.at + length own) ts rest

@@ -1,19 +1,21 @@
 //! Reading a text from the left.
 
-ghost use Rattle.std.specs.Prelude.{◌≡◌, ◌<◌, ◌≤◌, ◌-◌, List, length, take, drop, slice_index, true, false, Ok, IfOk, IfErr, IfSome, IfNone, IsTrue, option_map};
+ghost use Rattle.std.specs.Prelude.{◌≡◌, ◌<◌, ◌≤◌, ◌-◌, List, length, take, drop, slice_index, true, false, Ok, IfOk, IfErr, IfSome};
+ghost use Rattle.std.specs.Prelude.{IfNone, IsTrue, option_map};
 ghost use Rattle.std.specs.Char.{to_ascii_lowercase, is_ascii_digit};
 ghost use Rattle.std.specs.String.{string_bytes};
 ghost use Rattle.std.specs.List.{All};
 ghost use Rattle.std.specs.Str.{all_ascii_digits};
 ghost use Rattle.query_tokens.specs.Bytes.{begins_name, first_is};
 ghost use Rattle.query_tokens.specs.Spelling.{IsLexeme};
-ghost use Rattle.query_tokens.specs.Tokens.{tokens_in, word_at, name_at, integer_at, text_at, symbol_at, string_content, integer_of, number_after, Fails, Gives};
+ghost use Rattle.query_tokens.specs.Tokens.{tokens_in, word_at, name_at, integer_at, text_at, symbol_at, string_content, integer_of};
+ghost use Rattle.query_tokens.specs.Tokens.{number_after, Fails, Gives};
 ghost use Rattle.query_tokens.specs.Words.{Placed, lexeme_of, all_placed};
 
 use crate::fault::{Fault, TokenError};
 use crate::word::{Symbol, Token, Word};
 use crate::words::{begins_name, digits_len, is_space, name_len, symbol_of_one, symbol_of_two};
-use grouping_model::limits::LONGEST_NAME;
+use grouping_model::limits::MAX_NAME_LEN;
 use std::alloc::{AllocError, Global};
 
 /// The first bytes of a text, the last of which is ASCII, and those behind them.
@@ -32,7 +34,7 @@ fn name_at(alloc: Global, at: usize, text: &str) -> Result<(Word, &str), TokenEr
     ensures { Gives (λ x. (lexeme_of x.0, x.1.now)) result (name_at at text.now) }
 {
     let len = name_len(text.as_bytes());
-    if len > LONGEST_NAME {
+    if len > MAX_NAME_LEN {
         return Err(TokenError::Fault(Fault::Syntax { at }));
     }
     let (front, rest) = cut(text, len);

@@ -1,6 +1,7 @@
 -- The inputs of an answer, and the answer that their groups give.
 use Rattle.std.specs.Borrow.{Bor}
-use Rattle.std.specs.Prelude.{◌≡◌, refl, ℕ, ◌+◌, ◌*◌, ◌<◌, ◌≤◌, true, false, cond, List, [], ◌∷◌, ◌++◌, map, filter, flat_map, length, Bool, All, Some}
+use Rattle.std.specs.Prelude.{◌≡◌, refl, ℕ, ◌+◌, ◌*◌, ◌<◌, ◌≤◌, true, false, cond, List, [], ◌∷◌, ◌++◌, map, filter, flat_map, length, Bool}
+use Rattle.std.specs.Prelude.{All, Some}
 use Rattle.std.proofs.Common.{sym, ◌∙◌, ap, subst, arith}
 use Rattle.std.proofs.lemmas.List.{length-map}
 use Rattle.std.proofs.lemmas.List.Sums.{sum_by-cons}
@@ -9,7 +10,9 @@ use Rattle.std.specs.List.{AllByRecursion}
 use Rattle.std.specs.List.Sorted.{IsStrictlySortedBy}
 use Rattle.std.proofs.lemmas.List.Sorted.{All-permutation}
 use Rattle.std.specs.Ordering.{nat_cmp}
-use Rattle.replica_merge.proofs.Words.{each_weaker, each_both, LAST_ORIGIN, LAST_NUMBER, MOST_ROWS, Row, Query, Group, part, World, origin_rows, known_rows, rows_upto, Checked, meaning, AreGroups, Part, FitsOrigin, Parts, part_at, part_of, told, Held, Fits, IsHeldPart, AreHeldParts, counted_part, brought_by, IsRunAlone, IsUnion}
+use Rattle.replica_merge.proofs.Words.{each_weaker, each_both, LAST_ORIGIN, LAST_NUMBER, MAX_ROWS, Row, Query, Group, part, World}
+use Rattle.replica_merge.proofs.Words.{origin_rows, known_rows, rows_upto, Checked, meaning, AreGroups, Part, FitsOrigin, Parts, part_at}
+use Rattle.replica_merge.proofs.Words.{part_of, told, Held, Fits, IsHeldPart, AreHeldParts, counted_part, brought_by, IsRunAlone, IsUnion}
 use Rattle.grouping_model.specs.Sorting.{sorted_moves}
 use Rattle.grouping_model.specs.Aggregates.{Outcome}
 use Rattle.grouping_model.specs.Condition.{is_met}
@@ -17,7 +20,7 @@ use Rattle.grouping_model.specs.Order.{comes_before}
 use Rattle.grouping_model.specs.Answer.{source_in, answered, rows_of, answer_of, answer}
 use Rattle.agg_protocol.specs.States.{most_rows}
 use Rattle.group_runs.specs.Runs.{Entry}
-use Rattle.packed_rows.specs.RowsOnEnd.{on_end}
+use Rattle.packed_rows.specs.ConcatenatedRows.{concatenated}
 use Rattle.hash_agg.specs.Inputs.{Brought, IsInput, AreInputsOf, all_rows, rows_in}
 use Rattle.origin_prefix.specs.Lemmas.ByNumber.{numbers, above_first, rising_rest}
 use Rattle.replica_merge.proofs.ToldLaws.{HasGap, part_gap, prefix_told, origins_told, each_at, part_here}
@@ -26,31 +29,36 @@ use Rattle.replica_merge.proofs.UnionLaws.{one_part}
 -- ---- inputs
 
 -- the parts may be aggregated
-pub part_inputs : (query : Checked) (parts : Parts) → AllByRecursion (IsHeldPart query) parts → AllByRecursion (IsInput (meaning query)) (map counted_part parts)
+pub part_inputs : (query : Checked) (parts : Parts) → AllByRecursion (IsHeldPart query) parts
+    → AllByRecursion (IsInput (meaning query)) (map counted_part parts)
 part_inputs query [] each = tt
 part_inputs query (held ∷ parts) each = (each.0.part.run, part_inputs query parts each.1)
 
 -- there are few parts
-few_origins : (query : Checked) (first : ℕ) (parts : Parts) → first ≤ LAST_ORIGIN + 1 → IsStrictlySortedBy nat_cmp (numbers parts) → AllByRecursion (IsHeldPart query) parts
+few_origins : (query : Checked) (first : ℕ) (parts : Parts) → first ≤ LAST_ORIGIN + 1 → IsStrictlySortedBy nat_cmp (numbers parts)
+    → AllByRecursion (IsHeldPart query) parts
     → AllByRecursion (λ (e : ℕ × Part). first ≤ e.0) parts → first + length parts ≤ LAST_ORIGIN + 1
 few_origins query first [] low rising each above = omega (arith, low)
 few_origins query first (held ∷ parts) low rising each above =
     let here : held.0 ≤ LAST_ORIGIN = each.0.within in
     let from : first ≤ held.0 = above.0 in
     let rest : held.0 + 1 + length parts ≤ LAST_ORIGIN + 1 =
-    few_origins query (held.0 + 1) parts (omega (arith, here)) (rising_rest held parts rising) each.1 (later parts (above_first held.0 held.1 parts rising)) in
+    few_origins query (held.0 + 1) parts (omega (arith, here)) (rising_rest held parts rising) each.1
+    (later parts (above_first held.0 held.1 parts rising)) in
     omega (arith, rest, from)
   where
     later : (ps : Parts) → AllByRecursion (λ (e : ℕ × Part). held.0 < e.0) ps → AllByRecursion (λ (e : ℕ × Part). held.0 + 1 ≤ e.0) ps
     later [] all = tt
     later (e ∷ ps) all = (let l = all.0 in omega (arith, l), later ps all.1)
 
-few_each : (query : Checked) (parts : Parts) → AllByRecursion (IsHeldPart query) parts → all_rows (map counted_part parts) ≤ length parts * (LAST_NUMBER * MOST_ROWS)
+few_each : (query : Checked) (parts : Parts) → AllByRecursion (IsHeldPart query) parts → all_rows (map counted_part parts) ≤ length parts
+    * (LAST_NUMBER * MAX_ROWS)
 few_each query [] each = omega arith
 few_each query (held ∷ parts) each =
     let one : held.1.prefix ≤ LAST_NUMBER = each.0.part.within in
-    let rest : all_rows (map counted_part parts) ≤ length parts * (LAST_NUMBER * MOST_ROWS) = few_each query parts each.1 in
-    let sum : all_rows (map counted_part (held ∷ parts)) ≡ held.1.prefix * MOST_ROWS + all_rows (map counted_part parts) = sum_by-cons rows_in (counted_part held) (map counted_part parts) in
+    let rest : all_rows (map counted_part parts) ≤ length parts * (LAST_NUMBER * MAX_ROWS) = few_each query parts each.1 in
+    let sum : all_rows (map counted_part (held ∷ parts)) ≡ held.1.prefix * MAX_ROWS
+    + all_rows (map counted_part parts) = sum_by-cons rows_in (counted_part held) (map counted_part parts) in
     omega (arith, one, rest, sum)
 
 all_above_zero : (ps : Parts) → AllByRecursion (λ (e : ℕ × Part). 0 ≤ e.0) ps
@@ -60,7 +68,7 @@ all_above_zero (e ∷ ps) = (omega arith, all_above_zero ps)
 pub few_parts : (query : Checked) (parts : Parts) → AreHeldParts query parts → all_rows (map counted_part parts) ≤ most_rows
 few_parts query parts held =
     let count : 0 + length parts ≤ LAST_ORIGIN + 1 = few_origins query 0 parts (omega arith) held.rising held.each (all_above_zero parts) in
-    let rows : all_rows (map counted_part parts) ≤ length parts * (LAST_NUMBER * MOST_ROWS) = few_each query parts held.each in
+    let rows : all_rows (map counted_part parts) ≤ length parts * (LAST_NUMBER * MAX_ROWS) = few_each query parts held.each in
     omega (arith, count, rows)
 
 -- ---- rows of a world
@@ -69,34 +77,44 @@ few_parts query parts held =
 abbrev pub part_rows : World → ℕ × Part → List Row
 part_rows world held = rows_upto world held.0 held.1.prefix
 
-are_inputs : (q : Query) (world : World) (parts : Parts) → AllByRecursion (λ (e : ℕ × Part). FitsOrigin q world e.0 e.1) parts → AreInputsOf q (map counted_part parts) (map (part_rows world) parts)
+are_inputs : (q : Query) (world : World) (parts : Parts) → AllByRecursion (λ (e : ℕ × Part). FitsOrigin q world e.0 e.1) parts
+    → AreInputsOf q (map counted_part parts) (map (part_rows world) parts)
 are_inputs q world [] all = tt
 are_inputs q world (e ∷ parts) all = (all.0.run, are_inputs q world parts all.1)
 
-flat_same : (f : ℕ → List Row) (g : ℕ × Part → List Row) (es : Parts) → AllByRecursion (λ (e : ℕ × Part). f e.0 ≡ g e) es → flat_map f (numbers es) ≡ on_end (map g es)
+flat_same : (f : ℕ → List Row) (g : ℕ × Part → List Row) (es : Parts) → AllByRecursion (λ (e : ℕ × Part). f e.0 ≡ g e) es
+    → flat_map f (numbers es) ≡ concatenated (map g es)
 flat_same f g [] all = refl
 flat_same f g (e ∷ es) all = (λ i. all.0 i ++ flat_same f g es all.1 i)
 
-known_rows_are : (query : Checked) (world : World) (parts : Parts) → AreHeldParts query parts → known_rows world (told parts) ≡ on_end (map (part_rows world) parts)
+known_rows_are : (query : Checked) (world : World) (parts : Parts) → AreHeldParts query parts → known_rows world (told parts)
+    ≡ concatenated (map (part_rows world) parts)
 known_rows_are query world parts held =
     ap (flat_map (origin_rows world (told parts))) (origins_told query parts held)
     ∙ flat_same (origin_rows world (told parts)) (part_rows world) parts
-    (each_both (IsHeldPart query) (λ (e : ℕ × Part). part_at parts e.0 ≡ Some e.1) (λ (e : ℕ × Part). origin_rows world (told parts) e.0 ≡ part_rows world e)
+    (each_both (IsHeldPart query) (λ (e : ℕ × Part). part_at parts e.0 ≡ Some e.1) (λ (e : ℕ × Part). origin_rows world (told parts) e.0
+    ≡ part_rows world e)
     (λ e is there.
     let here : part_of parts e.0 ≡ e.1 = part_here parts e.0 e.1 there in
-    ap (rows_upto world e.0) (prefix_told parts held.rising e.0 (subst HasGap (sym here) (part_gap query e.1 is.part)) ∙ ap (λ (p : Part). p.prefix) here))
+    ap (rows_upto world e.0) (prefix_told parts held.rising e.0 (subst HasGap (sym here) (part_gap query e.1 is.part))
+    ∙ ap (λ (p : Part). p.prefix) here))
     parts held.each (each_at parts held.rising))
 
-pub fit_each : (world : World) (held : Held) → Fits world held → IsStrictlySortedBy nat_cmp (numbers held.parts) → AllByRecursion (λ (e : ℕ × Part). FitsOrigin (meaning held.query) world e.0 e.1) held.parts
+pub fit_each : (world : World) (held : Held) → Fits world held → IsStrictlySortedBy nat_cmp (numbers held.parts)
+    → AllByRecursion (λ (e : ℕ × Part). FitsOrigin (meaning held.query) world e.0 e.1) held.parts
 fit_each world held fits rising =
     each_weaker (λ (e : ℕ × Part). part_at held.parts e.0 ≡ Some e.1) (λ (e : ℕ × Part). FitsOrigin (meaning held.query) world e.0 e.1)
-    (λ e there. subst (FitsOrigin (meaning held.query) world e.0) (part_here held.parts e.0 e.1 there) (fits e.0)) held.parts (each_at held.parts rising)
+    (λ e there. subst (FitsOrigin (meaning held.query) world e.0) (part_here held.parts e.0 e.1 there) (fits e.0)) held.parts
+    (each_at held.parts rising)
 
 -- the groups of the rows of the unbroken prefixes
-pub groups_known : (held : Held) (run : List Entry) (world : World) → AreHeldParts held.query held.parts → Fits world held → IsUnion (meaning held.query) (map counted_part held.parts) run
-    → AreGroups (meaning held.query) (all_rows (map counted_part held.parts)) run (part (meaning held.query) (known_rows world (told held.parts)))
+pub groups_known : (held : Held) (run : List Entry) (world : World) → AreHeldParts held.query held.parts → Fits world held
+    → IsUnion (meaning held.query) (map counted_part held.parts) run
+    → AreGroups (meaning held.query) (all_rows (map counted_part held.parts)) run
+    (part (meaning held.query) (known_rows world (told held.parts)))
 groups_known held run world is fits given =
-    subst (λ rows. AreGroups (meaning held.query) (all_rows (map counted_part held.parts)) run (part (meaning held.query) rows)) (sym (known_rows_are held.query world held.parts is))
+    subst (λ rows. AreGroups (meaning held.query) (all_rows (map counted_part held.parts)) run (part (meaning held.query) rows))
+    (sym (known_rows_are held.query world held.parts is))
     (given.part (map (part_rows world) held.parts) (are_inputs (meaning held.query) world held.parts (fit_each world held fits is.rising)))
 
 -- ---- a run that is shown
@@ -107,14 +125,17 @@ pub record IsOfParts (held : Held) (run : List Entry) : Type 0 where
   pub few : most ≤ most_rows
   pub groups : List Group
   pub are : AreGroups (meaning held.query) most run groups
-  pub known : (world : World) → Fits world held → AreGroups (meaning held.query) most run (part (meaning held.query) (known_rows world (told held.parts)))
+  pub known : (world : World) → Fits world held
+      → AreGroups (meaning held.query) most run (part (meaning held.query) (known_rows world (told held.parts)))
 
 -- what a replica may show
-pub shows : (held : Held) (run : List Entry) → IsOfParts held run → (most : ℕ) × (groups : List Group) × AreGroups (meaning held.query) most run groups × (most ≤ most_rows)
+pub shows : (held : Held) (run : List Entry) → IsOfParts held run → (most : ℕ) × (groups : List Group)
+    × AreGroups (meaning held.query) most run groups × (most ≤ most_rows)
 shows held run of = (of.most, of.groups, of.are, of.few)
 
 -- the run that unites what all parts bring
-pub whole_run : (held : Held) (inputs : List Brought) (run : List Entry) → AreHeldParts held.query held.parts → inputs ≡ map counted_part held.parts
+pub whole_run : (held : Held) (inputs : List Brought) (run : List Entry) → AreHeldParts held.query held.parts → inputs
+    ≡ map counted_part held.parts
     → IsUnion (meaning held.query) inputs run → IsOfParts held run
 whole_run held inputs run is all union =
     let q : Query = meaning held.query in
@@ -128,30 +149,38 @@ whole_run held inputs run is all union =
     }
 
 -- what is asked of what they bring
-pub listed_inputs : (query : Checked) (parts : Parts) (inputs : List Brought) → AreHeldParts query parts → inputs ≡ map counted_part parts → AllByRecursion (IsInput (meaning query)) inputs
+pub listed_inputs : (query : Checked) (parts : Parts) (inputs : List Brought) → AreHeldParts query parts → inputs ≡ map counted_part parts
+    → AllByRecursion (IsInput (meaning query)) inputs
 listed_inputs query parts inputs is all = subst (AllByRecursion (IsInput (meaning query))) (sym all) (part_inputs query parts is.each)
 
-pub listed_few : (query : Checked) (parts : Parts) (inputs : List Brought) → AreHeldParts query parts → inputs ≡ map counted_part parts → all_rows inputs ≤ most_rows
+pub listed_few : (query : Checked) (parts : Parts) (inputs : List Brought) → AreHeldParts query parts → inputs ≡ map counted_part parts
+    → all_rows inputs ≤ most_rows
 listed_few query parts inputs is all = subst (λ those. all_rows those ≤ most_rows) (sym all) (few_parts query parts is)
 
 -- the run of the only part
-pub only_run : (held : Held) (parts : List (Bor Part)) (run : List Entry) → AreHeldParts held.query held.parts → brought_by parts ≡ map counted_part held.parts → IsRunAlone parts run → IsOfParts held run
+pub only_run : (held : Held) (parts : List (Bor Part)) (run : List Entry) → AreHeldParts held.query held.parts → brought_by parts
+    ≡ map counted_part held.parts → IsRunAlone parts run → IsOfParts held run
 only_run held parts run is all alone =
-    whole_run held (brought_by parts) run is all (one_part (meaning held.query) parts run (listed_inputs held.query held.parts (brought_by parts) is all) alone)
+    whole_run held (brought_by parts) run is all
+    (one_part (meaning held.query) parts run (listed_inputs held.query held.parts (brought_by parts) is all) alone)
 
 -- ---- answers
 
 -- each row has the query's items
 pub rows_wide : (q : Query) (groups : List Group) → All (λ (row : List Outcome). length row ≡ length q.items) (answer_of q groups)
 rows_wide q groups =
-    All-permutation (λ (row : List Outcome). length row ≡ length q.items) (rows_of q (answered q groups)) (answer_of q groups) (sorted_moves (comes_before q.order) (rows_of q (answered q groups)))
+    All-permutation (λ (row : List Outcome). length row ≡ length q.items) (rows_of q (answered q groups)) (answer_of q groups)
+    (sorted_moves (comes_before q.order) (rows_of q (answered q groups)))
     (All-from_recursion (λ (row : List Outcome). length row ≡ length q.items) (rows_of q (answered q groups)) (each (answered q groups)))
   where
     each : (groups : List Group) → AllByRecursion (λ (row : List Outcome). length row ≡ length q.items) (rows_of q groups)
     each [] = tt
     each (g ∷ groups) = first (is_met (source_in g) q.having) (each groups)
       where
-        first : (b : Bool) → AllByRecursion (λ (row : List Outcome). length row ≡ length q.items) (rows_of q groups) → AllByRecursion (λ (row : List Outcome). length row ≡ length q.items) (map (λ (group : Group). map (source_in group) q.items) (cond b (g ∷ filter (λ (group : Group). is_met (source_in group) q.having) groups) (filter (λ (group : Group). is_met (source_in group) q.having) groups)))
+        first : (b : Bool) → AllByRecursion (λ (row : List Outcome). length row ≡ length q.items) (rows_of q groups)
+            → AllByRecursion (λ (row : List Outcome). length row ≡ length q.items) (map (λ (group : Group). map (source_in group) q.items)
+            (cond b (g ∷ filter (λ (group : Group). is_met (source_in group) q.having) groups)
+            (filter (λ (group : Group). is_met (source_in group) q.having) groups)))
         first true others = (length-map q.items (source_in g), others)
         first false others = others
 
@@ -163,9 +192,11 @@ ShownBy q run rows = (most : ℕ) (groups : List Group) → most ≤ most_rows �
 pub shown_wide : (held : Held) (run : List Entry) (rows : List (List Outcome)) → IsOfParts held run → ShownBy (meaning held.query) run rows
     → All (λ (row : List Outcome). length row ≡ length (meaning held.query).items) rows
 shown_wide held run rows of shown =
-    subst (All (λ (row : List Outcome). length row ≡ length (meaning held.query).items)) (sym (shown of.most of.groups of.few of.are)) (rows_wide (meaning held.query) of.groups)
+    subst (All (λ (row : List Outcome). length row ≡ length (meaning held.query).items)) (sym (shown of.most of.groups of.few of.are))
+    (rows_wide (meaning held.query) of.groups)
 
-pub shown_answer : (held : Held) (run : List Entry) (rows : List (List Outcome)) → IsOfParts held run → ShownBy (meaning held.query) run rows
+pub shown_answer : (held : Held) (run : List Entry) (rows : List (List Outcome)) → IsOfParts held run
+    → ShownBy (meaning held.query) run rows
     → (world : World) → Fits world held → rows ≡ answer (meaning held.query) world (told held.parts)
 shown_answer held run rows of shown world fits =
     shown of.most (part (meaning held.query) (known_rows world (told held.parts))) of.few (of.known world fits)

@@ -1,5 +1,6 @@
 -- What a replica holds and tells after a batch.
-use Rattle.std.specs.Prelude.{◌≡◌, ◌≢◌, refl, ℕ, ◌+◌, ◌<◌, ◌≤◌, ◌⊎◌, ◌==◌, ◌||◌, ◌&&◌, nat_le, Bool, true, false, cond, List, [], ◌∷◌, Option, Some, None, unwrap_or, if◌then◌else◌, Result, Ok, Err, IfOk, IfErr, OnOk, IsTrue}
+use Rattle.std.specs.Prelude.{◌≡◌, ◌≢◌, refl, ℕ, ◌+◌, ◌<◌, ◌≤◌, ◌⊎◌, ◌==◌, ◌||◌, ◌&&◌, nat_le, Bool, true, false, cond, List, [], ◌∷◌}
+use Rattle.std.specs.Prelude.{Option, Some, None, unwrap_or, if◌then◌else◌, Result, Ok, Err, IfOk, IfErr, OnOk, IsTrue}
 use Rattle.std.proofs.Common.{◌∙◌, sym, ap, subst, inl, inr, arith}
 use Rattle.std.proofs.lemmas.Bool.{true≢false}
 use Rattle.std.proofs.lemmas.Map.Steps.{set_value_same}
@@ -11,12 +12,15 @@ use Rattle.std.specs.BTreeMap.{BTreeMap, insert_entry, is_at, WritesThrough}
 use Rattle.std.specs.Ordering.{eq_by_cmp, nat_cmp, is_eq, match_ordering}
 use Rattle.std.specs.declared.cmp.Ordering.TheVariants.{Less, Equal, Greater}
 use Rattle.std.proofs.lemmas.Result.{IfOk-weaker, IfErr-weaker}
-use Rattle.replica_merge.proofs.Words.{LAST_ORIGIN, Row, InLimits, reply_of, World, IsWorld, knows, learn, prefix, kinds, packings, Checked, meaning, Part, empty, rows_at, tells, IsEarly, IsPartOf, Delivers, Disagrees, BatchTells, OriginDisagrees, Spill, FitsOrigin, Parts, part_at, part_of, told, Held, Fits, IsHeldPart, AreHeldParts, DeliversAt, RefusesAt}
+use Rattle.replica_merge.proofs.Words.{LAST_ORIGIN, Row, InLimits, reply_of, World, IsWorld, knows, learn, prefix, kinds, packings, Checked}
+use Rattle.replica_merge.proofs.Words.{meaning, Part, empty, rows_at, tells, IsEarly, IsPartOf, Delivers, Disagrees, BatchTells}
+use Rattle.replica_merge.proofs.Words.{OriginDisagrees, Spill, FitsOrigin, Parts, part_at, part_of, told, Held, Fits, IsHeldPart}
+use Rattle.replica_merge.proofs.Words.{AreHeldParts, DeliversAt, RefusesAt}
 use Rattle.grouping_model.specs.declared.delivered.Delivered.{Delivered}
 use Rattle.grouping_model.specs.declared.delivered.Delivered.TheVariants.{Folded, Early, Known}
 use Rattle.grouping_model.specs.KnowledgeLaws.{same_knowledge, knows_learn}
 use Rattle.batch_reader.specs.declared.batch.Batch.{Batch}
-use Rattle.spill_lists.specs.declared.error.SpillError.{SpillError}
+use Rattle.spill_partitions.specs.declared.error.SpillError.{SpillError}
 use Rattle.origin_prefix.specs.declared.error.RefusedBatch.{RefusedBatch}
 use Rattle.origin_prefix.specs.Lemmas.Lists.{is_itself, is_other, same_or_other}
 use Rattle.origin_prefix.specs.Lemmas.ByNumber.{at, found_holds, all_found, put_same, put_else}
@@ -28,14 +32,16 @@ use Rattle.replica_merge.proofs.ToldLaws.{told_is, same_batch, HasGap, part_gap,
 -- ---- maps
 
 -- an entry that was put and taken out again
-pub taken_out : {X : Type 0} (es : List (ℕ × X)) (n : ℕ) (x : X) → at es n ≡ None → remove_entry (is_at (nat_cmp n)) (insert_entry nat_cmp es n x) ≡ es
+pub taken_out : {X : Type 0} (es : List (ℕ × X)) (n : ℕ) (x : X) → at es n ≡ None
+    → remove_entry (is_at (nat_cmp n)) (insert_entry nat_cmp es n x) ≡ es
 taken_out [] n x none = ap (λ b. cond b [] ((n, x) ∷ [])) (is_itself n)
 taken_out (e ∷ es) n x none =
     elim (nat_cmp n e.0) as (λ o. nat_cmp n e.0 ≡ o → cond (is_eq o) (Some e.1) (at es n) ≡ None
     → remove_entry (is_at (nat_cmp n)) (match_ordering o ((n, x) ∷ e ∷ es) ((e.0, x) ∷ es) (e ∷ insert_entry nat_cmp es n x)) ≡ e ∷ es) [
       | Less ↦ λ is none. ap (λ b. cond b (e ∷ es) ((n, x) ∷ remove_entry (is_at (nat_cmp n)) (e ∷ es))) (is_itself n)
       | Equal ↦ λ is none. absurd (some_none none)
-      | Greater ↦ λ is none. ap (λ o. cond (is_eq o) (insert_entry nat_cmp es n x) (e ∷ remove_entry (is_at (nat_cmp n)) (insert_entry nat_cmp es n x))) is ∙ ap (λ fs. e ∷ fs) (taken_out es n x none)
+      | Greater ↦ λ is none. ap (λ o. cond (is_eq o) (insert_entry nat_cmp es n x) (e
+          ∷ remove_entry (is_at (nat_cmp n)) (insert_entry nat_cmp es n x))) is ∙ ap (λ fs. e ∷ fs) (taken_out es n x none)
     ] refl none
   where
     some_none : {X : Type 0} {y : X} → ◌≡◌ {A = Option X} (Some y) None → ⊥
@@ -48,17 +54,20 @@ when_fine (Err x) P p e = absurd (true≢false e)
 
 -- ---- one part takes the batch
 
-pub taken_at : (r : Result Delivered RefusedBatch) (honest : Bool) (query : Checked) (old new : BTreeMap ℕ Part) (batch : Batch) (before after : Part)
+pub taken_at : (r : Result Delivered RefusedBatch) (honest : Bool) (query : Checked) (old new : BTreeMap ℕ Part) (batch : Batch)
+    (before after : Part)
     → part_at old.entries batch.origin ≡ Some before → WritesThrough nat_cmp (nat_cmp batch.origin) old after new → IsPartOf query after
     → IfOk r (Delivers honest (meaning query) before batch.number batch.rows after) → IfErr r (λ e. (e.batch ≡ batch) × (after ≡ before))
     → IfErr r (λ e. BatchTells e.why before batch.number batch.rows)
-    → IfOk r (DeliversAt honest query old.entries batch.origin batch.number batch.rows new.entries) × IfErr r (RefusesAt old.entries batch new.entries)
+    → IfOk r (DeliversAt honest query old.entries batch.origin batch.number batch.rows new.entries)
+    × IfErr r (RefusesAt old.entries batch new.entries)
 taken_at (Ok reply) honest query old new batch before after there written is d refused tells =
     let updates = written.3 (ap is_some there) in (
       record {
         part = after;
         own = updates.1;
-        delivers = subst (λ (p : Part). Delivers honest (meaning query) p batch.number batch.rows after reply) (sym (part_here old.entries batch.origin before there)) d;
+        delivers = subst (λ (p : Part). Delivers honest (meaning query) p batch.number batch.rows after reply)
+            (sym (part_here old.entries batch.origin before there)) d;
         is_part = is;
         others = λ other apart. updates.2 other (is_other batch.origin other (λ e. apart (sym e)));
         rising = written.4;
@@ -70,18 +79,22 @@ taken_at (Err e) honest query old new batch before after there written is d refu
       tt,
       record {
         back = refused.0;
-        same = written.0 ∙ ap (set_value (is_at (nat_cmp batch.origin)) old.entries) refused.1 ∙ set_value_same (is_at (nat_cmp batch.origin)) old.entries before there;
+        same = written.0 ∙ ap (set_value (is_at (nat_cmp batch.origin)) old.entries) refused.1
+            ∙ set_value_same (is_at (nat_cmp batch.origin)) old.entries before there;
         tells = subst (λ (p : Part). BatchTells e.why p batch.number batch.rows) here tells;
       },
     )
 
 -- the part that was made for the first batch of an origin is nothing, as it was before
-pub made_part : (old between : Parts) (o : ℕ) → part_at old o ≡ None → between ≡ insert_entry nat_cmp old o empty → part_of between o ≡ part_of old o
+pub made_part : (old between : Parts) (o : ℕ) → part_at old o ≡ None → between ≡ insert_entry nat_cmp old o empty → part_of between o
+    ≡ part_of old o
 made_part old between o none put =
-    ap (λ ps. part_of ps o) put ∙ ap (λ found. unwrap_or found empty) (put_same old o empty) ∙ sym (ap (λ found. unwrap_or found empty) none)
+    ap (λ ps. part_of ps o) put ∙ ap (λ found. unwrap_or found empty) (put_same old o empty)
+    ∙ sym (ap (λ found. unwrap_or found empty) none)
 
 -- the first batch of an origin
-pub first_delivers : (honest : Bool) (query : Checked) (old between new : Parts) (o n : ℕ) (rows : List (List ℕ)) (reply : Delivered) → part_at old o ≡ None → between ≡ insert_entry nat_cmp old o empty
+pub first_delivers : (honest : Bool) (query : Checked) (old between new : Parts) (o n : ℕ) (rows : List (List ℕ)) (reply : Delivered)
+    → part_at old o ≡ None → between ≡ insert_entry nat_cmp old o empty
     → DeliversAt honest query between o n rows new reply → DeliversAt honest query old o n rows new reply
 first_delivers honest query old between new o n rows reply none put d =
     let nothing : part_of between o ≡ part_of old o = made_part old between o none put in
@@ -94,7 +107,8 @@ first_delivers honest query old between new o n rows reply none put d =
       rising = d.rising;
     }
 
-pub first_refused : (old between failed new : Parts) (batch : Batch) (e : RefusedBatch) → part_at old batch.origin ≡ None → between ≡ insert_entry nat_cmp old batch.origin empty
+pub first_refused : (old between failed new : Parts) (batch : Batch) (e : RefusedBatch) → part_at old batch.origin ≡ None → between
+    ≡ insert_entry nat_cmp old batch.origin empty
     → RefusesAt between batch failed e → new ≡ remove_entry (is_at (nat_cmp batch.origin)) failed → RefusesAt old batch new e
 first_refused old between failed new batch e none put r removed =
     let nothing : part_of between batch.origin ≡ part_of old batch.origin = made_part old between batch.origin none put in
@@ -131,7 +145,8 @@ part_has_gap query parts held o = part_gap query (part_of parts o) (part_is quer
 pub some_if_tells : (p : Part) (n : ℕ) → tells p n ≡ true → (0 < p.prefix) ⊎ (p.early ≢ [])
 some_if_tells p n known =
     elim p.early as (λ es. p.early ≡ es → (0 < p.prefix) ⊎ (p.early ≢ [])) [
-      | [] ↦ λ e. inl (within (nat_le 1 n) (nat_le n p.prefix) refl refl (sym (ap (λ es. (nat_le 1 n && nat_le n p.prefix) || is_some (rows_at es n)) e) ∙ known))
+      | [] ↦ λ e. inl (within (nat_le 1 n) (nat_le n p.prefix) refl refl
+          (sym (ap (λ es. (nat_le 1 n && nat_le n p.prefix) || is_some (rows_at es n)) e) ∙ known))
       | b ∷ bs ↦ λ e. inr (λ none. absurd (some_none (sym e ∙ none)))
     ] refl
   where
@@ -148,21 +163,26 @@ some_if_tells p n known =
     within false b one two e = absurd (true≢false (sym e))
 
 -- a batch that is taken isn't there already with other rows
-taken_agrees : (honest : Bool) (query : Checked) (old new : Part) (n : ℕ) (rows : List (List ℕ)) (reply : Delivered) → IsPartOf query old → Delivers honest (meaning query) old n rows new reply → ¬ (Disagrees old n rows)
+taken_agrees : (honest : Bool) (query : Checked) (old new : Part) (n : ℕ) (rows : List (List ℕ)) (reply : Delivered) → IsPartOf query old
+    → Delivers honest (meaning query) old n rows new reply → ¬ (Disagrees old n rows)
 taken_agrees honest query old new n rows Known is d there = there.other (d.1 there.kept there.there)
-taken_agrees honest query old new n rows Early is d there = absurd (true≢false (sym (ap is_some there.there) ∙ not_early (nat_le 1 n && nat_le n old.prefix) (is_some (rows_at old.early n)) d.0))
+taken_agrees honest query old new n rows Early is d there = absurd (true≢false (sym (ap is_some there.there)
+    ∙ not_early (nat_le 1 n && nat_le n old.prefix) (is_some (rows_at old.early n)) d.0))
   where
     not_early : (a b : Bool) → (a || b) ≡ false → b ≡ false
     not_early true b e = absurd (true≢false e)
     not_early false b e = e
 taken_agrees honest query old new n rows (Folded upto) is d there =
-    let behind : old.prefix + 1 < n = (found_holds (IsEarly (kinds query.columns) old.prefix) old.early n there.kept is.early there.there).behind in
+    let behind : old.prefix
+    + 1 < n = (found_holds (IsEarly (kinds query.columns) old.prefix) old.early n there.kept is.early there.there).behind in
     let next : n ≡ old.prefix + 1 = d.0 in
     absurd (omega (arith, behind, next))
 
-module _ (honest : Bool) (query : Checked) (old new : Parts) (o n : ℕ) (rows : List (List ℕ)) (reply : Delivered) (held : AreHeldParts query old) (limits : InLimits (o, n)) (d : DeliversAt honest query old o n rows new reply) where
+module _ (honest : Bool) (query : Checked) (old new : Parts) (o n : ℕ) (rows : List (List ℕ)) (reply : Delivered)
+    (held : AreHeldParts query old) (limits : InLimits (o, n)) (d : DeliversAt honest query old o n rows new reply) where
   tells_more : (m : ℕ) → tells d.part m ≡ (eq_by_cmp nat_cmp m n || tells (part_of old o) m)
-  tells_more m = delivered_tells honest query (meaning query) (part_of old o) d.part n rows reply (part_is query old held o) limits.1 d.delivers m
+  tells_more m = delivered_tells honest query (meaning query) (part_of old o) d.part n rows reply (part_is query old held o) limits.1
+      d.delivers m
 
   pub delivered_held : AreHeldParts query new
   delivered_held =
@@ -187,14 +207,17 @@ module _ (honest : Bool) (query : Checked) (old new : Parts) (o n : ℕ) (rows :
       same_knowledge (told new) (learn (told old) (o, n)) (λ batch.
       told_is new d.rising batch.0 batch.1
       ∙ go batch.0 batch.1 (same_or_other batch.0 o)
-      ∙ sym (knows_learn (told old) (o, n) batch ∙ ap (λ b. b || knows (told old) batch) (same_batch batch.0 batch.1 o n) ∙ ap (λ b. (eq_by_cmp nat_cmp batch.0 o && eq_by_cmp nat_cmp batch.1 n) || b) (told_is old held.rising batch.0 batch.1)))
+      ∙ sym (knows_learn (told old) (o, n) batch ∙ ap (λ b. b || knows (told old) batch) (same_batch batch.0 batch.1 o n)
+      ∙ ap (λ b. (eq_by_cmp nat_cmp batch.0 o && eq_by_cmp nat_cmp batch.1 n) || b) (told_is old held.rising batch.0 batch.1)))
     where
-      go : (k m : ℕ) → (k ≡ o) ⊎ (k ≢ o) → tells (part_of new k) m ≡ ((eq_by_cmp nat_cmp k o && eq_by_cmp nat_cmp m n) || tells (part_of old k) m)
+      go : (k m : ℕ) → (k ≡ o) ⊎ (k ≢ o) → tells (part_of new k) m ≡ ((eq_by_cmp nat_cmp k o && eq_by_cmp nat_cmp m n)
+          || tells (part_of old k) m)
       go k m (inl same) =
           ap (λ j. tells (part_of new j) m) same
           ∙ ap (λ found. tells (unwrap_or found empty) m) d.own
           ∙ tells_more m
-          ∙ sym (ap (λ j. (eq_by_cmp nat_cmp j o && eq_by_cmp nat_cmp m n) || tells (part_of old j) m) same ∙ ap (λ b. (b && eq_by_cmp nat_cmp m n) || tells (part_of old o) m) (is_itself o))
+          ∙ sym (ap (λ j. (eq_by_cmp nat_cmp j o && eq_by_cmp nat_cmp m n) || tells (part_of old j) m) same
+          ∙ ap (λ b. (b && eq_by_cmp nat_cmp m n) || tells (part_of old o) m) (is_itself o))
       go k m (inr other) =
           ap (λ found. tells (unwrap_or found empty) m) (d.others k other)
           ∙ sym (ap (λ b. (b && eq_by_cmp nat_cmp m n) || tells (part_of old k) m) (is_other k o other))
@@ -208,12 +231,18 @@ module _ (honest : Bool) (query : Checked) (old new : Parts) (o n : ℕ) (rows :
       knows_tells : knows (told old) (o, n) ≡ tells (part_of old o) n
       knows_tells = told_is old held.rising o n
 
-      unknown : (answer : Delivered) → knows (told old) (o, n) ≡ false → (if n == prefix (told old) o + 1 then Folded (prefix (learn (told old) (o, n)) o) else Early) ≡ answer → answer ≡ reply_of (told old) (o, n)
-      unknown answer not_known is = sym is ∙ ap (λ b. if b then Known else (if n == prefix (told old) o + 1 then Folded (prefix (learn (told old) (o, n)) o) else Early)) (sym not_known)
+      unknown : (answer : Delivered) → knows (told old) (o, n) ≡ false
+          → (if n == prefix (told old) o + 1 then Folded (prefix (learn (told old) (o, n)) o) else Early) ≡ answer → answer
+          ≡ reply_of (told old) (o, n)
+      unknown answer not_known is = sym is
+          ∙ ap (λ b. if b then Known else (if n == prefix (told old) o + 1 then Folded (prefix (learn (told old) (o, n)) o) else Early))
+          (sym not_known)
 
-      go : (answer : Delivered) → reply ≡ answer → Delivers honest (meaning query) (part_of old o) n rows d.part answer → answer ≡ reply_of (told old) (o, n)
+      go : (answer : Delivered) → reply ≡ answer → Delivers honest (meaning query) (part_of old o) n rows d.part answer → answer
+          ≡ reply_of (told old) (o, n)
       go Known is delivers =
-          ap (λ b. if b then Known else (if n == prefix (told old) o + 1 then Folded (prefix (learn (told old) (o, n)) o) else Early)) (sym (knows_tells ∙ delivers.0))
+          ap (λ b. if b then Known else (if n == prefix (told old) o + 1 then Folded (prefix (learn (told old) (o, n)) o) else Early))
+          (sym (knows_tells ∙ delivers.0))
       go Early is delivers =
           unknown Early (knows_tells ∙ delivers.0)
           (ap (λ b. if b then Folded (prefix (learn (told old) (o, n)) o) else Early) (ap (λ p. n == p + 1) old_prefix ∙ apart delivers.1))
@@ -226,8 +255,11 @@ module _ (honest : Bool) (query : Checked) (old new : Parts) (o n : ℕ) (rows :
       go (Folded upto) is delivers =
           let next : n ≡ (part_of old o).prefix + 1 = delivers.0 in
           unknown (Folded upto) (knows_tells ∙ ap (tells (part_of old o)) next ∙ part_has_gap query old held o)
-          (ap (λ b. if b then Folded (prefix (learn (told old) (o, n)) o) else Early) (ap (λ p. n == p + 1) old_prefix ∙ ap (λ m. m == (part_of old o).prefix + 1) next ∙ itself ((part_of old o).prefix + 1))
-          ∙ ap Folded (sym (ap (λ k. prefix k o) delivered_told) ∙ prefix_told new d.rising o (subst HasGap (sym own) (part_gap query d.part d.is_part)) ∙ ap (λ (p : Part). p.prefix) own ∙ sym delivers.1))
+          (ap (λ b. if b then Folded (prefix (learn (told old) (o, n)) o) else Early) (ap (λ p. n == p + 1) old_prefix
+          ∙ ap (λ m. m == (part_of old o).prefix + 1) next ∙ itself ((part_of old o).prefix + 1))
+          ∙ ap Folded (sym (ap (λ k. prefix k o) delivered_told)
+          ∙ prefix_told new d.rising o (subst HasGap (sym own) (part_gap query d.part d.is_part)) ∙ ap (λ (p : Part). p.prefix) own
+          ∙ sym delivers.1))
         where
           itself : (m : ℕ) → (m == m) ≡ true
           itself m = grind arith
@@ -235,8 +267,10 @@ module _ (honest : Bool) (query : Checked) (old new : Parts) (o n : ℕ) (rows :
           own : part_of new o ≡ d.part
           own = ap (λ found. unwrap_or found empty) d.own
 
-pub delivered_fits : (honest : Bool) → IsTrue honest → (query : Checked) (old new : Parts) (o n : ℕ) (rows : List (List ℕ)) (reply : Delivered) → AreHeldParts query old → DeliversAt honest query old o n rows new reply
-    → (world : World) (those : List Row) → IsWorld (kinds query.columns) world → Fits world (record { query = query; parts = old }) → world o n ≡ Some those → rows ≡ packings those
+pub delivered_fits : (honest : Bool) → IsTrue honest → (query : Checked) (old new : Parts) (o n : ℕ) (rows : List (List ℕ))
+    (reply : Delivered) → AreHeldParts query old → DeliversAt honest query old o n rows new reply
+    → (world : World) (those : List Row) → IsWorld (kinds query.columns) world → Fits world (record { query = query; parts = old })
+    → world o n ≡ Some those → rows ≡ packings those
     → Fits world (record { query = query; parts = new })
 delivered_fits honest so query old new o n rows reply held d world those is fits there same k = go (same_or_other k o)
   where
@@ -245,37 +279,47 @@ delivered_fits honest so query old new o n rows reply held d world those is fits
     go (inl here) =
         subst (λ j. FitsOrigin (meaning query) world j (part_of new j)) (sym here)
         (subst (FitsOrigin (meaning query) world o) (sym (ap (λ found. unwrap_or found empty) d.own))
-        (fits_delivered honest so query world is o (part_of old o) d.part n those reply (part_is query old held o) (fits o) there (subst (λ r. Delivers honest (meaning query) (part_of old o) n r d.part reply) same d.delivers)))
+        (fits_delivered honest so query world is o (part_of old o) d.part n those reply (part_is query old held o) (fits o) there
+        (subst (λ r. Delivers honest (meaning query) (part_of old o) n r d.part reply) same d.delivers)))
 
-pub never_disagrees : (query : Checked) (old : Parts) (o n : ℕ) (rows : List (List ℕ)) → Disagrees (part_of old o) n rows → (world : World) (those : List Row) → Fits world (record { query = query; parts = old })
+pub never_disagrees : (query : Checked) (old : Parts) (o n : ℕ) (rows : List (List ℕ)) → Disagrees (part_of old o) n rows
+    → (world : World) (those : List Row) → Fits world (record { query = query; parts = old })
     → world o n ≡ Some those → rows ≢ packings those
 never_disagrees query old o n rows d world those fits there same =
     agrees_delivered (meaning query) world o (part_of old o) n those (fits o) there (subst (Disagrees (part_of old o) n) same d)
 
 -- ---- results
 
-module _ (r : Result Delivered RefusedBatch) (honest : Bool) (query : Checked) (old new : Parts) (batch : Batch) (held : AreHeldParts query old) (limits : InLimits (batch.origin, batch.number))
-    (takes : IfOk r (DeliversAt honest query old batch.origin batch.number batch.rows new)) (refuses : IfErr r (RefusesAt old batch new)) where
+module _ (r : Result Delivered RefusedBatch) (honest : Bool) (query : Checked) (old new : Parts) (batch : Batch)
+    (held : AreHeldParts query old) (limits : InLimits (batch.origin, batch.number))
+    (takes : IfOk r (DeliversAt honest query old batch.origin batch.number batch.rows new))
+    (refuses : IfErr r (RefusesAt old batch new)) where
   pub still_held : AreHeldParts query new
   still_held = go r takes refuses
     where
-      go : (s : Result Delivered RefusedBatch) → IfOk s (DeliversAt honest query old batch.origin batch.number batch.rows new) → IfErr s (RefusesAt old batch new) → AreHeldParts query new
+      go : (s : Result Delivered RefusedBatch) → IfOk s (DeliversAt honest query old batch.origin batch.number batch.rows new)
+          → IfErr s (RefusesAt old batch new) → AreHeldParts query new
       go (Ok reply) d e = delivered_held honest query old new batch.origin batch.number batch.rows reply held limits d
       go (Err e) d same = subst (AreHeldParts query) (sym same.same) held
 
   pub reply_told : IfOk r (λ reply. reply ≡ reply_of (told old) (batch.origin, batch.number))
-  reply_told = IfOk-weaker r (DeliversAt honest query old batch.origin batch.number batch.rows new) _ (λ reply d. delivered_reply honest query old new batch.origin batch.number batch.rows reply held limits d) takes
+  reply_told = IfOk-weaker r (DeliversAt honest query old batch.origin batch.number batch.rows new) _
+      (λ reply d. delivered_reply honest query old new batch.origin batch.number batch.rows reply held limits d) takes
 
   pub more_told : OnOk r (told new ≡ learn (told old) (batch.origin, batch.number))
-  more_told = IfOk-weaker r (DeliversAt honest query old batch.origin batch.number batch.rows new) _ (λ reply d. delivered_told honest query old new batch.origin batch.number batch.rows reply held limits d) takes
+  more_told = IfOk-weaker r (DeliversAt honest query old batch.origin batch.number batch.rows new) _
+      (λ reply d. delivered_told honest query old new batch.origin batch.number batch.rows reply held limits d) takes
 
-  pub still_fits : OnOk r (IsTrue honest → (world : World) (those : List Row) → IsWorld (kinds query.columns) world → Fits world (record { query = query; parts = old }) → world batch.origin batch.number ≡ Some those
+  pub still_fits : OnOk r (IsTrue honest → (world : World) (those : List Row) → IsWorld (kinds query.columns) world
+      → Fits world (record { query = query; parts = old }) → world batch.origin batch.number ≡ Some those
       → batch.rows ≡ packings those → Fits world (record { query = query; parts = new }))
   still_fits =
       IfOk-weaker r (DeliversAt honest query old batch.origin batch.number batch.rows new) _
-      (λ reply d so world those is fits there same. delivered_fits honest so query old new batch.origin batch.number batch.rows reply held d world those is fits there same) takes
+      (λ reply d so world those is fits there same. delivered_fits honest so query old new batch.origin batch.number batch.rows reply held d
+      world those is fits there same) takes
 
-  pub handed_back : IfErr r (λ e. (e.batch ≡ batch) × ◌≡◌ {A = Held} (record { query = query; parts = new }) (record { query = query; parts = old }))
+  pub handed_back : IfErr r (λ e. (e.batch ≡ batch)
+      × ◌≡◌ {A = Held} (record { query = query; parts = new }) (record { query = query; parts = old }))
   handed_back = IfErr-weaker r (RefusesAt old batch new) _ (λ e d. (d.back, λ i. record { query = query; parts = d.same i })) refuses
 
   pub why_told : IfErr r (λ e. BatchTells e.why (part_of old batch.origin) batch.number batch.rows)
@@ -284,16 +328,20 @@ module _ (r : Result Delivered RefusedBatch) (honest : Bool) (query : Checked) (
   pub agreed_else : IfOk r (λ _. ¬ (Disagrees (part_of old batch.origin) batch.number batch.rows))
   agreed_else =
       IfOk-weaker r (DeliversAt honest query old batch.origin batch.number batch.rows new) _
-      (λ reply d. taken_agrees honest query (part_of old batch.origin) d.part batch.number batch.rows reply (part_is query old held batch.origin) d.delivers) takes
+      (λ reply d. taken_agrees honest query (part_of old batch.origin) d.part batch.number batch.rows reply
+      (part_is query old held batch.origin) d.delivers) takes
 
   pub unknown_else : IfErr r (λ e. (error : SpillError) → e.why ≡ Spill error → knows (told old) (batch.origin, batch.number) ≡ false)
   unknown_else =
       IfErr-weaker r (RefusesAt old batch new) _
-      (λ e d error why. told_is old held.rising batch.origin batch.number ∙ subst (λ w. BatchTells w (part_of old batch.origin) batch.number batch.rows) why d.tells) refuses
+      (λ e d error why. told_is old held.rising batch.origin batch.number
+      ∙ subst (λ w. BatchTells w (part_of old batch.origin) batch.number batch.rows) why d.tells) refuses
 
-  pub world_agrees : IfErr r (λ e. (told : Option ℕ) → e.why ≡ OriginDisagrees told → (world : World) (those : List Row) → Fits world (record { query = query; parts = old }) → world batch.origin batch.number ≡ Some those
+  pub world_agrees : IfErr r (λ e. (told : Option ℕ) → e.why ≡ OriginDisagrees told → (world : World) (those : List Row)
+      → Fits world (record { query = query; parts = old }) → world batch.origin batch.number ≡ Some those
       → batch.rows ≢ packings those)
   world_agrees =
       IfErr-weaker r (RefusesAt old batch new) _
       (λ e d told why world those fits there.
-      never_disagrees query old batch.origin batch.number batch.rows (subst (λ w. BatchTells w (part_of old batch.origin) batch.number batch.rows) why d.tells).1 world those fits there) refuses
+      never_disagrees query old batch.origin batch.number batch.rows
+      (subst (λ w. BatchTells w (part_of old batch.origin) batch.number batch.rows) why d.tells).1 world those fits there) refuses

@@ -1,5 +1,6 @@
 -- What a replica holds and tells after a merge.
-use Rattle.std.specs.Prelude.{◌≡◌, ◌≢◌, refl, ℕ, ◌<◌, ◌⊎◌, ◌||◌, ◌&&◌, nat_eq, Bool, true, false, cond, List, [], ◌∷◌, ◌++◌, length, Option, Some, None, option_map, unwrap_or, if◌then◌else◌, IsTrue}
+use Rattle.std.specs.Prelude.{◌≡◌, ◌≢◌, refl, ℕ, ◌<◌, ◌⊎◌, ◌||◌, ◌&&◌, nat_eq, Bool, true, false, cond, List, [], ◌∷◌, ◌++◌, length, Option}
+use Rattle.std.specs.Prelude.{Some, None, option_map, unwrap_or, if◌then◌else◌, IsTrue}
 use Rattle.std.proofs.Common.{◌∙◌, sym, ap, subst, inl, inr, arith}
 use Rattle.std.proofs.lemmas.Bool.{true≢false, and_right, or_right}
 use Rattle.std.proofs.Math.Bool.{or-false}
@@ -7,13 +8,17 @@ use Rattle.std.specs.Option.{is_some}
 use Rattle.std.specs.List.Sorted.{IsStrictlySortedBy}
 use Rattle.std.specs.BTreeMap.{BTreeMap, insert_entry, WritesThrough}
 use Rattle.std.specs.Ordering.{eq_by_cmp, nat_cmp}
-use Rattle.replica_merge.proofs.Words.{World, IsWorld, union, Query, kinds, Checked, meaning, Part, empty, tells, is_nothing, IsPartOf, either, Joins, PartsDisagree, DisagreeAt, JoinTells, JoinIsCounted, OriginDisagrees, FitsOrigin, Parts, part_at, part_of, told, Fits, IsHeldPart, AreHeldParts, AsideAt, JoinedAside, JoinsAt, Merges, DisagreeSomewhere, IsFirstRefused, filled, MergeIsCounted}
+use Rattle.replica_merge.proofs.Words.{World, IsWorld, union, Query, kinds, Checked, meaning, Part, empty, tells, is_nothing, IsPartOf}
+use Rattle.replica_merge.proofs.Words.{either, Joins, PartsDisagree, DisagreeAt, JoinTells, JoinIsCounted, OriginDisagrees, FitsOrigin}
+use Rattle.replica_merge.proofs.Words.{Parts, part_at, part_of, told, Fits, IsHeldPart, AreHeldParts, AsideAt, JoinedAside, JoinsAt, Merges}
+use Rattle.replica_merge.proofs.Words.{DisagreeSomewhere, IsFirstRefused, filled, MergeIsCounted}
 use Rattle.grouping_model.specs.KnowledgeLaws.{same_knowledge, knows_union}
 use Rattle.aggregation_cost.specs.Space.{Setting}
 use Rattle.hash_agg.specs.declared.work.Work.{Work}
 use Rattle.origin_prefix.specs.declared.error.JoinError.{JoinError}
 use Rattle.origin_prefix.specs.Lemmas.Lists.{is_itself, is_other, same_or_other}
-use Rattle.origin_prefix.specs.Lemmas.ByNumber.{numbers, at, at_head, behind_head, none_found, above_first, all_found, put_same, put_else, first_alone, some_is}
+use Rattle.origin_prefix.specs.Lemmas.ByNumber.{numbers, at, at_head, behind_head, none_found, above_first, all_found, put_same, put_else}
+use Rattle.origin_prefix.specs.Lemmas.ByNumber.{first_alone, some_is}
 use Rattle.origin_prefix.specs.Lemmas.TellingLaws.{joined_tells}
 use Rattle.origin_prefix.specs.Lemmas.FittingLaws.{fits_joined, agrees_joined}
 use Rattle.replica_merge.specs.Lemmas.ToldLaws.{held_part}
@@ -28,19 +33,24 @@ JoinedSoFar honest query own old theirs (Some left) new = (theirs ≡ Some left)
 -- ---- places
 
 -- a place more
-pub placed : (old rest : Parts) (n : ℕ) (p : Part) (all : Option Part) (o : ℕ) → either (part_at old o) (option_map (λ (_ : Part). empty) (part_at ((n, p) ∷ rest) o)) ≡ option_map (λ (_ : Part). empty) all
-    → either (part_at (insert_entry nat_cmp old n empty) o) (option_map (λ (_ : Part). empty) (part_at rest o)) ≡ option_map (λ (_ : Part). empty) all
+pub placed : (old rest : Parts) (n : ℕ) (p : Part) (all : Option Part) (o : ℕ)
+    → either (part_at old o) (option_map (λ (_ : Part). empty) (part_at ((n, p) ∷ rest) o)) ≡ option_map (λ (_ : Part). empty) all
+    → either (part_at (insert_entry nat_cmp old n empty) o) (option_map (λ (_ : Part). empty) (part_at rest o))
+    ≡ option_map (λ (_ : Part). empty) all
 placed old rest n p all o before = go (same_or_other o n)
   where
-    is_empty : (x : Option Part) (all : Option Part) → either x (Some empty) ≡ option_map (λ (_ : Part). empty) all → Some empty ≡ option_map (λ (_ : Part). empty) all
+    is_empty : (x : Option Part) (all : Option Part) → either x (Some empty) ≡ option_map (λ (_ : Part). empty) all → Some empty
+        ≡ option_map (λ (_ : Part). empty) all
     is_empty x (Some q) e = refl
     is_empty None None e = e
     is_empty (Some q) None e = absurd (true≢false (ap is_some e))
 
-    go : (o ≡ n) ⊎ (o ≢ n) → either (part_at (insert_entry nat_cmp old n empty) o) (option_map (λ (_ : Part). empty) (part_at rest o)) ≡ option_map (λ (_ : Part). empty) all
+    go : (o ≡ n) ⊎ (o ≢ n) → either (part_at (insert_entry nat_cmp old n empty) o) (option_map (λ (_ : Part). empty) (part_at rest o))
+        ≡ option_map (λ (_ : Part). empty) all
     go (inl same) =
         let here : part_at ((n, p) ∷ rest) o ≡ Some p = ap (part_at ((n, p) ∷ rest)) same ∙ at_head n p rest in
-        let put : part_at (insert_entry nat_cmp old n empty) o ≡ Some empty = ap (part_at (insert_entry nat_cmp old n empty)) same ∙ put_same old n empty in
+        let put : part_at (insert_entry nat_cmp old n empty) o ≡ Some empty = ap (part_at (insert_entry nat_cmp old n empty)) same
+        ∙ put_same old n empty in
         ap (λ x. either x (option_map (λ (_ : Part). empty) (part_at rest o))) put
         ∙ is_empty (part_at old o) all (sym (ap (λ x. either (part_at old o) (option_map (λ (_ : Part). empty) x)) here) ∙ before)
     go (inr other) =
@@ -51,47 +61,70 @@ placed old rest n p all o before = go (same_or_other o n)
 -- ---- joining
 
 -- one origin more was joined
-pub joined_more : (honest : Bool) (query : Checked) (own old_parts theirs_all old rest : Parts) (n : ℕ) (p new : Part) → IsStrictlySortedBy nat_cmp (numbers ((n, p) ∷ rest))
+pub joined_more : (honest : Bool) (query : Checked) (own old_parts theirs_all old rest : Parts) (n : ℕ) (p new : Part)
+    → IsStrictlySortedBy nat_cmp (numbers ((n, p) ∷ rest))
     → Joins honest (meaning query) (part_of own n) p new → IsPartOf query new → ¬ (PartsDisagree (part_of own n) p)
     → (o : ℕ) → JoinedSoFar honest query (part_of own o) (part_at own o) (part_at theirs_all o) (part_at ((n, p) ∷ rest) o) (part_at old o)
-    → JoinedSoFar honest query (part_of own o) (part_at own o) (part_at theirs_all o) (part_at rest o) (part_at (insert_entry nat_cmp old n new) o)
+    → JoinedSoFar honest query (part_of own o) (part_at own o) (part_at theirs_all o) (part_at rest o)
+    (part_at (insert_entry nat_cmp old n new) o)
 joined_more honest query own old_parts all old rest n p new rising joins is agree o before = go (same_or_other o n)
   where
     at_one : (all_o : Option Part) → all_o ≡ Some p → JoinedSoFar honest query (part_of own n) (part_at own n) all_o None (Some new)
     at_one None e = absurd (true≢false (sym (ap is_some e)))
-    at_one (Some q) e = (new, refl, subst (λ (t : Part). Joins honest (meaning query) (part_of own n) t new) new_is joins, is, λ d. agree (subst (PartsDisagree (part_of own n)) (sym new_is) d))
+    at_one (Some q) e = (
+      new,
+      refl,
+      subst (λ (t : Part). Joins honest (meaning query) (part_of own n) t new) new_is joins,
+      is,
+      λ d. agree
+          (subst (PartsDisagree (part_of own n)) (sym new_is) d),
+    )
       where
         new_is : p ≡ q
         new_is = some_is p q (sym e)
 
-    here : JoinedSoFar honest query (part_of own n) (part_at own n) (part_at all n) (Some p) (part_at old n) → JoinedSoFar honest query (part_of own n) (part_at own n) (part_at all n) (part_at rest n) (part_at (insert_entry nat_cmp old n new) n)
+    here : JoinedSoFar honest query (part_of own n) (part_at own n) (part_at all n) (Some p) (part_at old n)
+        → JoinedSoFar honest query (part_of own n) (part_at own n) (part_at all n) (part_at rest n)
+        (part_at (insert_entry nat_cmp old n new) n)
     here had =
-        subst (λ left. JoinedSoFar honest query (part_of own n) (part_at own n) (part_at all n) left (part_at (insert_entry nat_cmp old n new) n)) (sym (first_alone n p rest rising))
-        (subst (λ found. JoinedSoFar honest query (part_of own n) (part_at own n) (part_at all n) None found) (sym (put_same old n new)) (at_one (part_at all n) had.0))
+        subst (λ left. JoinedSoFar honest query (part_of own n) (part_at own n) (part_at all n) left
+        (part_at (insert_entry nat_cmp old n new) n)) (sym (first_alone n p rest rising))
+        (subst (λ found. JoinedSoFar honest query (part_of own n) (part_at own n) (part_at all n) None found) (sym (put_same old n new))
+        (at_one (part_at all n) had.0))
 
-    go : (o ≡ n) ⊎ (o ≢ n) → JoinedSoFar honest query (part_of own o) (part_at own o) (part_at all o) (part_at rest o) (part_at (insert_entry nat_cmp old n new) o)
+    go : (o ≡ n) ⊎ (o ≢ n) → JoinedSoFar honest query (part_of own o) (part_at own o) (part_at all o) (part_at rest o)
+        (part_at (insert_entry nat_cmp old n new) o)
     go (inl same) =
-        subst (λ k. JoinedSoFar honest query (part_of own k) (part_at own k) (part_at all k) (part_at rest k) (part_at (insert_entry nat_cmp old n new) k)) (sym same)
-        (here (subst (λ left. JoinedSoFar honest query (part_of own n) (part_at own n) (part_at all n) left (part_at old n)) (at_head n p rest)
-        (subst (λ k. JoinedSoFar honest query (part_of own k) (part_at own k) (part_at all k) (part_at ((n, p) ∷ rest) k) (part_at old k)) same before)))
+        subst (λ k. JoinedSoFar honest query (part_of own k) (part_at own k) (part_at all k) (part_at rest k)
+        (part_at (insert_entry nat_cmp old n new) k)) (sym same)
+        (here (subst (λ left. JoinedSoFar honest query (part_of own n) (part_at own n) (part_at all n) left (part_at old n))
+        (at_head n p rest)
+        (subst (λ k. JoinedSoFar honest query (part_of own k) (part_at own k) (part_at all k) (part_at ((n, p) ∷ rest) k) (part_at old k))
+        same before)))
     go (inr other) =
-        subst (λ found. JoinedSoFar honest query (part_of own o) (part_at own o) (part_at all o) (part_at rest o) found) (sym (put_else old n new o other))
-        (subst (λ left. JoinedSoFar honest query (part_of own o) (part_at own o) (part_at all o) left (part_at old o)) (behind_head o n p rest other) before)
+        subst (λ found. JoinedSoFar honest query (part_of own o) (part_at own o) (part_at all o) (part_at rest o) found)
+        (sym (put_else old n new o other))
+        (subst (λ left. JoinedSoFar honest query (part_of own o) (part_at own o) (part_at all o) left (part_at old o))
+        (behind_head o n p rest other) before)
 
 -- the parts of an origin are not joined, and those of all lower ones were
-pub found_refused : (honest : Bool) (query : Checked) (own all old : Parts) (n : ℕ) (p : Part) (rest : Parts) (why : JoinError) → IsStrictlySortedBy nat_cmp (numbers ((n, p) ∷ rest))
+pub found_refused : (honest : Bool) (query : Checked) (own all old : Parts) (n : ℕ) (p : Part) (rest : Parts) (why : JoinError)
+    → IsStrictlySortedBy nat_cmp (numbers ((n, p) ∷ rest))
     → ((o : ℕ) → JoinedSoFar honest query (part_of own o) (part_at own o) (part_at all o) (part_at ((n, p) ∷ rest) o) (part_at old o))
     → JoinTells why (part_of own n) p → IsFirstRefused own all n why
 found_refused honest query own all old n p rest why rising before tells =
     record {
       part = p;
-      there = (subst (λ left. JoinedSoFar honest query (part_of own n) (part_at own n) (part_at all n) left (part_at old n)) (at_head n p rest) (before n)).0;
+      there = (subst (λ left. JoinedSoFar honest query (part_of own n) (part_at own n) (part_at all n) left (part_at old n))
+          (at_head n p rest) (before n)).0;
       tells = tells;
       below = λ lower low other there d.
           let apart : lower ≢ n = λ same. omega (arith, low, same) in
-          let none : part_at rest lower ≡ None = none_found (λ (e : ℕ × Part). n < e.0) rest lower (above_first n p rest rising) (λ x high. omega (arith, low, high)) in
+          let none : part_at rest lower ≡ None = none_found (λ (e : ℕ × Part). n < e.0) rest lower (above_first n p rest rising)
+          (λ x high. omega (arith, low, high)) in
           let aside : AsideAt honest query (part_of own lower) (part_at own lower) (part_at all lower) (part_at old lower) =
-          subst (λ left. JoinedSoFar honest query (part_of own lower) (part_at own lower) (part_at all lower) left (part_at old lower)) (behind_head lower n p rest apart ∙ none) (before lower) in
+          subst (λ left. JoinedSoFar honest query (part_of own lower) (part_at own lower) (part_at all lower) left (part_at old lower))
+          (behind_head lower n p rest apart ∙ none) (before lower) in
           (subst (λ found. AsideAt honest query (part_of own lower) (part_at own lower) found (part_at old lower)) there aside).4 d;
     }
 
@@ -103,39 +136,50 @@ pub back_at : (old rest : Parts) (n : ℕ) (p : Part) (new : Parts) → IsStrict
     → (o : ℕ) → filled (part_at new o) (part_at rest o) ≡ filled (part_at old o) (part_at ((n, p) ∷ rest) o)
 back_at old rest n p new rising put o = go (same_or_other o n)
   where
-    settled : (x : Option Part) → filled (filled x (Some p)) None ≡ filled x (Some p)
-    settled None = refl
-    settled (Some q) = elim (is_nothing q) as (λ b. filled (if b then Some p else Some q) None ≡ (if b then Some p else Some q)) [ true ↦ refl | false ↦ refl ]
+    drained : (x : Option Part) → filled (filled x (Some p)) None ≡ filled x (Some p)
+    drained None = refl
+    drained (Some q) = elim (is_nothing q) as (λ b. filled (if b then Some p else Some q) None ≡ (if b then Some p else Some q))
+        [ true ↦ refl | false ↦ refl ]
 
     go : (o ≡ n) ⊎ (o ≢ n) → filled (part_at new o) (part_at rest o) ≡ filled (part_at old o) (part_at ((n, p) ∷ rest) o)
     go (inl same) =
         subst (λ k. filled (part_at new k) (part_at rest k) ≡ filled (part_at old k) (part_at ((n, p) ∷ rest) k)) (sym same)
-        ((λ i. filled ((put n ∙ ap (λ b. cond b (filled (part_at old n) (Some p)) (part_at old n)) (is_itself n)) i) (first_alone n p rest rising i))
-        ∙ settled (part_at old n)
+        ((λ i. filled ((put n ∙ ap (λ b. cond b (filled (part_at old n) (Some p)) (part_at old n)) (is_itself n)) i)
+        (first_alone n p rest rising i))
+        ∙ drained (part_at old n)
         ∙ sym (ap (filled (part_at old n)) (at_head n p rest)))
     go (inr other) =
         (λ i. filled ((put o ∙ ap (λ b. cond b (filled (part_at old o) (Some p)) (part_at old o)) (is_other o n other)) i) (part_at rest o))
         ∙ ap (filled (part_at old o)) (sym (behind_head o n p rest other))
 
 -- what a place holds after something was written through it, or nothing
-pub written_at : (old new : BTreeMap ℕ Part) (n : ℕ) (before after : Part) (p : Part) → part_at old.entries n ≡ Some before → WritesThrough nat_cmp (nat_cmp n) old after new
-    → Some after ≡ filled (Some before) (Some p) → (o : ℕ) → part_at new.entries o ≡ cond (eq_by_cmp nat_cmp o n) (filled (part_at old.entries o) (Some p)) (part_at old.entries o)
+pub written_at : (old new : BTreeMap ℕ Part) (n : ℕ) (before after : Part) (p : Part) → part_at old.entries n ≡ Some before
+    → WritesThrough nat_cmp (nat_cmp n) old after new
+    → Some after ≡ filled (Some before) (Some p) → (o : ℕ) → part_at new.entries o
+    ≡ cond (eq_by_cmp nat_cmp o n) (filled (part_at old.entries o) (Some p)) (part_at old.entries o)
 written_at old new n before after p there written is o = go (same_or_other o n)
   where
-    go : (o ≡ n) ⊎ (o ≢ n) → part_at new.entries o ≡ cond (eq_by_cmp nat_cmp o n) (filled (part_at old.entries o) (Some p)) (part_at old.entries o)
+    go : (o ≡ n) ⊎ (o ≢ n) → part_at new.entries o ≡ cond (eq_by_cmp nat_cmp o n) (filled (part_at old.entries o) (Some p))
+        (part_at old.entries o)
     go (inl same) =
-        subst (λ k. part_at new.entries k ≡ cond (eq_by_cmp nat_cmp k n) (filled (part_at old.entries k) (Some p)) (part_at old.entries k)) (sym same)
-        ((written.3 (ap is_some there)).1 ∙ is ∙ sym (ap (λ b. cond b (filled (part_at old.entries n) (Some p)) (part_at old.entries n)) (is_itself n) ∙ ap (λ x. filled x (Some p)) there))
+        subst (λ k. part_at new.entries k ≡ cond (eq_by_cmp nat_cmp k n) (filled (part_at old.entries k) (Some p)) (part_at old.entries k))
+        (sym same)
+        ((written.3 (ap is_some there)).1 ∙ is
+        ∙ sym (ap (λ b. cond b (filled (part_at old.entries n) (Some p)) (part_at old.entries n)) (is_itself n)
+        ∙ ap (λ x. filled x (Some p)) there))
     go (inr other) =
-        (written.3 (ap is_some there)).2 o (is_other n o (λ e. other (sym e))) ∙ sym (ap (λ b. cond b (filled (part_at old.entries o) (Some p)) (part_at old.entries o)) (is_other o n other))
+        (written.3 (ap is_some there)).2 o (is_other n o (λ e. other (sym e)))
+        ∙ sym (ap (λ b. cond b (filled (part_at old.entries o) (Some p)) (part_at old.entries o)) (is_other o n other))
 
 -- ---- the whole merge
 
 -- parts that are joined with one that tells something tell something
-some_joined : (honest : Bool) (query : Checked) (own theirs new : Part) (o : ℕ) → IsPartOf query own → IsHeldPart query (o, theirs) → Joins honest (meaning query) own theirs new → (0 < new.prefix) ⊎ (new.early ≢ [])
+some_joined : (honest : Bool) (query : Checked) (own theirs new : Part) (o : ℕ) → IsPartOf query own → IsHeldPart query (o, theirs)
+    → Joins honest (meaning query) own theirs new → (0 < new.prefix) ⊎ (new.early ≢ [])
 some_joined honest query own theirs new o is held joins =
     let some = some_told query o theirs held in
-    some_if_tells new some.0 (joined_tells honest query (meaning query) own theirs new is held.part joins some.0 ∙ or_right (tells own some.0) (tells theirs some.0) some.2)
+    some_if_tells new some.0 (joined_tells honest query (meaning query) own theirs new is held.part joins some.0
+    ∙ or_right (tells own some.0) (tells theirs some.0) some.2)
 
 not_nothing : (p : Part) → (0 < p.prefix) ⊎ (p.early ≢ []) → is_nothing p ≡ false
 not_nothing p (inl some) = let e : nat_eq p.prefix 0 ≡ false = grind arith in ap (λ b. b && nat_eq (length p.early) 0) e
@@ -146,37 +190,47 @@ not_nothing p (inr some) = and_right (nat_eq p.prefix 0) (nat_eq (length p.early
     of_early (e ∷ es) some = grind arith
 
 -- what is told after a merge
-merges_tells : (honest : Bool) (query : Checked) (old other new : Parts) → AreHeldParts query old → AreHeldParts query other → Merges honest query old other new
+merges_tells : (honest : Bool) (query : Checked) (old other new : Parts) → AreHeldParts query old → AreHeldParts query other
+    → Merges honest query old other new
     → (o n : ℕ) → tells (part_of new o) n ≡ (tells (part_of old o) n || tells (part_of other o) n)
 merges_tells honest query old other new held theirs merges o n = go (part_at other o) refl (merges o)
   where
-    go : (found : Option Part) → part_at other o ≡ found → JoinsAt honest query (part_of old o) (part_at old o) found (part_at new o) → tells (part_of new o) n ≡ (tells (part_of old o) n || tells (unwrap_or (part_at other o) empty) n)
+    go : (found : Option Part) → part_at other o ≡ found → JoinsAt honest query (part_of old o) (part_at old o) found (part_at new o)
+        → tells (part_of new o) n ≡ (tells (part_of old o) n || tells (unwrap_or (part_at other o) empty) n)
     go None e at =
         ap (λ x. tells (unwrap_or x empty) n) at ∙ sym (or-false (tells (part_of old o) n))
         ∙ sym (ap (λ b. tells (part_of old o) n || b) (ap (λ x. tells (unwrap_or x empty) n) e ∙ empty_tells n))
     go (Some t) e at =
         ap (λ x. tells (unwrap_or x empty) n) at.1
-        ∙ joined_tells honest query (meaning query) (part_of old o) t at.0 (part_is query old held o) (held_part query other theirs o t e).part at.2 n
+        ∙ joined_tells honest query (meaning query) (part_of old o) t at.0 (part_is query old held o)
+        (held_part query other theirs o t e).part at.2 n
         ∙ sym (ap (λ x. tells (part_of old o) n || tells (unwrap_or x empty) n) e)
 
-pub merges_told : (honest : Bool) (query : Checked) (old other new : Parts) → AreHeldParts query old → AreHeldParts query other → IsStrictlySortedBy nat_cmp (numbers new) → Merges honest query old other new → told new ≡ union (told old) (told other)
+pub merges_told : (honest : Bool) (query : Checked) (old other new : Parts) → AreHeldParts query old → AreHeldParts query other
+    → IsStrictlySortedBy nat_cmp (numbers new) → Merges honest query old other new → told new ≡ union (told old) (told other)
 merges_told honest query old other new held theirs rising merges =
     same_knowledge (told new) (union (told old) (told other)) (λ batch.
     told_is new rising batch.0 batch.1 ∙ merges_tells honest query old other new held theirs merges batch.0 batch.1
-    ∙ sym (knows_union (told old) (told other) batch ∙ (λ i. told_is old held.rising batch.0 batch.1 i || told_is other theirs.rising batch.0 batch.1 i)))
+    ∙ sym (knows_union (told old) (told other) batch
+    ∙ (λ i. told_is old held.rising batch.0 batch.1 i || told_is other theirs.rising batch.0 batch.1 i)))
 
 -- it fits each world that both fitted
-pub merges_fit : (honest : Bool) → IsTrue honest → (query : Checked) (old other new : Parts) → Merges honest query old other new → (world : World) → IsWorld (kinds query.columns) world
-    → Fits world (record { query = query; parts = old }) → Fits world (record { query = query; parts = other }) → Fits world (record { query = query; parts = new })
+pub merges_fit : (honest : Bool) → IsTrue honest → (query : Checked) (old other new : Parts) → Merges honest query old other new
+    → (world : World) → IsWorld (kinds query.columns) world
+    → Fits world (record { query = query; parts = old }) → Fits world (record { query = query; parts = other })
+    → Fits world (record { query = query; parts = new })
 merges_fit honest so query old other new merges world is fits fits_other o = go (part_at other o) refl (merges o)
   where
-    go : (found : Option Part) → part_at other o ≡ found → JoinsAt honest query (part_of old o) (part_at old o) found (part_at new o) → FitsOrigin (meaning query) world o (part_of new o)
+    go : (found : Option Part) → part_at other o ≡ found → JoinsAt honest query (part_of old o) (part_at old o) found (part_at new o)
+        → FitsOrigin (meaning query) world o (part_of new o)
     go None e at = subst (λ x. FitsOrigin (meaning query) world o (unwrap_or x empty)) (sym at) (fits o)
     go (Some t) e at =
         subst (λ x. FitsOrigin (meaning query) world o (unwrap_or x empty)) (sym at.1)
-        (fits_joined honest so query world is o (part_of old o) t at.0 (fits o) (subst (FitsOrigin (meaning query) world o) (part_here other o t e) (fits_other o)) at.2)
+        (fits_joined honest so query world is o (part_of old o) t at.0 (fits o)
+        (subst (FitsOrigin (meaning query) world o) (part_here other o t e) (fits_other o)) at.2)
 
-module _ (honest : Bool) (query : Checked) (old other joined new : Parts) (held : AreHeldParts query old) (theirs : AreHeldParts query other) (aside : JoinedAside honest query old other joined)
+module _ (honest : Bool) (query : Checked) (old other joined new : Parts) (held : AreHeldParts query old)
+    (theirs : AreHeldParts query other) (aside : JoinedAside honest query old other joined)
     (back : (o : ℕ) → part_at new o ≡ filled (part_at joined o) (part_at old o)) where
   own_back : (mine : Option Part) → filled (option_map (λ (_ : Part). empty) mine) mine ≡ mine
   own_back None = refl
@@ -189,12 +243,15 @@ module _ (honest : Bool) (query : Checked) (old other joined new : Parts) (held 
   merges_at : (o : ℕ) → JoinsAt honest query (part_of old o) (part_at old o) (part_at other o) (part_at new o)
   merges_at o = go (part_at other o) refl (aside.at o)
     where
-      go : (found : Option Part) → part_at other o ≡ found → AsideAt honest query (part_of old o) (part_at old o) found (part_at joined o) → JoinsAt honest query (part_of old o) (part_at old o) found (part_at new o)
+      go : (found : Option Part) → part_at other o ≡ found → AsideAt honest query (part_of old o) (part_at old o) found (part_at joined o)
+          → JoinsAt honest query (part_of old o) (part_at old o) found (part_at new o)
       go None e at = back o ∙ ap (λ x. filled x (part_at old o)) at ∙ own_back (part_at old o)
       go (Some t) e at = (
         at.0,
         back o ∙ ap (λ x. filled x (part_at old o)) at.1
-            ∙ kept at.0 (part_at old o) (not_nothing at.0 (some_joined honest query (part_of old o) t at.0 o (part_is query old held o) (held_part query other theirs o t e) at.2)),
+            ∙ kept at.0 (part_at old o)
+            (not_nothing at.0 (some_joined honest query (part_of old o) t at.0 o (part_is query old held o)
+            (held_part query other theirs o t e) at.2)),
         at.2,
       )
 
@@ -203,29 +260,41 @@ module _ (honest : Bool) (query : Checked) (old other joined new : Parts) (held 
 
   pub merged_held : IsStrictlySortedBy nat_cmp (numbers new) → AreHeldParts query new
   merged_held rising =
-      record { rising = rising; each = all_found (IsHeldPart query) new rising (λ o p there. go o p there (part_at other o) refl (aside.at o)) }
+      record {
+        rising = rising;
+        each = all_found (IsHeldPart query) new rising
+            (λ o p there. go o p there (part_at other o) refl (aside.at o));
+      }
     where
-      go : (o : ℕ) (p : Part) → part_at new o ≡ Some p → (found : Option Part) → part_at other o ≡ found → AsideAt honest query (part_of old o) (part_at old o) found (part_at joined o) → IsHeldPart query (o, p)
-      go o p there None e at = held_part query old held o p (sym (back o ∙ ap (λ x. filled x (part_at old o)) at ∙ own_back (part_at old o)) ∙ there)
+      go : (o : ℕ) (p : Part) → part_at new o ≡ Some p → (found : Option Part) → part_at other o ≡ found
+          → AsideAt honest query (part_of old o) (part_at old o) found (part_at joined o) → IsHeldPart query (o, p)
+      go o p there None e at = held_part query old held o p (sym (back o ∙ ap (λ x. filled x (part_at old o)) at ∙ own_back (part_at old o))
+          ∙ there)
       go o p there (Some t) e at =
           let h : IsHeldPart query (o, t) = held_part query other theirs o t e in
           let some = some_joined honest query (part_of old o) t at.0 o (part_is query old held o) h at.2 in
-          let is : at.0 ≡ p = some_is at.0 p (sym (back o ∙ ap (λ x. filled x (part_at old o)) at.1 ∙ kept at.0 (part_at old o) (not_nothing at.0 some)) ∙ there) in
+          let is : at.0 ≡ p = some_is at.0 p (sym (back o ∙ ap (λ x. filled x (part_at old o)) at.1
+          ∙ kept at.0 (part_at old o) (not_nothing at.0 some)) ∙ there) in
           subst (λ q. IsHeldPart query (o, q)) is (record { within = h.within; part = at.3; some = some })
 
   pub merged_told : IsStrictlySortedBy nat_cmp (numbers new) → told new ≡ union (told old) (told other)
   merged_told rising = merges_told honest query old other new held theirs rising merges_at
 
-  pub merged_fits : IsTrue honest → (world : World) → IsWorld (kinds query.columns) world → Fits world (record { query = query; parts = old }) → Fits world (record { query = query; parts = other }) → Fits world (record { query = query; parts = new })
+  pub merged_fits : IsTrue honest → (world : World) → IsWorld (kinds query.columns) world
+      → Fits world (record { query = query; parts = old }) → Fits world (record { query = query; parts = other })
+      → Fits world (record { query = query; parts = new })
   merged_fits so world is fits fits_other = merges_fit honest so query old other new merges_at world is fits fits_other
 
 -- where there are joined parts aside of each origin, none disagree
-pub aside_agree : (honest : Bool) (query : Checked) (old other joined : Parts) → JoinedAside honest query old other joined → ¬ (DisagreeSomewhere old other)
+pub aside_agree : (honest : Bool) (query : Checked) (old other joined : Parts) → JoinedAside honest query old other joined
+    → ¬ (DisagreeSomewhere old other)
 aside_agree honest query old other joined aside d =
-    (subst (λ found. AsideAt honest query (part_of old d.origin) (part_at old d.origin) found (part_at joined d.origin)) d.there (aside.at d.origin)).4 d.parts
+    (subst (λ found. AsideAt honest query (part_of old d.origin) (part_at old d.origin) found (part_at joined d.origin)) d.there
+    (aside.at d.origin)).4 d.parts
 
 -- replicas that fit one world never disagree
-pub never_refused : (query : Checked) (own theirs : Parts) (origin : ℕ) (number : Option ℕ) → IsFirstRefused own theirs origin (OriginDisagrees number)
+pub never_refused : (query : Checked) (own theirs : Parts) (origin : ℕ) (number : Option ℕ)
+    → IsFirstRefused own theirs origin (OriginDisagrees number)
     → (world : World) → Fits world (record { query = query; parts = own }) → Fits world (record { query = query; parts = theirs }) → ⊥
 never_refused query own theirs origin number d world fits fits_other =
     absurd (agrees_joined (meaning query) world origin (part_of own origin) d.part (fits origin)
@@ -236,10 +305,17 @@ never_refused query own theirs origin number d world fits fits_other =
     go (Some n) first = inr (n, first.1.0)
 
 -- one part more is joined and counted
-pub counted_more : (query : Query) (setting : Setting) (own front : Parts) (held : ℕ × Part) (old : Work) (writes : ℕ) (work : Work) (pages : ℕ) (new : Work) (written : ℕ)
-    → MergeIsCounted query setting own front old writes work pages → JoinIsCounted query setting (part_of own held.0) held.1 work pages new written
+pub counted_more : (query : Query) (setting : Setting) (own front : Parts) (held : ℕ × Part) (old : Work) (writes : ℕ) (work : Work)
+    (pages : ℕ) (new : Work) (written : ℕ)
+    → MergeIsCounted query setting own front old writes work pages → JoinIsCounted query setting (part_of own held.0) held.1 work pages new
+    written
     → MergeIsCounted query setting own (front ++ (held ∷ [])) old writes new written
-counted_more query setting own [] held old writes work pages new written (same, none) joined =
-    (new, written, subst (λ (w : Work). JoinIsCounted query setting (part_of own held.0) held.1 w writes new written) same (subst (λ (n : ℕ). JoinIsCounted query setting (part_of own held.0) held.1 work n new written) none joined), (refl, refl))
+counted_more query setting own [] held old writes work pages new written (same, none) joined = (
+  new,
+  written,
+  subst (λ (w : Work). JoinIsCounted query setting (part_of own held.0) held.1 w writes new written) same
+      (subst (λ (n : ℕ). JoinIsCounted query setting (part_of own held.0) held.1 work n new written) none joined),
+  (refl, refl),
+)
 counted_more query setting own (first ∷ front) held old writes work pages new written (one, mid, counted, rest) joined =
     (one, mid, counted, counted_more query setting own front held one mid work pages new written rest joined)

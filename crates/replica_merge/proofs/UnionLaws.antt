@@ -7,10 +7,11 @@ use Rattle.std.proofs.Common.{sym, ◌∙◌, ap, subst, arith, append-nil}
 use Rattle.std.proofs.lemmas.List.{map-append}
 use Rattle.std.proofs.lemmas.List.Sums.{sum_by-cons, sum_by-append}
 use Rattle.std.proofs.lemmas.Grind.{flat_map-append}
-use Rattle.replica_merge.proofs.Words.{each_front, each_behind, MOST_ROWS, Row, row_cmp, Query, part, AreGroups, IsRun, Part, counted, brought_by, IsRunAlone, IsUnion}
+use Rattle.replica_merge.proofs.Words.{each_front, each_behind, MAX_ROWS, Row, row_cmp, Query, part, AreGroups, IsRun, Part, counted}
+use Rattle.replica_merge.proofs.Words.{brought_by, IsRunAlone, IsUnion}
 use Rattle.grouping_model.specs.Parts.{keys_of}
 use Rattle.agg_protocol.specs.States.{most_rows}
-use Rattle.packed_rows.specs.RowsOnEnd.{on_end}
+use Rattle.packed_rows.specs.ConcatenatedRows.{concatenated}
 use Rattle.group_runs.specs.Adding.{groups_added}
 use Rattle.group_runs.specs.MergeLaws.{puts_rise, keys_of-groups_added}
 use Rattle.group_runs.specs.Runs.{Entry, Rises}
@@ -52,7 +53,8 @@ one_union q run rows is =
     total : all_rows (Counted run rows ∷ []) ≡ rows
     total = let sum : all_rows (Counted run rows ∷ []) ≡ rows + 0 = sum_by-cons rows_in (Counted run rows) [] in omega (arith, sum)
 
-    one : (lists : List (List Row)) → AreInputsOf q (Counted run rows ∷ []) lists → AreGroups q (all_rows (Counted run rows ∷ [])) run (part q (on_end lists))
+    one : (lists : List (List Row)) → AreInputsOf q (Counted run rows ∷ []) lists
+        → AreGroups q (all_rows (Counted run rows ∷ [])) run (part q (concatenated lists))
     one [] are = absurd are
     one (these ∷ []) are =
         subst (λ n. AreGroups q n run (part q (these ++ []))) (sym total)
@@ -60,7 +62,8 @@ one_union q run rows is =
     one (these ∷ more ∷ lists) are = absurd are.1
 
 -- the union of some inputs, to which that of others is added
-module _ (q : Query) (xs ys : List Brought) (a b c : List Entry) (few : all_rows (xs ++ ys) ≤ most_rows) (left : IsUnion q xs a) (right : IsUnion q ys b) where
+module _ (q : Query) (xs ys : List Brought) (a b c : List Entry) (few : all_rows (xs ++ ys) ≤ most_rows) (left : IsUnion q xs a)
+    (right : IsUnion q ys b) where
   total : all_rows (xs ++ ys) ≡ all_rows xs + all_rows ys
   total = sum_by-append rows_in xs ys
 
@@ -68,7 +71,16 @@ module _ (q : Query) (xs ys : List Brought) (a b c : List Entry) (few : all_rows
   low = subst (λ n. n ≤ most_rows) total few
 
   pub union_room : HasRoomForRun q a b
-  union_room = (all_rows xs, all_rows ys, left.is_run.groups, right.is_run.groups, left.is_run.are, right.is_run.are, right.is_run.rises, low)
+  union_room = (
+    all_rows xs,
+    all_rows ys,
+    left.is_run.groups,
+    right.is_run.groups,
+    left.is_run.are,
+    right.is_run.are,
+    right.is_run.rises,
+    low,
+  )
 
   added_groups : AddsRun q a b c → AreGroups q (all_rows xs + all_rows ys) c (groups_added q left.is_run.groups right.is_run.groups)
   added_groups added = added (all_rows xs) (all_rows ys) left.is_run.groups right.is_run.groups low left.is_run.are right.is_run.are
@@ -77,16 +89,20 @@ module _ (q : Query) (xs ys : List Brought) (a b c : List Entry) (few : all_rows
   added_rises added =
       packed_rise q (all_rows xs + all_rows ys) c (groups_added q left.is_run.groups right.is_run.groups) (added_groups added)
       (subst (IsStrictlySortedBy row_cmp) (sym (keys_of-groups_added q left.is_run.groups right.is_run.groups))
-      (puts_rise (keys_of left.is_run.groups) (keys_of right.is_run.groups) (run_keys_rise q (all_rows xs) a left.is_run.groups left.is_run.are left.is_run.rises)))
+      (puts_rise (keys_of left.is_run.groups) (keys_of right.is_run.groups) (run_keys_rise q (all_rows xs) a left.is_run.groups
+      left.is_run.are left.is_run.rises)))
 
-  added_part : AddsRun q a b c → (lists : List (List Row)) → AreInputsOf q (xs ++ ys) lists → AreGroups q (all_rows (xs ++ ys)) c (part q (on_end lists))
+  added_part : AddsRun q a b c → (lists : List (List Row)) → AreInputsOf q (xs ++ ys) lists
+      → AreGroups q (all_rows (xs ++ ys)) c (part q (concatenated lists))
   added_part added lists are =
       let stand : BothStand q xs ys lists = both_stand q xs ys lists are in
-      let rows : on_end lists ≡ on_end stand.fronts ++ on_end stand.backs = ap on_end stand.both ∙ flat_map-append (λ (row : List Row). row) stand.fronts stand.backs in
-      subst (λ n. AreGroups q n c (part q (on_end lists))) (sym total)
+      let rows : concatenated lists ≡ concatenated stand.fronts ++ concatenated stand.backs = ap concatenated stand.both
+      ∙ flat_map-append (λ (row : List Row). row) stand.fronts stand.backs in
+      subst (λ n. AreGroups q n c (part q (concatenated lists))) (sym total)
       (subst (λ those. AreGroups q (all_rows xs + all_rows ys) c (part q those)) (sym rows)
-      (subst (AreGroups q (all_rows xs + all_rows ys) c) (groups_added_part q (on_end stand.fronts) (on_end stand.backs))
-      (added (all_rows xs) (all_rows ys) (part q (on_end stand.fronts)) (part q (on_end stand.backs)) low (left.part stand.fronts stand.front) (right.part stand.backs stand.back))))
+      (subst (AreGroups q (all_rows xs + all_rows ys) c) (groups_added_part q (concatenated stand.fronts) (concatenated stand.backs))
+      (added (all_rows xs) (all_rows ys) (part q (concatenated stand.fronts)) (part q (concatenated stand.backs)) low
+      (left.part stand.fronts stand.front) (right.part stand.backs stand.back))))
 
   pub added_union : AddsRun q a b c → IsUnion q (xs ++ ys) c
   added_union added =
@@ -106,36 +122,50 @@ module _ (q : Query) (xs ys : List Brought) (a b c : List Entry) (few : all_rows
 pub halves_bring : (parts front back : List (Bor Part)) → parts ≡ front ++ back → brought_by parts ≡ brought_by front ++ brought_by back
 halves_bring parts front back both = ap brought_by both ∙ map-append (λ (p : Bor Part). counted p.now) front back
 
-pub front_inputs : (q : Query) (parts front back : List (Bor Part)) → parts ≡ front ++ back → AllByRecursion (IsInput q) (brought_by parts) → AllByRecursion (IsInput q) (brought_by front)
-front_inputs q parts front back both all = each_front (IsInput q) (brought_by front) (brought_by back) (subst (AllByRecursion (IsInput q)) (halves_bring parts front back both) all)
+pub front_inputs : (q : Query) (parts front back : List (Bor Part)) → parts ≡ front ++ back → AllByRecursion (IsInput q) (brought_by parts)
+    → AllByRecursion (IsInput q) (brought_by front)
+front_inputs q parts front back both all = each_front (IsInput q) (brought_by front) (brought_by back)
+    (subst (AllByRecursion (IsInput q)) (halves_bring parts front back both) all)
 
-pub back_inputs : (q : Query) (parts front back : List (Bor Part)) → parts ≡ front ++ back → AllByRecursion (IsInput q) (brought_by parts) → AllByRecursion (IsInput q) (brought_by back)
-back_inputs q parts front back both all = each_behind (IsInput q) (brought_by front) (brought_by back) (subst (AllByRecursion (IsInput q)) (halves_bring parts front back both) all)
+pub back_inputs : (q : Query) (parts front back : List (Bor Part)) → parts ≡ front ++ back → AllByRecursion (IsInput q) (brought_by parts)
+    → AllByRecursion (IsInput q) (brought_by back)
+back_inputs q parts front back both all = each_behind (IsInput q) (brought_by front) (brought_by back)
+    (subst (AllByRecursion (IsInput q)) (halves_bring parts front back both) all)
 
-rows_of_halves : (parts front back : List (Bor Part)) → parts ≡ front ++ back → all_rows (brought_by parts) ≡ all_rows (brought_by front) + all_rows (brought_by back)
-rows_of_halves parts front back both = ap all_rows (halves_bring parts front back both) ∙ sum_by-append rows_in (brought_by front) (brought_by back)
+rows_of_halves : (parts front back : List (Bor Part)) → parts ≡ front ++ back → all_rows (brought_by parts) ≡ all_rows (brought_by front)
+    + all_rows (brought_by back)
+rows_of_halves parts front back both = ap all_rows (halves_bring parts front back both)
+    ∙ sum_by-append rows_in (brought_by front) (brought_by back)
 
-pub front_few : (parts front back : List (Bor Part)) → parts ≡ front ++ back → all_rows (brought_by parts) ≤ most_rows → all_rows (brought_by front) ≤ most_rows
+pub front_few : (parts front back : List (Bor Part)) → parts ≡ front ++ back → all_rows (brought_by parts) ≤ most_rows
+    → all_rows (brought_by front) ≤ most_rows
 front_few parts front back both few = let sum = rows_of_halves parts front back both in omega (arith, few, sum)
 
-pub back_few : (parts front back : List (Bor Part)) → parts ≡ front ++ back → all_rows (brought_by parts) ≤ most_rows → all_rows (brought_by back) ≤ most_rows
+pub back_few : (parts front back : List (Bor Part)) → parts ≡ front ++ back → all_rows (brought_by parts) ≤ most_rows
+    → all_rows (brought_by back) ≤ most_rows
 back_few parts front back both few = let sum = rows_of_halves parts front back both in omega (arith, few, sum)
 
 -- what is asked of the runs of both halves, and what becomes of them
-pub halves_room : (q : Query) (parts front back : List (Bor Part)) (a b : List Entry) → parts ≡ front ++ back → all_rows (brought_by parts) ≤ most_rows
+pub halves_room : (q : Query) (parts front back : List (Bor Part)) (a b : List Entry) → parts ≡ front ++ back
+    → all_rows (brought_by parts) ≤ most_rows
     → IsUnion q (brought_by front) a → IsUnion q (brought_by back) b → HasRoomForRun q a b
 halves_room q parts front back a b both few left right =
-    union_room q (brought_by front) (brought_by back) a b a (subst (λ inputs. all_rows inputs ≤ most_rows) (halves_bring parts front back both) few) left right
+    union_room q (brought_by front) (brought_by back) a b a
+    (subst (λ inputs. all_rows inputs ≤ most_rows) (halves_bring parts front back both) few) left right
 
-pub halves_united : (q : Query) (parts front back : List (Bor Part)) (a b c : List Entry) → parts ≡ front ++ back → all_rows (brought_by parts) ≤ most_rows
+pub halves_united : (q : Query) (parts front back : List (Bor Part)) (a b c : List Entry) → parts ≡ front ++ back
+    → all_rows (brought_by parts) ≤ most_rows
     → IsUnion q (brought_by front) a → IsUnion q (brought_by back) b → AddsRun q a b c → IsUnion q (brought_by parts) c
 halves_united q parts front back a b c both few left right added =
     subst (λ inputs. IsUnion q inputs c) (sym (halves_bring parts front back both))
-    (added_union q (brought_by front) (brought_by back) a b c (subst (λ inputs. all_rows inputs ≤ most_rows) (halves_bring parts front back both) few) left right added)
+    (added_union q (brought_by front) (brought_by back) a b c
+    (subst (λ inputs. all_rows inputs ≤ most_rows) (halves_bring parts front back both) few) left right added)
 
 -- a single part, and none
-pub one_part : (q : Query) (parts : List (Bor Part)) (run : List Entry) → AllByRecursion (IsInput q) (brought_by parts) → IsRunAlone parts run → IsUnion q (brought_by parts) run
+pub one_part : (q : Query) (parts : List (Bor Part)) (run : List Entry) → AllByRecursion (IsInput q) (brought_by parts)
+    → IsRunAlone parts run → IsUnion q (brought_by parts) run
 one_part q parts run inputs is =
     subst (λ those. IsUnion q (brought_by those) run) (sym is.alone)
     (subst (IsUnion q (brought_by (is.only ∷ []))) (sym is.run_is)
-    (one_union q is.only.now.run (is.only.now.prefix * MOST_ROWS) (subst (λ those. AllByRecursion (IsInput q) (brought_by those)) is.alone inputs).0))
+    (one_union q is.only.now.run (is.only.now.prefix * MAX_ROWS) (subst (λ those. AllByRecursion (IsInput q) (brought_by those)) is.alone
+    inputs).0))

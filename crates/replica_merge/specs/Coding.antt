@@ -11,4 +11,5 @@ abbrev pub coded_parts : Coded Parts
 coded_parts = coded_list (coded× coded_ℕ coded_part)
 
 abbrev pub coded_held : Coded Held
-coded_held = code_by (Checked × Parts) (coded× coded_checked coded_parts) (λ h. (h.query, h.parts)) (λ p. record { query = p.0; parts = p.1 }) (λ _. refl)
+coded_held = code_by (Checked × Parts) (coded× coded_checked coded_parts) (λ h. (h.query, h.parts))
+    (λ p. record { query = p.0; parts = p.1 }) (λ _. refl)

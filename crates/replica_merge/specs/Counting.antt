@@ -13,11 +13,13 @@ use Rattle.replica_merge.specs.declared.error.MergeError.TheVariants.{Join}
 abbrev pub MergeIsCounted : Query → Setting → (own theirs : Parts) → Work → ℕ → Work → ℕ → Type 0
 MergeIsCounted query setting own [] old writes new written = (new ≡ old) × (written ≡ writes)
 MergeIsCounted query setting own (held ∷ theirs) old writes new written =
-    (work : Work) × (pages : ℕ) × JoinIsCounted query setting (part_of own held.0) held.1 old writes work pages × MergeIsCounted query setting own theirs work pages new written
+    (work : Work) × (pages : ℕ) × JoinIsCounted query setting (part_of own held.0) held.1 old writes work pages
+    × MergeIsCounted query setting own theirs work pages new written
 
 -- what joining the parts of all origins below one takes, one after the other: from this work and so many pages it leads to a work, which
 -- nobody is handed, and to pages, and at least so many are written
-pub record JoinedBelow (query : Query) (setting : Setting) (own theirs : Parts) (origin : ℕ) (old : Work) (writes written : ℕ) : Type 0 where
+pub record JoinedBelow (query : Query) (setting : Setting) (own theirs : Parts) (origin : ℕ) (old : Work) (writes written : ℕ) :
+    Type 0 where
   pub lower : Parts
   pub part : Part
   pub higher : Parts

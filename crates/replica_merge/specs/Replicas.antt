@@ -1,9 +1,10 @@
 -- What a replica holds and tells, and when it fits a world. All of this is our own.
-use Rattle.std.specs.Prelude.{◌≡◌, ◌≢◌, ℕ, ◌*◌, ◌<◌, List, ◌++◌, map, flat_map, Option, Some, None, option_map, unwrap_or, Bool, if◌then◌else◌, Result, true, IsTrue, OnOk, OnErr, IfOk, IfErr}
+use Rattle.std.specs.Prelude.{◌≡◌, ◌≢◌, ℕ, ◌*◌, ◌<◌, List, ◌++◌, map, flat_map, Option, Some, None, option_map, unwrap_or, Bool}
+use Rattle.std.specs.Prelude.{if◌then◌else◌, Result, true, IsTrue, OnOk, OnErr, IfOk, IfErr}
 use Rattle.std.specs.List.Sorted.{IsStrictlySortedBy}
 use Rattle.std.specs.Map.{lookup}
 use Rattle.std.specs.Ordering.{eq_by_cmp, nat_cmp}
-use Rattle.grouping_model.specs.declared.limits.TheConstants.{MOST_ROWS}
+use Rattle.grouping_model.specs.declared.limits.TheConstants.{MAX_ROWS}
 use Rattle.grouping_model.specs.declared.delivered.Delivered.{Delivered}
 use Rattle.hash_agg.specs.Inputs.{Brought, Counted}
 use Rattle.grouping_model.specs.Replies.{KnownOrigin}
@@ -17,9 +18,9 @@ use Rattle.batch_reader.specs.declared.batch.Batch as packed
 use Rattle.origin_prefix.specs.Parts.{Part, empty, is_nothing, IsPartOf, Delivers, BatchTells, aggregations_on}
 use Rattle.aggregation_cost.specs.Space.{Setting}
 use Rattle.tape_disks.specs.Calls.{failed}
-use Rattle.tape_disks.specs.Disk.{Leaves}
+use Rattle.tape_disks.specs.Disk.{DiskFrame}
 use Rattle.tape_disks.specs.declared.disk.TapeDisk.{Ghosts}
-use Rattle.spill_lists.specs.declared.error.SpillError.TheVariants.{TapeDamaged}
+use Rattle.spill_partitions.specs.declared.error.SpillError.TheVariants.{TapeDamaged}
 use Rattle.hash_agg.specs.Counting.{AreCounted}
 use Rattle.hash_agg.specs.declared.work.Work.{Work}
 use Rattle.origin_prefix.specs.Errors.{batch_faults}
@@ -44,7 +45,8 @@ part_of parts origin = unwrap_or (part_at parts origin) empty
 
 -- the batches that a part of an origin tells: 1 to its prefix, and the early ones
 abbrev pub batches_of : ℕ × Part → List Batch
-batches_of held = map (λ (number : ℕ). (held.0, number)) (count_up 1 held.1.prefix ++ map (λ (batch : ℕ × List (List ℕ)). batch.0) held.1.early)
+batches_of held = map (λ (number : ℕ). (held.0, number)) (count_up 1 held.1.prefix
+    ++ map (λ (batch : ℕ × List (List ℕ)). batch.0) held.1.early)
 
 -- what is told
 abbrev pub told : Parts → Knowledge
@@ -74,7 +76,8 @@ JoinsAt honest query own old None new = new ≡ old
 JoinsAt honest query own old (Some theirs) new = (part : Part) × (new ≡ Some part) × Joins honest (meaning query) own theirs part
 
 abbrev pub Merges : (honest : Bool) → Checked → Parts → Parts → Parts → Type 0
-Merges honest query old other new = (origin : ℕ) → JoinsAt honest query (part_of old origin) (part_at old origin) (part_at other origin) (part_at new origin)
+Merges honest query old other new = (origin : ℕ) → JoinsAt honest query (part_of old origin) (part_at old origin) (part_at other origin)
+    (part_at new origin)
 
 -- replicas of a query that fit a world, and what becomes of the first where it takes the second, over an honest disk
 pub record MergesIn (world : World) (query : Checked) (own theirs new : Parts) : Type 0 where
@@ -90,7 +93,8 @@ pub record MergesIn (world : World) (query : Checked) (own theirs new : Parts) :
 -- the own one
 abbrev pub AsideAt : (honest : Bool) → Checked → Part → Option Part → Option Part → Option Part → Type 0
 AsideAt honest query own old None new = new ≡ option_map (λ (_ : Part). empty) old
-AsideAt honest query own old (Some theirs) new = (part : Part) × (new ≡ Some part) × Joins honest (meaning query) own theirs part × IsPartOf query part × ¬ (PartsDisagree own theirs)
+AsideAt honest query own old (Some theirs) new = (part : Part) × (new ≡ Some part) × Joins honest (meaning query) own theirs part
+    × IsPartOf query part × ¬ (PartsDisagree own theirs)
 
 pub record JoinedAside (honest : Bool) (query : Checked) (old other joined : Parts) : Type 0 where
   pub rising : IsStrictlySortedBy nat_cmp (map (λ (held : ℕ × Part). held.0) joined)
@@ -114,7 +118,8 @@ pub record IsFirstRefused (own theirs : Parts) (origin : ℕ) (why : JoinError) 
   pub part : Part
   pub there : part_at theirs origin ≡ Some part
   pub tells : JoinTells why (part_of own origin) part
-  pub below : (lower : ℕ) → lower < origin → (other : Part) → part_at theirs lower ≡ Some other → ¬ (PartsDisagree (part_of own lower) other)
+  pub below : (lower : ℕ) → lower < origin → (other : Part) → part_at theirs lower ≡ Some other
+      → ¬ (PartsDisagree (part_of own lower) other)
 
 -- what a refusal to merge two replicas says of them: first of their queries, and then of the parts
 abbrev pub MergeTells : MergeError → Held → Held → Type 0
@@ -123,7 +128,8 @@ MergeTells NoMemory own theirs = theirs.query ≡ own.query
 MergeTells (Join origin why) own theirs = (theirs.query ≡ own.query) × IsFirstRefused own.parts theirs.parts origin why
 
 -- the part of a batch's origin takes the batch, and the others stay
-pub record DeliversAt (honest : Bool) (query : Checked) (old : Parts) (origin number : ℕ) (rows : List (List ℕ)) (new : Parts) (reply : Delivered) : Type 0 where
+pub record DeliversAt (honest : Bool) (query : Checked) (old : Parts) (origin number : ℕ) (rows : List (List ℕ)) (new : Parts)
+    (reply : Delivered) : Type 0 where
   pub part : Part
   pub own : part_at new origin ≡ Some part
   pub delivers : Delivers honest (meaning query) (part_of old origin) number rows part reply
@@ -137,16 +143,20 @@ pub record RefusesAt (old : Parts) (batch : packed.Batch) (new : Parts) (refused
   pub same : new ≡ old
   pub tells : BatchTells refused.why (part_of old batch.origin) batch.number batch.rows
 
--- a batch is delivered to the parts of a query, over a disk of tapes, by a limit and a hash function: the part of its origin takes it, or it is
+-- a batch is delivered to the parts of a query, over a disk of tapes, by a limit and a hash function: the part of its origin takes it, or
+-- it is
 -- refused; what the aggregation of the batches that are folded takes is counted, and nothing where it is refused; and what that leaves of
 -- the disk
-pub record IsDelivery {D : Type 0} (g : Ghosts D) (query : Checked) (setting : Setting) (batch : packed.Batch) (old : Parts) (before : D) (begun : Work) (new : Parts) (after : D) (done : Work) (result : Result Delivered RefusedBatch) : Type 0 where
+pub record IsDelivery {D : Type 0} (g : Ghosts D) (query : Checked) (setting : Setting) (batch : packed.Batch) (old : Parts) (before : D)
+    (begun : Work) (new : Parts) (after : D) (done : Work) (result : Result Delivered RefusedBatch) : Type 0 where
   pub taken : IfOk result (DeliversAt (g.honest before) query old batch.origin batch.number batch.rows new)
   pub refused : IfErr result (RefusesAt old batch new)
-  pub counted : OnOk result (IsTrue (g.honest before) → AreCounted (meaning query) setting (aggregations_on (part_of old batch.origin) batch.number batch.rows) begun (g.writes before) done (g.writes after))
+  pub counted : OnOk result (IsTrue (g.honest before)
+      → AreCounted (meaning query) setting (aggregations_on (part_of old batch.origin) batch.number batch.rows) begun (g.writes before) done
+      (g.writes after))
   pub uncounted : OnErr result (done ≡ begun)
   pub undamaged : IfErr result (λ refused. IsTrue (g.honest before) → refused.why ≢ Spill TapeDamaged)
-  pub disk : Leaves g (failed batch_faults result) before after
+  pub disk : DiskFrame g (failed batch_faults result) before after
 
 -- what a part of an origin says of it
 abbrev pub known_part : ℕ × Part → KnownOrigin
@@ -154,7 +164,7 @@ known_part held = record { origin = held.0; upto = held.1.prefix; early = map (�
 
 -- what a part brings to an answer: its groups, which count at most the rows that its prefix may have
 abbrev pub counted : Part → Brought
-counted part = Counted part.run (part.prefix * MOST_ROWS)
+counted part = Counted part.run (part.prefix * MAX_ROWS)
 
 abbrev pub counted_part : ℕ × Part → Brought
 counted_part held = counted held.1

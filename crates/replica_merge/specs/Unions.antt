@@ -4,7 +4,7 @@ use Rattle.std.specs.Borrow.{Bor}
 use Rattle.grouping_model.specs.Datum.{Row}
 use Rattle.grouping_model.specs.Query.{Query}
 use Rattle.grouping_model.specs.Grouping.{part}
-use Rattle.packed_rows.specs.RowsOnEnd.{on_end}
+use Rattle.packed_rows.specs.ConcatenatedRows.{concatenated}
 use Rattle.group_runs.specs.Runs.{Entry}
 use Rattle.group_runs.specs.Standing.{AreGroups, IsRun}
 use Rattle.hash_agg.specs.Inputs.{Brought, all_rows, AreInputsOf}
@@ -18,7 +18,8 @@ brought_by parts = map (λ (p : Bor Part). counted p.now) parts
 -- a run has the groups of all of these inputs: it is a run of the query, and where they stand for lists of rows, it has the groups of
 -- all of these rows
 pub record IsUnion (query : Query) (inputs : List Brought) (run : List Entry) : Type 0 where
-  pub part : (lists : List (List Row)) → AreInputsOf query inputs lists → AreGroups query (all_rows inputs) run (part query (on_end lists))
+  pub part : (lists : List (List Row)) → AreInputsOf query inputs lists
+      → AreGroups query (all_rows inputs) run (part query (concatenated lists))
   pub is_run : IsRun query (all_rows inputs) run
 
 -- a run is that of the only part

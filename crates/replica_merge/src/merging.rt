@@ -13,10 +13,11 @@ ghost use Rattle.origin_prefix.specs.Joins.{Joins, PartsDisagree, JoinTells, Joi
 ghost use Rattle.origin_prefix.specs.declared.error.JoinError.{JoinError};
 ghost use Rattle.origin_prefix.specs.declared.error.JoinError.TheVariants.{OriginDisagrees, Spill};
 ghost use Rattle.replica_merge.specs.Counting.{MergeIsCounted, JoinsInOrder};
-ghost use Rattle.replica_merge.specs.Replicas.{Parts, part_at, part_of, told, Fits, AreHeldParts, JoinedAside, Merges, DisagreeSomewhere, MergeTells, filled};
-ghost use Rattle.spill_lists.specs.declared.error.SpillError.TheVariants.{TapeDamaged};
+ghost use Rattle.replica_merge.specs.Replicas.{Parts, part_at, part_of, told, Fits, AreHeldParts, JoinedAside, Merges, DisagreeSomewhere};
+ghost use Rattle.replica_merge.specs.Replicas.{MergeTells, filled};
+ghost use Rattle.spill_partitions.specs.declared.error.SpillError.TheVariants.{TapeDamaged};
 ghost use Rattle.tape_disks.specs.Calls.{failed};
-ghost use Rattle.tape_disks.specs.Disk.{Leaves};
+ghost use Rattle.tape_disks.specs.Disk.{DiskFrame};
 ghost use Rattle.replica_merge.specs.Errors.{merge_faults};
 ghost use Rattle.replica_merge.specs.declared.error.MergeError.TheVariants.{Join};
 
@@ -93,7 +94,7 @@ fn join_part<H: KeyHash + Copy, D: TapeDisk>(
     ensures tells { IfErr result (λ e. (why : JoinError) × (e ≡ Join origin why)
         × JoinTells why (unwrap_or (option_copied own.entry) empty) theirs.now) }
     ensures undamaged { IfErr result (λ e. IsTrue (D.honest disk.old) → (at : ℕ) → e ≢ Join at (Spill TapeDamaged)) }
-    ensures disk { Leaves D.TapeDisk (failed merge_faults result) disk.old disk.new }
+    ensures disk { DiskFrame D.TapeDisk (failed merge_faults result) disk.old disk.new }
 {
     let joined = match own {
         Some(own) => own.join(theirs, query, means, disk, work),
@@ -131,7 +132,7 @@ fn join_all<H: KeyHash + Copy, D: TapeDisk>(
         own.now.entries theirs.now.entries
         work.old (D.writes disk.old) e (D.writes disk.new)) }
     ensures undamaged { IfErr result (λ e. IsTrue (D.honest disk.old) → (at : ℕ) → e ≢ Join at (Spill TapeDamaged)) }
-    ensures disk { Leaves D.TapeDisk (failed merge_faults result) disk.old disk.new }
+    ensures disk { DiskFrame D.TapeDisk (failed merge_faults result) disk.old disk.new }
 {
     let mut joined = places(alloc, own)?;
     for (origin, part) in theirs {
@@ -217,7 +218,7 @@ impl Replica {
             self.now.parts other.now.parts
             work.old (D.writes disk.old) e (D.writes disk.new)) }
         ensures undamaged { IfErr result (λ e. IsTrue (D.honest disk.old) → (at : ℕ) → e ≢ Join at (Spill TapeDamaged)) }
-        ensures disk { Leaves D.TapeDisk (failed merge_faults result) disk.old disk.new }
+        ensures disk { DiskFrame D.TapeDisk (failed merge_faults result) disk.old disk.new }
     {
         if !self.query.same_query(&other.query) {
             return Err(MergeError::DifferentQuery);
@@ -299,7 +300,7 @@ impl Replica {
             self.old.parts other.now.parts
             work.old (D.writes disk.old) e (D.writes disk.new)) }
         ensures undamaged { IfErr result (λ e. IsTrue (D.honest disk.old) → (at : ℕ) → e ≢ Join at (Spill TapeDamaged)) }
-        ensures disk { Leaves D.TapeDisk (failed merge_faults result) disk.old disk.new }
+        ensures disk { DiskFrame D.TapeDisk (failed merge_faults result) disk.old disk.new }
     {
         let joined = self.join(other, means, disk, work)?;
         self.commit(joined);

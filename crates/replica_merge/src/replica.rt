@@ -1,6 +1,7 @@
 //! What a replica holds, and what it tells of it.
 
-ghost use Rattle.std.specs.Prelude.{◌≡◌, ◌≢◌, ◌+◌, ◌≤◌, ℕ, List, Option, None, All, [], map, length, Some, IsSome, IsTrue, false, IfOk, IfErr, OnOk, OnErr};
+ghost use Rattle.std.specs.Prelude.{◌≡◌, ◌≢◌, ◌+◌, ◌≤◌, ℕ, List, Option, None, All, [], map, length, Some, IsSome, IsTrue, false, IfOk};
+ghost use Rattle.std.specs.Prelude.{IfErr, OnOk, OnErr};
 ghost use Rattle.grouping_model.specs.declared.limits.TheConstants.{LAST_NUMBER};
 ghost use Rattle.grouping_model.specs.Answer.{answer};
 ghost use Rattle.grouping_model.specs.Datum.{Row};
@@ -14,15 +15,15 @@ ghost use Rattle.origin_prefix.specs.Parts.{IsPartOf, Disagrees, BatchTells, agg
 ghost use Rattle.origin_prefix.specs.Errors.{batch_faults};
 ghost use Rattle.origin_prefix.specs.declared.error.JoinError.TheVariants.{OriginDisagrees, Spill};
 ghost use Rattle.tape_disks.specs.Calls.{failed};
-ghost use Rattle.tape_disks.specs.Disk.{Leaves};
-ghost use Rattle.spill_lists.specs.declared.error.SpillError.{SpillError};
-ghost use Rattle.spill_lists.specs.declared.error.SpillError.TheVariants.{TapeDamaged};
+ghost use Rattle.tape_disks.specs.Disk.{DiskFrame};
+ghost use Rattle.spill_partitions.specs.declared.error.SpillError.{SpillError};
+ghost use Rattle.spill_partitions.specs.declared.error.SpillError.TheVariants.{TapeDamaged};
 ghost use Rattle.replica_merge.specs.Replicas.{part_at, part_of, told, Fits, AreHeldParts, DeliversAt, IsDelivery, known_of, known_part};
 
 use crate::known_origin::KnownOrigin;
 use crate::uniting::{listed, run_alone, united};
 use batch_reader::{Batch, PackedRows};
-use group_answers::show;
+use group_answers::finalize_and_project;
 use hash_agg::{KeyHash, Means, SpillError, TapeDisk, Work};
 use having_filter::{Answer, Query};
 use origin_prefix::{Delivered, JoinError, OriginPart, RefusedBatch};
@@ -211,7 +212,7 @@ impl Replica {
             (world : World) (those : List Row) → Fits world self.old →
             world batch.origin batch.number ≡ Some those → batch.rows ≢ packings those) }
         ensures undamaged { IfErr result (λ e. IsTrue (D.honest disk.old) → e.why ≢ Spill TapeDamaged) }
-        ensures disk { Leaves D.TapeDisk (failed batch_faults result) disk.old disk.new }
+        ensures disk { DiskFrame D.TapeDisk (failed batch_faults result) disk.old disk.new }
     {
         deliver_in(
             self.alloc,
@@ -241,9 +242,9 @@ impl Replica {
     {
         let parts = listed(self.alloc, &self.parts)?;
         if let Some(run) = run_alone(&parts) {
-            return show(self.alloc, &self.query, run);
+            return finalize_and_project(self.alloc, &self.query, run);
         }
         let run = united(self.alloc, &self.query, &parts)?;
-        show(self.alloc, &self.query, &run)
+        finalize_and_project(self.alloc, &self.query, &run)
     }
 }

@@ -13,7 +13,8 @@ use std::alloc::{AllocError, Global};
 use summary_codec::{SummaryError, decode_sharing, encode};
 
 impl Replica {
-    /// The summary file of the query and of what is known: the one spelling of both, in the second version. The only error is a failed allocation.
+    /// The summary file of the query and of what is known: the one spelling of both, in the second version. The only error is a failed
+    /// allocation.
     pub fn save(&self) -> Result<Vec<u8>, AllocError>
         ensures summary { IfOk result (λ bytes. IsSaved bytes.items self.now.query self.now.parts) }
         // So replicas that tell the same batches of a world save equal bytes.
@@ -23,7 +24,8 @@ impl Replica {
         encode(self.alloc, &self.query, &self.parts)
     }
 
-    /// The replica that a summary file is of, of either version. Any bytes are read: those that are no such file are refused, by the first fault.
+    /// The replica that a summary file is of, of either version. Any bytes are read: those that are no such file are refused, by the first
+    /// fault.
     pub fn load(alloc: Global, bytes: &[u8]) -> Result<Replica, SummaryError>
         ensures loaded { IfOk result (IsLoaded bytes.now) }
         ensures fault { IfErr result (λ e. e ≢ NoMemory → HasFault bytes.now e) }

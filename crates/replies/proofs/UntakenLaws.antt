@@ -1,8 +1,8 @@
 -- Why a replica did not take a batch or another replica, by the refusal.
 use Rattle.std.specs.Prelude.{◌≡◌, ◌≢◌, ℕ, refl, Option}
 use Rattle.std.proofs.Common.{ap}
-use Rattle.spill_lists.specs.declared.error.SpillError.{SpillError}
-use Rattle.spill_lists.specs.declared.error.SpillError.TheVariants as spill
+use Rattle.spill_partitions.specs.declared.error.SpillError.{SpillError}
+use Rattle.spill_partitions.specs.declared.error.SpillError.TheVariants as spill
 use Rattle.origin_prefix.specs.declared.error.JoinError.{JoinError}
 use Rattle.origin_prefix.specs.declared.error.JoinError.TheVariants as join
 use Rattle.replica_merge.specs.declared.error.MergeError.{MergeError}
@@ -12,21 +12,24 @@ use Rattle.replies.specs.Refusals.{spill_refusal, join_refusal, merge_refusal}
 use Rattle.replies.specs.declared.refusal.Refusal.TheVariants.{OriginDisagrees, TapeDamaged}
 
 -- why a batch was not taken, from the refusal
-pub other_why : (origin : ℕ) (why : JoinError) (of : ℕ) (at : Option ℕ) → join_refusal origin why ≡ OriginDisagrees of at → why ≡ join.OriginDisagrees at
+pub other_why : (origin : ℕ) (why : JoinError) (of : ℕ) (at : Option ℕ) → join_refusal origin why ≡ OriginDisagrees of at → why
+    ≡ join.OriginDisagrees at
 other_why origin (join.OriginDisagrees number) of at e = cc
 other_why origin (join.Spill spill.NoMemory) of at e = cc
 other_why origin (join.Spill spill.TapeFault) of at e = cc
 other_why origin (join.Spill spill.TapeDamaged) of at e = cc
 
 -- and of which origin
-pub told_of : (origin asked : ℕ) (why : JoinError) (of : ℕ) (at : Option ℕ) → join_refusal origin why ≡ OriginDisagrees of at → origin ≡ asked → of ≡ asked
+pub told_of : (origin asked : ℕ) (why : JoinError) (of : ℕ) (at : Option ℕ) → join_refusal origin why ≡ OriginDisagrees of at → origin
+    ≡ asked → of ≡ asked
 told_of origin asked (join.OriginDisagrees number) of at e same = cc
 told_of origin asked (join.Spill spill.NoMemory) of at e same = cc
 told_of origin asked (join.Spill spill.TapeFault) of at e same = cc
 told_of origin asked (join.Spill spill.TapeDamaged) of at e same = cc
 
 -- disagreement is told where a merge tells it
-pub told_disagreement : (e : MergeError) (of : ℕ) (at : Option ℕ) → merge_refusal e ≡ OriginDisagrees of at → e ≡ merge.Join of (join.OriginDisagrees at)
+pub told_disagreement : (e : MergeError) (of : ℕ) (at : Option ℕ) → merge_refusal e ≡ OriginDisagrees of at → e
+    ≡ merge.Join of (join.OriginDisagrees at)
 told_disagreement merge.DifferentQuery of at is = cc is
 told_disagreement merge.NoMemory of at is = cc is
 told_disagreement (merge.Join origin (join.OriginDisagrees number)) of at is = cc is
@@ -44,13 +47,15 @@ pub join_damage : (origin : ℕ) (why : JoinError) → join_refusal origin why �
 join_damage origin (join.OriginDisagrees number) e = cc
 join_damage origin (join.Spill error) e = ap join.Spill (spill_damage error e)
 
-pub merge_damage : (error : MergeError) → merge_refusal error ≡ TapeDamaged → (origin : ℕ) × (error ≡ merge.Join origin (join.Spill spill.TapeDamaged))
+pub merge_damage : (error : MergeError) → merge_refusal error ≡ TapeDamaged → (origin : ℕ)
+    × (error ≡ merge.Join origin (join.Spill spill.TapeDamaged))
 merge_damage merge.DifferentQuery e = cc
 merge_damage merge.NoMemory e = cc
 merge_damage (merge.Join origin why) e = (origin, ap (merge.Join origin) (join_damage origin why e))
 
 -- one that tells no disagreement
-pub by_spill : (origin : ℕ) (why : JoinError) → ((of : ℕ) (at : Option ℕ) → join_refusal origin why ≢ OriginDisagrees of at) → (error : SpillError) × (why ≡ join.Spill error)
+pub by_spill : (origin : ℕ) (why : JoinError) → ((of : ℕ) (at : Option ℕ) → join_refusal origin why ≢ OriginDisagrees of at)
+    → (error : SpillError) × (why ≡ join.Spill error)
 by_spill origin (join.OriginDisagrees number) other = absurd (other origin number refl)
 by_spill origin (join.Spill error) other = (error, refl)
 

@@ -1,7 +1,7 @@
 -- What a batch and a query's text are, and how a replica takes a batch. All of this is our own.
 use Rattle.std.specs.Prelude.{ℕ, ◌≡◌, ◌≢◌, ◌≤◌, Bool, IsTrue, List, length, Some}
 use Rattle.grouping_model.specs.Datum.{Kind, Row}
-use Rattle.grouping_model.specs.declared.limits.TheConstants.{MOST_ROWS}
+use Rattle.grouping_model.specs.declared.limits.TheConstants.{MAX_ROWS}
 use Rattle.grouping_model.specs.Replies.{reply_of}
 use Rattle.grouping_model.specs.World.{World, IsWorld, learn}
 use Rattle.grouping_model.specs.declared.delivered.Delivered.{Delivered}
@@ -30,7 +30,7 @@ pub record Fed : Type 0 where
 pub record IsBatch (kinds : List Kind) (origin number : List ℕ) (told : ℕ) (owned : List Record) (fed : Fed) : Type 0 where
   pub origin_is : ReadsOrigin origin fed.origin
   pub number_is : ReadsBatchNumber number fed.number
-  pub few : told ≤ MOST_ROWS
+  pub few : told ≤ MAX_ROWS
   pub whole : length owned ≡ told
   pub rows_are : ReadsRows kinds owned fed.rows
 
@@ -56,12 +56,14 @@ IsOfBatch TapeDamaged = ⊥
 IsOfBatch why = Unit {0}
 
 -- a replica took a batch that was fed, over a disk of tapes that may be honest
-pub record Takes (honest : Bool) (origin number : List ℕ) (told_rows : ℕ) (owned : List Record) (old new : Held) (delivered : Delivered) : Type 0 where
+pub record Takes (honest : Bool) (origin number : List ℕ) (told_rows : ℕ) (owned : List Record) (old new : Held) (delivered : Delivered) :
+    Type 0 where
   pub fed : Fed
   pub is_batch : IsBatch (kinds old.query.columns) origin number told_rows owned fed
   pub reply : delivered ≡ reply_of (told old.parts) (fed.origin, fed.number)
   pub learns : told new.parts ≡ learn (told old.parts) (fed.origin, fed.number)
-  pub fits : IsTrue honest → (world : World) → IsWorld (kinds old.query.columns) world → Fits world old → world fed.origin fed.number ≡ Some fed.rows → Fits world new
+  pub fits : IsTrue honest → (world : World) → IsWorld (kinds old.query.columns) world → Fits world old → world fed.origin fed.number
+      ≡ Some fed.rows → Fits world new
   pub asked : new.query ≡ old.query
 
 -- a batch that was fed disagrees with what a replica holds: no world that this fits has the batch
@@ -74,7 +76,7 @@ pub record IsOtherBatch (origin number : List ℕ) (told_rows : ℕ) (owned : Li
 pub record IsRead (kinds : List Kind) (origin number : List ℕ) (told : ℕ) (owned : List Record) (read : Batch) : Type 0 where
   pub origin_is : ReadsOrigin origin read.origin
   pub number_is : ReadsBatchNumber number read.number
-  pub few : length read.rows ≤ MOST_ROWS
+  pub few : length read.rows ≤ MAX_ROWS
   pub whole : length read.rows ≡ told
   pub rows : List Row
   pub rows_are : ReadsRows kinds owned rows
@@ -83,9 +85,11 @@ pub record IsRead (kinds : List Kind) (origin number : List ℕ) (told : ℕ) (o
 -- a replica took a packed batch: that of whatever fields and records it was read of
 abbrev pub TakesRead : (honest : Bool) → Batch → (old new : Held) → Delivered → Type 0
 TakesRead honest read old new delivered =
-    (origin number : List ℕ) (told_rows : ℕ) (owned : List Record) → IsRead (kinds old.query.columns) origin number told_rows owned read → Takes honest origin number told_rows owned old new delivered
+    (origin number : List ℕ) (told_rows : ℕ) (owned : List Record) → IsRead (kinds old.query.columns) origin number told_rows owned read
+    → Takes honest origin number told_rows owned old new delivered
 
 -- a packed batch disagrees with what a replica holds
 abbrev pub IsOtherRead : Batch → Held → Type 0
 IsOtherRead read held =
-    (origin number : List ℕ) (told_rows : ℕ) (owned : List Record) → IsRead (kinds held.query.columns) origin number told_rows owned read → IsOtherBatch origin number told_rows owned held
+    (origin number : List ℕ) (told_rows : ℕ) (owned : List Record) → IsRead (kinds held.query.columns) origin number told_rows owned read
+    → IsOtherBatch origin number told_rows owned held

@@ -9,15 +9,18 @@ use Rattle.query_checks.specs.declared.error.QueryError.TheVariants.{NoSuchColum
 use Rattle.query_checks.specs.declared.order.OrderTerm.{OrderTerm}
 use Rattle.query_checks.specs.Forms.{Written}
 use Rattle.query_checks.specs.Order.{Asked, names_items}
-use Rattle.query_checks.specs.Checks.{Checked, checked, checked_places, checked_order, with_order, placed, has_too_many, all_of, filters_pass, is_shallow, are_shallow, has_columns}
+use Rattle.query_checks.specs.Checks.{Checked, checked, checked_places, checked_order, with_order, placed, has_too_many, all_of}
+use Rattle.query_checks.specs.Checks.{filters_pass, is_shallow, are_shallow, has_columns}
 use Rattle.group_parser.specs.Parsing.{Accepts}
 
 -- what is accepted was not refused before
-behind : (fails : Bool) (error : QueryError) (rest : Result Checked QueryError) (q : Checked) → (if fails then Err error else rest) ≡ Ok q → rest ≡ Ok q
+behind : (fails : Bool) (error : QueryError) (rest : Result Checked QueryError) (q : Checked) → (if fails then Err error else rest) ≡ Ok q
+    → rest ≡ Ok q
 behind true error rest q passed = absurd (false≢true (ap (λ (r : Result Checked QueryError). is_ok r) passed))
 behind false error rest q passed = passed
 
-over_order : (columns : List Column) (written : Result (Written ℕ) QueryError) (order : Result (List OrderTerm) QueryError) (q : Checked) → with_order columns written order ≡ Ok q → q.columns ≡ columns
+over_order : (columns : List Column) (written : Result (Written ℕ) QueryError) (order : Result (List OrderTerm) QueryError) (q : Checked)
+    → with_order columns written order ≡ Ok q → q.columns ≡ columns
 over_order columns (Err e) order q passed = absurd (false≢true (ap (λ (r : Result Checked QueryError). is_ok r) passed))
 over_order columns (Ok written) (Err e) q passed = absurd (false≢true (ap (λ (r : Result Checked QueryError). is_ok r) passed))
 over_order columns (Ok written) (Ok order) q passed = sym (ap (λ (r : Result Checked QueryError). columns_or columns r) passed)
@@ -30,7 +33,9 @@ over_columns : (columns : List Column) (asked : Asked) (q : Checked) → checked
 unfolding checked
 over_columns columns asked q passed =
     over_order columns (checked_places columns (placed columns asked.written)) (checked_order asked) q
-    (behind (not (has_columns columns asked.written && names_items asked)) NoSuchColumn _ q (behind (not (all_of (filters_pass is_shallow) are_shallow asked.written)) TooDeep _ q (behind (has_too_many asked) TooMany _ q passed)))
+    (behind (not (has_columns columns asked.written && names_items asked)) NoSuchColumn _ q
+    (behind (not (all_of (filters_pass is_shallow) are_shallow asked.written)) TooDeep _ q
+    (behind (has_too_many asked) TooMany _ q passed)))
 
 pub read_over : (columns : List Column) (text : List ℕ) (q : Checked) → Accepts columns text q → q.columns ≡ columns
 read_over columns text q read = over_columns columns read.asked q read.passed

@@ -9,8 +9,8 @@ use Rattle.group_parser.specs.declared.error.ParseError.{ParseError}
 use Rattle.group_parser.specs.declared.error.ParseError.TheVariants as parse
 use Rattle.summary_codec.specs.declared.error.SummaryError.{SummaryError}
 use Rattle.summary_codec.specs.declared.error.SummaryError.TheVariants as summary
-use Rattle.spill_lists.specs.declared.error.SpillError.{SpillError}
-use Rattle.spill_lists.specs.declared.error.SpillError.TheVariants as spill
+use Rattle.spill_partitions.specs.declared.error.SpillError.{SpillError}
+use Rattle.spill_partitions.specs.declared.error.SpillError.TheVariants as spill
 use Rattle.origin_prefix.specs.declared.error.JoinError.{JoinError}
 use Rattle.origin_prefix.specs.declared.error.JoinError.TheVariants as join
 use Rattle.replica_merge.specs.declared.error.MergeError.{MergeError}
@@ -20,7 +20,8 @@ use Rattle.script_io.specs.declared.input.InputError.TheVariants as input
 use Rattle.replies.specs.declared.error.RunError.{RunError}
 use Rattle.replies.specs.declared.error.RunError.TheVariants as stop
 use Rattle.replies.specs.declared.refusal.Refusal.{Refusal}
-use Rattle.replies.specs.declared.refusal.Refusal.TheVariants.{NoMemory, BadSchema, Limit, Query, Batch, Summary, DifferentQuery, OriginDisagrees, TapeFault, TapeDamaged, Run}
+use Rattle.replies.specs.declared.refusal.Refusal.TheVariants.{NoMemory, BadSchema, Limit, Query, Batch, Summary, DifferentQuery}
+use Rattle.replies.specs.declared.refusal.Refusal.TheVariants.{OriginDisagrees, TapeFault, TapeDamaged, Run}
 
 -- a limit out of its range
 abbrev pub limit_out_of_range : Refusal

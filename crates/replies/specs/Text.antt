@@ -14,7 +14,9 @@ use Rattle.table_print.specs.Aligned.{aligned_text, sides}
 use Rattle.table_print.specs.Table.{table_text}
 use Rattle.replies.specs.Refusals.{tells_fault}
 use Rattle.replies.specs.declared.refusal.Refusal.{Refusal}
-use Rattle.replies.specs.declared.refusal.Refusal.TheVariants.{NoMemory, BadSchema, Limit, Query, Batch, Summary, DifferentQuery, OriginDisagrees, TapeFault, TapeDamaged, Run, BadCommand, NoSuchName, NameTaken}
+use Rattle.replies.specs.declared.refusal.Refusal.TheVariants.{NoMemory, BadSchema, Limit, Query, Batch, Summary, DifferentQuery}
+use Rattle.replies.specs.declared.refusal.Refusal.TheVariants.{OriginDisagrees, TapeFault, TapeDamaged, Run, BadCommand, NoSuchName}
+use Rattle.replies.specs.declared.refusal.Refusal.TheVariants.{NameTaken}
 use Rattle.replies.specs.declared.error.RunError.{RunError}
 use Rattle.replies.specs.declared.error.RunError.TheVariants as stop
 use Rattle.replies.specs.declared.reply.Reply.{Reply}

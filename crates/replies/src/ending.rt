@@ -15,7 +15,7 @@ pub struct Outcome {
 
 /// How a command ended.
 #[derive(Clone, Copy, Debug, PartialEq, Eq)]
-pub enum Ending {
+pub enum ExitKind {
     /// All was done, or help or the version was shown.
     Done,
     /// Something was refused.
@@ -27,35 +27,35 @@ pub enum Ending {
 }
 
 /// The status of the process after a command.
-pub fn status(ending: Ending) -> u8
+pub fn status(ending: ExitKind) -> u8
     ensures { result ≡ status_of ending }
 {
     match ending {
-        Ending::Done => 0,
-        Ending::Refused => 1,
-        Ending::BadUsage => 2,
-        Ending::Fault => 3,
+        ExitKind::Done => 0,
+        ExitKind::Refused => 1,
+        ExitKind::BadUsage => 2,
+        ExitKind::Fault => 3,
     }
 }
 
 /// How a command ends that was refused.
-pub fn refusal_ending(why: Refusal) -> Ending
+pub fn refusal_ending(why: Refusal) -> ExitKind
     ensures { result ≡ refusal_ending why }
 {
     match why {
-        Refusal::Run(RunError::ReadFault | RunError::WriteFault) => Ending::Fault,
-        _ => Ending::Refused,
+        Refusal::Run(RunError::ReadFault | RunError::WriteFault) => ExitKind::Fault,
+        _ => ExitKind::Refused,
     }
 }
 
 /// How a script's run ends.
-pub fn run_ending(run: &Result<Outcome, RunError>) -> Ending
+pub fn run_ending(run: &Result<Outcome, RunError>) -> ExitKind
     ensures { result ≡ run_ending run.now }
 {
     match run {
-        Ok(outcome) if outcome.refused == 0 => Ending::Done,
-        Ok(_) => Ending::Refused,
-        Err(RunError::NoMemory | RunError::InputTooLong) => Ending::Refused,
-        Err(RunError::ReadFault | RunError::WriteFault) => Ending::Fault,
+        Ok(outcome) if outcome.refused == 0 => ExitKind::Done,
+        Ok(_) => ExitKind::Refused,
+        Err(RunError::NoMemory | RunError::InputTooLong) => ExitKind::Refused,
+        Err(RunError::ReadFault | RunError::WriteFault) => ExitKind::Fault,
     }
 }

@@ -11,7 +11,7 @@ mod reply;
 mod showing;
 mod texts;
 
-pub use ending::{Ending, Outcome, refusal_ending, run_ending, status};
+pub use ending::{ExitKind, Outcome, refusal_ending, run_ending, status};
 pub use error::RunError;
 pub use operations::{join, take_batch};
 pub use output::put_reply;

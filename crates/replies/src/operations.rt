@@ -11,7 +11,7 @@ ghost use Rattle.origin_prefix.specs.Parts.{Disagrees, aggregations_on};
 ghost use Rattle.replica_merge.specs.Counting.{MergeIsCounted};
 ghost use Rattle.replica_merge.specs.Replicas.{part_of, told, Fits, DisagreeSomewhere, DeliversAt};
 ghost use Rattle.tape_disks.specs.Calls.{failed};
-ghost use Rattle.tape_disks.specs.Disk.{Leaves};
+ghost use Rattle.tape_disks.specs.Disk.{DiskFrame};
 ghost use Rattle.replies.specs.declared.refusal.Refusal.TheVariants.{OriginDisagrees, TapeDamaged};
 ghost use Rattle.replies.specs.Refusals.{refusal_faults};
 ghost use Rattle.replies.specs.Batches.{TakesRead, IsOfBatch, IsOtherRead};
@@ -67,7 +67,7 @@ pub fn take_batch<H: KeyHash + Copy, D: TapeDisk>(
     ensures other { IfErr result (λ why. (of : ℕ) (at : Option ℕ) → why ≡ OriginDisagrees of at →
         IsOtherRead batch replica.old) }
     ensures undamaged { IfErr result (λ why. IsTrue (D.honest disk.old) → why ≢ TapeDamaged) }
-    ensures disk { Leaves D.TapeDisk (failed refusal_faults result) disk.old disk.new }
+    ensures disk { DiskFrame D.TapeDisk (failed refusal_faults result) disk.old disk.new }
 {
     match replica.deliver(batch, means, disk, work) {
         Ok(delivered) => Ok(delivered),
@@ -101,7 +101,7 @@ pub fn join<H: KeyHash + Copy, D: TapeDisk>(
     ensures agree { IfErr result (λ why. (of : ℕ) (at : Option ℕ) → why ≡ OriginDisagrees of at → (world : World) →
         Fits world own.now → ¬ (Fits world theirs.now)) }
     ensures undamaged { IfErr result (λ why. IsTrue (D.honest disk.old) → why ≢ TapeDamaged) }
-    ensures disk { Leaves D.TapeDisk (failed refusal_faults result) disk.old disk.new }
+    ensures disk { DiskFrame D.TapeDisk (failed refusal_faults result) disk.old disk.new }
 {
     match own.join(theirs, means, disk, work) {
         Ok(joined) => Ok(joined),

@@ -1,7 +1,8 @@
 //! Why a command, or a whole script, is refused.
 
 ghost use Rattle.std.specs.Prelude.{◌≡◌};
-ghost use Rattle.replies.specs.Refusals.{columns_refusal, batch_refusal, query_refusal, summary_refusal, spill_refusal, join_refusal, merge_refusal};
+ghost use Rattle.replies.specs.Refusals.{columns_refusal, batch_refusal, query_refusal, summary_refusal, spill_refusal, join_refusal};
+ghost use Rattle.replies.specs.Refusals.{merge_refusal};
 ghost use Rattle.replies.specs.Text.{refusal_name};
 ghost use Rattle.replies.specs.declared.refusal.Refusal.TheVariants.{NoMemory, Limit};
 

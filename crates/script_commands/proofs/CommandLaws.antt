@@ -4,7 +4,8 @@ use Rattle.std.proofs.lemmas.Bool.{false_from_ne_true}
 use Rattle.std.proofs.lemmas.Str.{is_utf8-from_IsUtf8, IsUtf8-from_is_utf8}
 use Rattle.std.specs.Str.{is_utf8}
 use Rattle.script_io.specs.Records.{Record}
-use Rattle.script_commands.specs.Commands.{Unknown, command_at, commands_after, commands_of, feed_request, one_field, owned_by, owned_rows, request_of, two_fields}
+use Rattle.script_commands.specs.Commands.{Unknown, command_at, commands_after, commands_of, feed_request, one_field, owned_by, owned_rows}
+use Rattle.script_commands.specs.Commands.{request_of, two_fields}
 
 pub request_two : (fields : Record) → length fields ≡ 2 → request_of fields ≡ one_field (get_or fields 0 []) (get_or fields 1 [])
 unfolding request_of
@@ -23,7 +24,8 @@ request_three (a ∷ b ∷ c ∷ []) h = refl
 request_three (a ∷ b ∷ c ∷ d ∷ rest) h = absurd (omega arith)
 
 pub request_five : (fields : Record) → length fields ≡ 5
-    → request_of fields ≡ feed_request (get_or fields 0 []) (get_or fields 1 []) (get_or fields 2 []) (get_or fields 3 []) (get_or fields 4 [])
+    → request_of fields ≡ feed_request (get_or fields 0 []) (get_or fields 1 []) (get_or fields 2 []) (get_or fields 3 [])
+    (get_or fields 4 [])
 unfolding request_of
 request_five [] h = absurd (omega arith)
 request_five (a ∷ []) h = absurd (omega arith)
@@ -70,7 +72,8 @@ commands_skip zero records = refl
 commands_skip (suc n) [] = refl
 commands_skip (suc n) (head ∷ rest) = commands_skip n rest
 
-pub commands_next : (head : Record) (rest : List Record) → commands_of (head ∷ rest) ≡ command_at head rest ∷ commands_of (drop (owned_by head) rest)
+pub commands_next : (head : Record) (rest : List Record) → commands_of (head ∷ rest) ≡ command_at head rest
+    ∷ commands_of (drop (owned_by head) rest)
 unfolding commands_after
 commands_next head rest = ap (λ l. command_at head rest ∷ l) (commands_skip (owned_by head) rest)
 

@@ -1,10 +1,11 @@
 -- The commands of a script, and what each asks. All of this is our own.
-use Rattle.std.specs.Prelude.{ℕ, zero, suc, ◌==◌, ◌&&◌, ◌||◌, Bool, List, [], ◌∷◌, length, take, codes, nat_le, nat_lt, unwrap_or, if◌then◌else◌}
+use Rattle.std.specs.Prelude.{ℕ, zero, suc, ◌==◌, ◌&&◌, ◌||◌, Bool, List, [], ◌∷◌, length, take, codes, nat_le, nat_lt, unwrap_or}
+use Rattle.std.specs.Prelude.{if◌then◌else◌}
 use Rattle.std.specs.Str.{bytes_eq, is_utf8}
 use Rattle.std.specs.List.{list_all}
 use Rattle.std.specs.Char.{is_ascii_alphanumeric}
 use Rattle.std.specs.Option.{option_map_or}
-use Rattle.grouping_model.specs.declared.limits.TheConstants.{LONGEST_NAME}
+use Rattle.grouping_model.specs.declared.limits.TheConstants.{MAX_NAME_LEN}
 use Rattle.script_io.specs.Records.{Record}
 use Rattle.script_io.specs.Digits.{row_count, limit_told}
 
@@ -32,7 +33,7 @@ abbrev pub is_name_byte : ℕ → Bool
 is_name_byte b = is_ascii_alphanumeric b || (b == 95)
 
 abbrev pub is_name : List ℕ → Bool
-is_name bytes = nat_lt 0 (length bytes) && nat_le (length bytes) LONGEST_NAME && list_all is_name_byte bytes
+is_name bytes = nat_lt 0 (length bytes) && nat_le (length bytes) MAX_NAME_LEN && list_all is_name_byte bytes
 
 -- what a word and a name ask
 abbrev pub name_request : List ℕ → List ℕ → Request

@@ -4,11 +4,12 @@ ghost use Rattle.std.specs.Prelude.{◌≡◌, ◌<◌, false, IsTrue, IfSome, I
 ghost use Rattle.std.specs.List.{list_all};
 ghost use Rattle.std.specs.Str.{is_utf8};
 ghost use Rattle.csv.specs.Records.{fields_of};
-ghost use Rattle.script_commands.specs.Commands.{is_name, is_name_byte, one_field, two_fields, name_request, names_request, feed_request, owned_rows, owned_by, request_of};
+ghost use Rattle.script_commands.specs.Commands.{is_name, is_name_byte, one_field, two_fields, name_request, names_request, feed_request};
+ghost use Rattle.script_commands.specs.Commands.{owned_rows, owned_by, request_of};
 ghost use Rattle.script_commands.specs.Views.{request_view};
 
 use csv::ByteRecord;
-use grouping_model::limits::LONGEST_NAME;
+use grouping_model::limits::MAX_NAME_LEN;
 use script_io::{field, read_limit, read_row_count};
 use std::str;
 
@@ -65,7 +66,7 @@ fn are_name_bytes(bytes: &[u8]) -> bool
 fn is_legal_name(name: &[u8]) -> bool
     ensures { result ≡ is_name name.now }
 {
-    !name.is_empty() && name.len() <= LONGEST_NAME && are_name_bytes(name)
+    !name.is_empty() && name.len() <= MAX_NAME_LEN && are_name_bytes(name)
 }
 
 /// What a word and a name ask.

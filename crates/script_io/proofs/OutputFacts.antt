@@ -15,14 +15,16 @@ pub front-short : (a b : Option (List ℕ)) (bytes : List ℕ) → StopsShort a 
 front-short a b bytes p = (p.0, p.1, p.2, p.4)
 
 -- n bytes of more than n went out, and then nothing
-pub short-at : (a b c : Option (List ℕ)) (n : ℕ) (bytes : List ℕ) → n < length bytes → Appends a b (take n bytes) → Keeps b c → StopsShort a c bytes
+pub short-at : (a b c : Option (List ℕ)) (n : ℕ) (bytes : List ℕ) → n < length bytes → Appends a b (take n bytes) → Keeps b c
+    → StopsShort a c bytes
 short-at a b c n bytes h p k =
     let left : 0 < length (drop n bytes) = omega (arith, length-drop n bytes) in
     (take n bytes, drop n bytes, sym (take-append-drop n bytes), left, Appends-kept a b c _ p k)
 
 -- the rest of some bytes, as a range of them
 rest-range : (n : ℕ) (bytes : List ℕ) → take (length bytes - n) (drop n bytes) ≡ drop n bytes
-rest-range n bytes = take_all (length bytes - n) (drop n bytes) (subst (λ k. k ≤ length bytes - n) (sym (length-drop n bytes)) (omega arith))
+rest-range n bytes = take_all (length bytes - n) (drop n bytes) (subst (λ k. k ≤ length bytes - n) (sym (length-drop n bytes))
+    (omega arith))
 
 -- n bytes went out, and then m of the rest
 pub wrote-more : (a b c : Option (List ℕ)) (n m : ℕ) (bytes : List ℕ) → Appends a b (take n bytes)

@@ -1,5 +1,7 @@
--- Each record takes a byte at least, so one turn more than a text has bytes reads all of its records. The same of a reader over memory; and the field at a place.
-use Rattle.std.proofs.Common.{◌≡◌, ◌≤◌, ◌<◌, ◌+◌, ℕ, zero, suc, List, [], ◌∷◌, length, get_or, Option, Some, None, Bool, true, false, not, MatchBool, if◌then◌else◌, refl, sym, ap, subst, arith, ◌∙◌, add-one}
+-- Each record takes a byte at least, so one turn more than a text has bytes reads all of its records. The same of a reader over memory;
+-- and the field at a place.
+use Rattle.std.proofs.Common.{◌≡◌, ◌≤◌, ◌<◌, ◌+◌, ℕ, zero, suc, List, [], ◌∷◌, length, get_or, Option, Some, None, Bool, true, false, not}
+use Rattle.std.proofs.Common.{MatchBool, if◌then◌else◌, refl, sym, ap, subst, arith, ◌∙◌, add-one}
 use Rattle.csv.specs.Machine.{Read, ends_at_end, field_after, fields_after, is_end, next_record, step}
 use Rattle.csv.specs.Reading.{default_config, records_from, records_next, Reached, ReadRecord, source_of}
 use Rattle.csv.specs.Records.{field_at}
@@ -24,12 +26,14 @@ end-between st.InComment c e = grind arith
 end-between st.AfterCr c e = grind arith
 
 -- a read leaves no more than there was, and less where it starts between two records
-pub next-shrinks : (s : State) (fields : List (List ℕ)) (field text : List ℕ) (r : Read) → next_record default_config s fields field text ≡ Some r
+pub next-shrinks : (s : State) (fields : List (List ℕ)) (field text : List ℕ) (r : Read) → next_record default_config s fields field text
+    ≡ Some r
     → (ends_at_end r.1 ≡ false) × (length r.2 ≤ length text) × (ends_at_end s ≡ false → length r.2 < length text)
 unfolding next_record
 next-shrinks s fields field [] r e = grind arith
 next-shrinks s fields field (c ∷ rest) r e =
-    let further = next-shrinks (step default_config s c).0 (fields_after (step default_config s c).1 fields field) (field_after (step default_config s c).1 c field) rest r in
+    let further = next-shrinks (step default_config s c).0 (fields_after (step default_config s c).1 fields field)
+    (field_after (step default_config s c).1 c field) rest r in
     let between = end-between s c in
     grind arith
 
@@ -95,7 +99,8 @@ reader-next a b f there config between read =
     let found : IsSome (source_of known b) = subst IsSome (sym more.1) refl in (
       found,
       subst (λ s. ends_at_end s ≡ false) state step.1,
-      step.0 ∙ ap (λ l. l ∷ records_on r.1 r.2) (sym more.2.2) ∙ ap (λ s. f ∷ records_on s r.2) state ∙ ap (λ t. f ∷ records_on b.state t) left,
+      step.0 ∙ ap (λ l. l ∷ records_on r.1 r.2) (sym more.2.2) ∙ ap (λ s. f ∷ records_on s r.2) state
+          ∙ ap (λ t. f ∷ records_on b.state t) left,
     )
 
 -- a read that found none leaves none
@@ -104,7 +109,8 @@ pub reader-end : (a b : Reader (Bor (List ℕ))) (f : Record) → IsSome (source
 reader-end a b f there config read = records-none a.state _ (rows-end known a b f default_config _ config (some-is _ there) read)
 
 -- what a read leaves of the records that there were
-pub reader-read : (a b : Reader (Bor (List ℕ))) (found : Bool) (f : Record) (all : List Record) → IsSome (source_of known a) → a.config ≡ default_config
+pub reader-read : (a b : Reader (Bor (List ℕ))) (found : Bool) (f : Record) (all : List Record) → IsSome (source_of known a) → a.config
+    ≡ default_config
     → ends_at_end a.state ≡ false → ReadRecord known a b found f → all ≡ records_on a.state (unwrap_or (source_of known a) [])
     → MatchBool found (all ≡ f ∷ (if not found then [] else records_on b.state (unwrap_or (source_of known b) [])))
     ((all ≡ []) × ((if not found then [] else records_on b.state (unwrap_or (source_of known b) [])) ≡ []))

@@ -1,5 +1,6 @@
 -- Laws: what a reader of known bytes had; nothing here is a definition.
-use Rattle.std.proofs.Common.{◌≡◌, ◌∙◌, ◌+◌, ◌<◌, ℕ, List, ◌++◌, length, Option, Some, None, IfSome, ap, length-append, append-nil, subst, sym, add-one}
+use Rattle.std.proofs.Common.{◌≡◌, ◌∙◌, ◌+◌, ◌<◌, ℕ, List, ◌++◌, length, Option, Some, None, IfSome, ap, length-append, append-nil, subst}
+use Rattle.std.proofs.Common.{sym, add-one}
 use Rattle.std.specs.Io.KnownBytes.{Consumes, IsAtEnd}
 use Rattle.std.proofs.Math.Nat.{le_trans, le_of_eq, le-add_right}
 
@@ -10,8 +11,10 @@ consumes-all (Some x) None text p q = absurd p
 consumes-all (Some x) (Some y) text p q = p ∙ ap (λ l. text ++ l) q ∙ append-nil text
 
 -- a reader that gave more than a limit had more
-pub consumes-longer : (old new : Option (List ℕ)) (bytes : List ℕ) (most : ℕ) → Consumes old new bytes → length bytes ≡ most + 1 → IfSome old (λ all. most < length all)
+pub consumes-longer : (old new : Option (List ℕ)) (bytes : List ℕ) (most : ℕ) → Consumes old new bytes → length bytes ≡ most + 1
+    → IfSome old (λ all. most < length all)
 consumes-longer None new bytes most p h = tt
 consumes-longer (Some x) None bytes most p h = absurd p
 consumes-longer (Some x) (Some y) bytes most p h =
-    subst (λ n. most < n) (sym (ap length p ∙ length-append bytes y)) (le_trans (le_of_eq (sym (add-one most) ∙ sym h)) (le-add_right (length bytes) (length y)))
+    subst (λ n. most < n) (sym (ap length p ∙ length-append bytes y))
+    (le_trans (le_of_eq (sym (add-one most) ∙ sym h)) (le-add_right (length bytes) (length y)))

@@ -17,8 +17,14 @@ front-second a b c xs ys p q = (xs ++ q.0, q.1, ap (λ l. xs ++ l) q.2 ∙ sym (
 
 -- the same where a writer stopped short: of the first bytes, or of the second
 pub short-first : (a b : Option (List ℕ)) (xs ys : List ℕ) → StopsShort a b xs → StopsShort a b (xs ++ ys)
-short-first a b xs ys p =
-    (p.0, p.1 ++ ys, ap (λ l. l ++ ys) p.2 ∙ append_assoc p.0 p.1 ys, subst (λ n. 0 < n) (sym (length-append p.1 ys)) (le_trans p.3 (le-add_right (length p.1) (length ys))), p.4)
+short-first a b xs ys p = (
+  p.0,
+  p.1 ++ ys,
+  ap (λ l. l ++ ys) p.2 ∙ append_assoc p.0 p.1 ys,
+  subst (λ n. 0 < n) (sym (length-append p.1 ys))
+      (le_trans p.3 (le-add_right (length p.1) (length ys))),
+  p.4,
+)
 
 pub short-second : (a b c : Option (List ℕ)) (xs ys : List ℕ) → Appends a b xs → StopsShort b c ys → StopsShort a c (xs ++ ys)
 short-second a b c xs ys p q = (xs ++ q.0, q.1, ap (λ l. xs ++ l) q.2 ∙ sym (append_assoc xs q.0 q.1), q.3, Appends-trans a b c _ _ p q.4)

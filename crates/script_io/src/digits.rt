@@ -7,10 +7,10 @@ ghost use Rattle.std.specs.List.{list_all};
 ghost use Rattle.script_io.specs.Digits.{are_digits, number_of, row_count, limit_told};
 
 /// The most digits of a number of rows.
-const MOST_COUNT_DIGITS: usize = 9;
+const MAX_COUNT_DIGITS: usize = 9;
 
 /// The most digits of a limit.
-const MOST_LIMIT_DIGITS: usize = 19;
+const MAX_LIMIT_DIGITS: usize = 19;
 
 /// Whether all bytes are digits.
 fn all_digits(bytes: &[u8]) -> bool
@@ -57,7 +57,7 @@ pub fn read_digits(field: &[u8], most: usize) -> Option<u64>
 pub fn read_row_count(field: &[u8]) -> Option<u32>
     ensures { result ≡ row_count field.now }
 {
-    match read_digits(field, MOST_COUNT_DIGITS) {
+    match read_digits(field, MAX_COUNT_DIGITS) {
         Some(count) => Some(count as u32),
         None => None,
     }
@@ -67,5 +67,5 @@ pub fn read_row_count(field: &[u8]) -> Option<u32>
 pub fn read_limit(field: &[u8]) -> Option<u64>
     ensures { result ≡ limit_told field.now }
 {
-    read_digits(field, MOST_LIMIT_DIGITS)
+    read_digits(field, MAX_LIMIT_DIGITS)
 }

@@ -1,11 +1,14 @@
 -- A script whose origins give each number to one batch agrees with a world.
-use Rattle.std.specs.Prelude.{◌≡◌, ◌≤◌, refl, ℕ, length, ◌==◌, ◌&&◌, Bool, true, false, List, [], ◌∷◌, All, Contains, Option, Some, None, IfSome, unwrap_or, if◌then◌else◌}
+use Rattle.std.specs.Prelude.{◌≡◌, ◌≤◌, refl, ℕ, length, ◌==◌, ◌&&◌, Bool, true, false, List, [], ◌∷◌, All, Contains, Option, Some, None}
+use Rattle.std.specs.Prelude.{IfSome, unwrap_or, if◌then◌else◌}
 use Rattle.std.proofs.Common.{◌∙◌, ap, sym, subst, inl, inr, arith}
 use Rattle.std.proofs.lemmas.Bool.{true≢false}
 use Rattle.std.proofs.lemmas.List.Elements.{recursion_from_All}
 use Rattle.std.specs.Option.{is_some}
 use Rattle.std.specs.List.{AllByRecursion}
-use Rattle.script_machine.proofs.Words.{Row, HasKinds, LAST_ORIGIN, LAST_NUMBER, MOST_ROWS, IsWorld, Knowledge, Column, kinds, Record, Command, request_of, Fed, IsBatch, State, AgreesWith, FeedAgrees, Agrees, after, world_of, OneBatchEach, IsOfColumns, ColumnsOf, FeedsAmong, AreAmong}
+use Rattle.script_machine.proofs.Words.{Row, HasKinds, LAST_ORIGIN, LAST_NUMBER, MAX_ROWS, IsWorld, Knowledge, Column, kinds, Record}
+use Rattle.script_machine.proofs.Words.{Command, request_of, Fed, IsBatch, State, AgreesWith, FeedAgrees, Agrees, after, world_of}
+use Rattle.script_machine.proofs.Words.{OneBatchEach, IsOfColumns, ColumnsOf, FeedsAmong, AreAmong}
 use Rattle.grouping_model.specs.MemberLaws.{Member, from_contains, to_contains}
 use Rattle.script_commands.specs.Commands as ask
 use Rattle.script_commands.specs.Commands.{Request}
@@ -24,12 +27,15 @@ both_true true false e = absurd (true≢false (sym e))
 both_true false b e = absurd (true≢false (sym e))
 
 -- what the world has is one of the batches
-pub of_world : (feds : List Fed) (o n : ℕ) (rows : List Row) → world_of feds o n ≡ Some rows → (fed : Fed) × Member feds fed × (fed.origin ≡ o) × (fed.number ≡ n) × (fed.rows ≡ rows)
+pub of_world : (feds : List Fed) (o n : ℕ) (rows : List Row) → world_of feds o n ≡ Some rows → (fed : Fed) × Member feds fed
+    × (fed.origin ≡ o) × (fed.number ≡ n) × (fed.rows ≡ rows)
 of_world [] o n rows e = absurd (true≢false (sym (ap is_some e)))
 of_world (fed ∷ feds) o n rows e =
-    elim (fed.origin == o && fed.number == n) as (λ b. (fed.origin == o && fed.number == n) ≡ b → (if b then Some fed.rows else world_of feds o n) ≡ Some rows
+    elim (fed.origin == o && fed.number == n) as (λ b. (fed.origin == o && fed.number == n) ≡ b
+    → (if b then Some fed.rows else world_of feds o n) ≡ Some rows
     → (f : Fed) × Member (fed ∷ feds) f × (f.origin ≡ o) × (f.number ≡ n) × (f.rows ≡ rows)) [
-      | true ↦ λ is e. let both = both_true (fed.origin == o) (fed.number == n) is in (fed, inl refl, same_number fed.origin o both.0, same_number fed.number n both.1, some_is fed.rows rows e)
+      | true ↦ λ is e. let both = both_true (fed.origin == o) (fed.number == n) is in
+          (fed, inl refl, same_number fed.origin o both.0, same_number fed.number n both.1, some_is fed.rows rows e)
       | false ↦ λ is e. let rest = of_world feds o n rows e in (rest.0, inr rest.1, rest.2, rest.3, rest.4)
     ] refl e
 
@@ -41,7 +47,8 @@ in_rest : (f : Fed) (feds : List Fed) (fed : Fed) → Member (f ∷ feds) fed �
     → (Member feds fed → (rows : List Row) × (world_of feds fed.origin fed.number ≡ Some rows))
     → (rows : List Row) × (world_of feds fed.origin fed.number ≡ Some rows)
 in_rest f feds fed (inl same) is rest =
-    absurd (true≢false (sym (ap (λ (g : Fed). g.origin == fed.origin && g.number == fed.number) same ∙ (λ i. itself fed.origin i && itself fed.number i)) ∙ is))
+    absurd (true≢false (sym (ap (λ (g : Fed). g.origin == fed.origin && g.number == fed.number) same
+    ∙ (λ i. itself fed.origin i && itself fed.number i)) ∙ is))
 in_rest f feds fed (inr m) is rest = rest m
 
 -- each batch is in the world, some batch of its number
@@ -54,7 +61,8 @@ in_world (f ∷ feds) fed m =
       | false ↦ λ is. in_rest f feds fed m is (in_world feds fed)
     ] refl
 
-pub batch_in_world : (feds : List Fed) → OneBatchEach feds → (fed : Fed) → Contains feds fed → world_of feds fed.origin fed.number ≡ Some fed.rows
+pub batch_in_world : (feds : List Fed) → OneBatchEach feds → (fed : Fed) → Contains feds fed → world_of feds fed.origin fed.number
+    ≡ Some fed.rows
 batch_in_world feds one fed there =
     let found = in_world feds fed (from_contains feds fed there) in
     let of = of_world feds fed.origin fed.number found.0 found.1 in
@@ -69,11 +77,12 @@ member_all P [] x all m = absurd m
 pub is_world : (feds : List Fed) (columns : List Column) → All (IsOfColumns columns) feds → IsWorld (kinds columns) (world_of feds)
 is_world feds columns all o n rows there =
     let found = of_world feds o n rows there in
-    let is : IsOfColumns columns found.0 = member_all (IsOfColumns columns) feds found.0 (recursion_from_All (IsOfColumns columns) feds all) found.1 in (
+    let is : IsOfColumns columns found.0 = member_all (IsOfColumns columns) feds found.0 (recursion_from_All (IsOfColumns columns) feds all)
+    found.1 in (
       subst (λ m. m ≤ LAST_ORIGIN) found.2 is.origin,
       subst (λ m. 1 ≤ m) found.3 is.first,
       subst (λ m. m ≤ LAST_NUMBER) found.3 is.last,
-      subst (λ rs. length rs ≤ MOST_ROWS) found.4 is.few,
+      subst (λ rs. length rs ≤ MAX_ROWS) found.4 is.few,
       subst (All (HasKinds (kinds columns))) found.4 is.rows,
     )
 
@@ -90,7 +99,8 @@ agrees_reply feds (machine.Listed l) of = tt
 agrees_reply feds (machine.Answered q k) of = tt
 agrees_reply feds (machine.Refused w) of = tt
 
-agrees_feed : (feds : List Fed) → OneBatchEach feds → (old : State) (request : Request) (owned : List Record) → FeedsAmong feds old request owned → FeedAgrees (world_of feds) old request owned
+agrees_feed : (feds : List Fed) → OneBatchEach feds → (old : State) (request : Request) (owned : List Record)
+    → FeedsAmong feds old request owned → FeedAgrees (world_of feds) old request owned
 agrees_feed feds one old (ask.Columns text) owned among = tt
 agrees_feed feds one old (ask.Query text) owned among = tt
 agrees_feed feds one old (ask.Limit bytes) owned among = tt
@@ -103,15 +113,21 @@ agrees_feed feds one old (ask.Load name saved) owned among = tt
 agrees_feed feds one old ask.Unknown owned among = tt
 agrees_feed feds one old (ask.Feed name origin number told) owned among = go (old.replicas name) among
   where
-    go : (found : Option Knowledge) → IfSome found (λ known. (fed : Fed) → IsBatch (kinds (unwrap_or old.columns [])) origin number told owned fed → Contains feds fed)
-        → IfSome found (λ known. (fed : Fed) → IsBatch (kinds (unwrap_or old.columns [])) origin number told owned fed → world_of feds fed.origin fed.number ≡ Some fed.rows)
+    go : (found : Option Knowledge)
+        → IfSome found (λ known. (fed : Fed) → IsBatch (kinds (unwrap_or old.columns [])) origin number told owned fed → Contains feds fed)
+        → IfSome found (λ known. (fed : Fed) → IsBatch (kinds (unwrap_or old.columns [])) origin number told owned fed
+        → world_of feds fed.origin fed.number ≡ Some fed.rows)
     go None among = tt
     go (Some known) among = λ fed is. batch_in_world feds one fed (among fed is)
 
-pub agrees : (feds : List Fed) → OneBatchEach feds → (old : State) (commands : List Command) (replies : List Reply) → AreAmong feds old commands replies → Agrees (world_of feds) old commands replies
+pub agrees : (feds : List Fed) → OneBatchEach feds → (old : State) (commands : List Command) (replies : List Reply)
+    → AreAmong feds old commands replies → Agrees (world_of feds) old commands replies
 unfolding AreAmong Agrees
 agrees feds one old [] [] among = tt
-agrees feds one old (c ∷ commands) (r ∷ replies) among =
-    ((agrees_reply feds r among.0, agrees_feed feds one old (request_of c.head) c.owned among.1), agrees feds one (after old r) commands replies among.2)
+agrees feds one old (c ∷ commands) (r ∷ replies) among = (
+  (agrees_reply feds r among.0, agrees_feed feds one old (request_of c.head) c.owned among.1),
+  agrees feds one (after old r) commands
+      replies among.2,
+)
 agrees feds one old [] (r ∷ replies) among = absurd among
 agrees feds one old (c ∷ commands) [] among = absurd among

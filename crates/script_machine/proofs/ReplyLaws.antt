@@ -1,10 +1,14 @@
 -- A command has one reply, memory being there.
-use Rattle.std.specs.Prelude.{◌≡◌, ◌≢◌, ◌≤◌, ◌<◌, refl, ℕ, zero, suc, List, [], ◌∷◌, length, take, Option, Some, None, slice_index_or, unwrap_or, ◌⊎◌}
+use Rattle.std.specs.Prelude.{◌≡◌, ◌≢◌, ◌≤◌, ◌<◌, refl, ℕ, zero, suc, List, [], ◌∷◌, length, take, Option, Some, None, slice_index_or}
+use Rattle.std.specs.Prelude.{unwrap_or, ◌⊎◌}
 use Rattle.std.proofs.Common.{◌∙◌, ap, sym, subst, arith, inl, inr}
 use Rattle.std.proofs.lemmas.List.{length-take, get_or-take}
 use Rattle.std.proofs.lemmas.Bool.{cases_order}
 use Rattle.std.proofs.lemmas.Option.{same_Some}
-use Rattle.script_machine.proofs.Words.{MOST_ROWS, Datum, Kind, Row, Bigint_kind, Knowledge, Column, kinds, IsSchemaText, Checked, Accepts, ReadsRows, BatchError, reply_of, Record, Fed, IsBatch, IsNoBatch, IsNoQuery, State, IsAccepted, IsRefusedFor, IsNoSchema, ColumnsReply, QueryReply, FeedReply, Replies, batch_refusal, query_refusal, Refusal}
+use Rattle.script_machine.proofs.Words.{MAX_ROWS, Datum, Kind, Row, Bigint_kind, Knowledge, Column, kinds, IsSchemaText, Checked, Accepts}
+use Rattle.script_machine.proofs.Words.{ReadsRows, BatchError, reply_of, Record, Fed, IsBatch, IsNoBatch, IsNoQuery, State, IsAccepted}
+use Rattle.script_machine.proofs.Words.{IsRefusedFor, IsNoSchema, ColumnsReply, QueryReply, FeedReply, Replies, batch_refusal}
+use Rattle.script_machine.proofs.Words.{query_refusal, Refusal}
 use Rattle.packed_rows.specs.Field.{Reads, ReadsRow, IsLeftmostBad}
 use Rattle.packed_rows.specs.Lemmas.FieldLaws.{one_row}
 use Rattle.packed_rows.specs.PrintedLaws.{one_schema}
@@ -21,7 +25,8 @@ use Rattle.script_machine.specs.Machine as machine
 one_number : (field : List ℕ) (m n : ℕ) → number_of 10 field ≡ Some m → number_of 10 field ≡ Some n → m ≡ n
 one_number field m n a b = same_Some m n (sym a ∙ b)
 
-one_rows : (ks : List Kind) (records : List (List (List ℕ))) (xs ys : List Row) → ReadsRows ks records xs → ReadsRows ks records ys → xs ≡ ys
+one_rows : (ks : List Kind) (records : List (List (List ℕ))) (xs ys : List Row) → ReadsRows ks records xs → ReadsRows ks records ys → xs
+    ≡ ys
 one_rows ks [] [] [] a b = refl
 one_rows ks [] [] (y ∷ ys) a b = absurd b
 one_rows ks [] (x ∷ xs) ys a b = absurd a
@@ -29,7 +34,8 @@ one_rows ks (f ∷ fs) [] ys a b = absurd a
 one_rows ks (f ∷ fs) (x ∷ xs) [] a b = absurd b
 one_rows ks (f ∷ fs) (x ∷ xs) (y ∷ ys) a b = λ i. one_row ks f x y a.0 b.0 i ∷ one_rows ks fs xs ys a.1 b.1 i
 
-one_fed : (ks : List Kind) (origin number : List ℕ) (told : ℕ) (records : List Record) (x y : Fed) → IsBatch ks origin number told records x → IsBatch ks origin number told records y → x ≡ y
+one_fed : (ks : List Kind) (origin number : List ℕ) (told : ℕ) (records : List Record) (x y : Fed) → IsBatch ks origin number told records x
+    → IsBatch ks origin number told records y → x ≡ y
 one_fed ks origin number told records x y a b =
     λ i. record {
       origin = one_number origin x.origin y.origin a.origin_is.reads b.origin_is.reads i;
@@ -38,7 +44,8 @@ one_fed ks origin number told records x y a b =
     }
 
 -- the row of a record, and the value of a field, that were read
-row_at : (ks : List Kind) (records : List (List (List ℕ))) (rows : List Row) (place : ℕ) → ReadsRows ks records rows → place < length records
+row_at : (ks : List Kind) (records : List (List (List ℕ))) (rows : List Row) (place : ℕ) → ReadsRows ks records rows
+    → place < length records
     → (row : Row) × ReadsRow ks (slice_index_or records place []) row
 row_at ks [] rows place reads low = absurd (omega arith)
 row_at ks (f ∷ fs) [] place reads low = absurd reads
@@ -61,7 +68,8 @@ as_wide (k ∷ ks) (f ∷ fs) [] reads = absurd reads
 as_wide (k ∷ ks) (f ∷ fs) (v ∷ row) reads = ap suc (as_wide ks fs row reads.1)
 
 -- what was read has no fault
-no_record_fault : (ks : List Kind) (place : ℕ) (fields : List (List ℕ)) (row : Row) (e : BatchError) → e ≢ batch.NoMemory → ReadsRow ks fields row → RecordFault ks place fields e → ⊥
+no_record_fault : (ks : List Kind) (place : ℕ) (fields : List (List ℕ)) (row : Row) (e : BatchError) → e ≢ batch.NoMemory
+    → ReadsRow ks fields row → RecordFault ks place fields e → ⊥
 no_record_fault ks place fields row batch.NoMemory p reads x = p refl
 no_record_fault ks place fields row batch.BadBatchHead p reads x = x
 no_record_fault ks place fields row batch.TooManyRows p reads x = x
@@ -69,23 +77,27 @@ no_record_fault ks place fields row batch.RowCount p reads x = x
 no_record_fault ks place fields row (batch.WrongWidth r) p reads x = x.1 (as_wide ks fields row reads)
 no_record_fault ks place fields row (batch.BadField r c) p reads x = let v = value_at ks fields row c reads x.2.0 in x.2.1 v.0 v.1
 
-no_first_fault : (ks : List Kind) (records : List (List (List ℕ))) (rows : List Row) (e : BatchError) → e ≢ batch.NoMemory → ReadsRows ks records rows → FirstFault ks records e → ⊥
+no_first_fault : (ks : List Kind) (records : List (List (List ℕ))) (rows : List Row) (e : BatchError) → e ≢ batch.NoMemory
+    → ReadsRows ks records rows → FirstFault ks records e → ⊥
 no_first_fault ks records rows e p reads x =
     let r = row_at ks records rows x.place reads x.within in
     no_record_fault ks x.place (slice_index_or records x.place []) r.0 e p r.1 x.fault
 
-over : (told : ℕ) → MOST_ROWS < told → told ≤ MOST_ROWS → ⊥
+over : (told : ℕ) → MAX_ROWS < told → told ≤ MAX_ROWS → ⊥
 over told more few = omega arith
 
-no_fault : (ks : List Kind) (origin number : List ℕ) (told : ℕ) (records : List Record) (f : Fed) (e : BatchError) → IsBatch ks origin number told records f → e ≢ batch.NoMemory
+no_fault : (ks : List Kind) (origin number : List ℕ) (told : ℕ) (records : List Record) (f : Fed) (e : BatchError)
+    → IsBatch ks origin number told records f → e ≢ batch.NoMemory
     → BuildFault ks origin number told records e → ⊥
 no_fault ks origin number told records f batch.NoMemory is p x = p refl
 no_fault ks origin number told records f batch.BadBatchHead is p x =
     x (record { origin_value = f.origin; number_value = f.number; reads_origin = is.origin_is; reads_number = is.number_is })
 no_fault ks origin number told records f batch.TooManyRows is p x = over told x.1 is.few
 no_fault ks origin number told records f batch.RowCount is p x = x.2 is.whole
-no_fault ks origin number told records f (batch.WrongWidth r) is p x = no_first_fault ks records f.rows (batch.WrongWidth r) p is.rows_are x.3
-no_fault ks origin number told records f (batch.BadField r c) is p x = no_first_fault ks records f.rows (batch.BadField r c) p is.rows_are x.3
+no_fault ks origin number told records f (batch.WrongWidth r) is p x = no_first_fault ks records f.rows (batch.WrongWidth r) p is.rows_are
+    x.3
+no_fault ks origin number told records f (batch.BadField r c) is p x = no_first_fault ks records f.rows (batch.BadField r c) p is.rows_are
+    x.3
 
 -- ---- one fault
 
@@ -105,7 +117,8 @@ one_column ks fields c k x y = go (cases_order c k)
     go (inr (inl low)) = absurd (not_before ks fields c k x y low)
     go (inr (inr low)) = absurd (not_before ks fields k c y x low)
 
-one_record_fault : (ks : List Kind) (place : ℕ) (fields : List (List ℕ)) (d e : BatchError) → d ≢ batch.NoMemory → e ≢ batch.NoMemory → RecordFault ks place fields d → RecordFault ks place fields e → d ≡ e
+one_record_fault : (ks : List Kind) (place : ℕ) (fields : List (List ℕ)) (d e : BatchError) → d ≢ batch.NoMemory → e ≢ batch.NoMemory
+    → RecordFault ks place fields d → RecordFault ks place fields e → d ≡ e
 one_record_fault ks place fields batch.NoMemory e p q x y = absurd (p refl)
 one_record_fault ks place fields batch.BadBatchHead e p q x y = absurd x
 one_record_fault ks place fields batch.TooManyRows e p q x y = absurd x
@@ -127,21 +140,27 @@ one_record_fault ks place fields (batch.BadField r c) (batch.BadField s k) p q x
     λ i. batch.BadField (row i) (column i)
 
 -- a record before the first that has a fault was read
-not_earlier : (ks : List Kind) (records : List (List (List ℕ))) (d e : BatchError) → d ≢ batch.NoMemory → (x : FirstFault ks records d) (y : FirstFault ks records e) → x.place < y.place → ⊥
+not_earlier : (ks : List Kind) (records : List (List (List ℕ))) (d e : BatchError) → d ≢ batch.NoMemory
+    → (x : FirstFault ks records d) (y : FirstFault ks records e) → x.place < y.place → ⊥
 not_earlier ks records d e p x y low =
-    let within : x.place < length (take y.place records) = subst (λ n. x.place < n) (sym (length-take y.place records)) (omega (arith, x.within)) in
+    let within : x.place < length (take y.place records) = subst (λ n. x.place < n) (sym (length-take y.place records))
+    (omega (arith, x.within)) in
     let r = row_at ks (take y.place records) y.before.0 x.place y.before.1 within in
-    no_record_fault ks x.place (slice_index_or records x.place []) r.0 d p (subst (λ f. ReadsRow ks f r.0) (get_or-take y.place records x.place [] low) r.1) x.fault
+    no_record_fault ks x.place (slice_index_or records x.place []) r.0 d p
+    (subst (λ f. ReadsRow ks f r.0) (get_or-take y.place records x.place [] low) r.1) x.fault
 
-one_first_fault : (ks : List Kind) (records : List (List (List ℕ))) (d e : BatchError) → d ≢ batch.NoMemory → e ≢ batch.NoMemory → FirstFault ks records d → FirstFault ks records e → d ≡ e
+one_first_fault : (ks : List Kind) (records : List (List (List ℕ))) (d e : BatchError) → d ≢ batch.NoMemory → e ≢ batch.NoMemory
+    → FirstFault ks records d → FirstFault ks records e → d ≡ e
 one_first_fault ks records d e p q x y = go (cases_order x.place y.place)
   where
     go : (x.place ≡ y.place) ⊎ ((x.place < y.place) ⊎ (y.place < x.place)) → d ≡ e
-    go (inl same) = one_record_fault ks y.place (slice_index_or records y.place []) d e p q (subst (λ n. RecordFault ks n (slice_index_or records n []) d) same x.fault) y.fault
+    go (inl same) = one_record_fault ks y.place (slice_index_or records y.place []) d e p q
+        (subst (λ n. RecordFault ks n (slice_index_or records n []) d) same x.fault) y.fault
     go (inr (inl low)) = absurd (not_earlier ks records d e p x y low)
     go (inr (inr low)) = absurd (not_earlier ks records e d q y x low)
 
-one_build_fault : (ks : List Kind) (origin number : List ℕ) (told : ℕ) (records : List (List (List ℕ))) (d e : BatchError) → d ≢ batch.NoMemory → e ≢ batch.NoMemory
+one_build_fault : (ks : List Kind) (origin number : List ℕ) (told : ℕ) (records : List (List (List ℕ))) (d e : BatchError)
+    → d ≢ batch.NoMemory → e ≢ batch.NoMemory
     → BuildFault ks origin number told records d → BuildFault ks origin number told records e → d ≡ e
 one_build_fault ks origin number told records batch.NoMemory e p q x y = absurd (p refl)
 one_build_fault ks origin number told records batch.BadBatchHead batch.NoMemory p q x y = absurd (q refl)
@@ -166,32 +185,42 @@ one_build_fault ks origin number told records (batch.WrongWidth r) batch.NoMemor
 one_build_fault ks origin number told records (batch.WrongWidth r) batch.BadBatchHead p q x y = absurd (y x.0)
 one_build_fault ks origin number told records (batch.WrongWidth r) batch.TooManyRows p q x y = absurd (over told y.1 x.1)
 one_build_fault ks origin number told records (batch.WrongWidth r) batch.RowCount p q x y = absurd (y.2 x.2)
-one_build_fault ks origin number told records (batch.WrongWidth r) (batch.WrongWidth s) p q x y = one_first_fault ks records (batch.WrongWidth r) (batch.WrongWidth s) p q x.3 y.3
-one_build_fault ks origin number told records (batch.WrongWidth r) (batch.BadField s k) p q x y = one_first_fault ks records (batch.WrongWidth r) (batch.BadField s k) p q x.3 y.3
+one_build_fault ks origin number told records (batch.WrongWidth r) (batch.WrongWidth s) p q x y = one_first_fault ks records
+    (batch.WrongWidth r) (batch.WrongWidth s) p q x.3 y.3
+one_build_fault ks origin number told records (batch.WrongWidth r) (batch.BadField s k) p q x y = one_first_fault ks records
+    (batch.WrongWidth r) (batch.BadField s k) p q x.3 y.3
 one_build_fault ks origin number told records (batch.BadField r c) batch.NoMemory p q x y = absurd (q refl)
 one_build_fault ks origin number told records (batch.BadField r c) batch.BadBatchHead p q x y = absurd (y x.0)
 one_build_fault ks origin number told records (batch.BadField r c) batch.TooManyRows p q x y = absurd (over told y.1 x.1)
 one_build_fault ks origin number told records (batch.BadField r c) batch.RowCount p q x y = absurd (y.2 x.2)
-one_build_fault ks origin number told records (batch.BadField r c) (batch.WrongWidth s) p q x y = one_first_fault ks records (batch.BadField r c) (batch.WrongWidth s) p q x.3 y.3
-one_build_fault ks origin number told records (batch.BadField r c) (batch.BadField s k) p q x y = one_first_fault ks records (batch.BadField r c) (batch.BadField s k) p q x.3 y.3
+one_build_fault ks origin number told records (batch.BadField r c) (batch.WrongWidth s) p q x y = one_first_fault ks records
+    (batch.BadField r c) (batch.WrongWidth s) p q x.3 y.3
+one_build_fault ks origin number told records (batch.BadField r c) (batch.BadField s k) p q x y = one_first_fault ks records
+    (batch.BadField r c) (batch.BadField s k) p q x.3 y.3
 
 -- ---- one reply
 
 -- what is accepted is one thing, and what is refused is refused for one refusal, which applies to nothing that is accepted
 one_answer : {X : Type 0} (saying : X → machine.Reply) (holds : X → Type 0) (applies : Refusal → Type 0) (a b : machine.Reply)
-    → ((x y : X) → holds x → holds y → x ≡ y) → ((v w : Refusal) → applies v → applies w → v ≡ w) → ((x : X) (w : Refusal) → holds x → applies w → ⊥)
+    → ((x y : X) → holds x → holds y → x ≡ y) → ((v w : Refusal) → applies v → applies w → v ≡ w)
+    → ((x : X) (w : Refusal) → holds x → applies w → ⊥)
     → IsAccepted saying holds a ⊎ IsRefusedFor applies a → IsAccepted saying holds b ⊎ IsRefusedFor applies b → a ≡ b
-one_answer saying holds applies a b one_thing one_refusal never (inl x) (inl y) = x.says ∙ ap saying (one_thing x.what y.what x.is_so y.is_so) ∙ sym y.says
+one_answer saying holds applies a b one_thing one_refusal never (inl x) (inl y) = x.says
+    ∙ ap saying (one_thing x.what y.what x.is_so y.is_so) ∙ sym y.says
 one_answer saying holds applies a b one_thing one_refusal never (inl x) (inr w) = absurd (never x.what w.refusal x.is_so w.is_so)
 one_answer saying holds applies a b one_thing one_refusal never (inr v) (inl y) = absurd (never y.what v.refusal y.is_so v.is_so)
-one_answer saying holds applies a b one_thing one_refusal never (inr v) (inr w) = v.says ∙ ap machine.Refused (one_refusal v.refusal w.refusal v.is_so w.is_so) ∙ sym w.says
+one_answer saying holds applies a b one_thing one_refusal never (inr v) (inr w) = v.says
+    ∙ ap machine.Refused (one_refusal v.refusal w.refusal v.is_so w.is_so) ∙ sym w.says
 
-one_columns : (told : Option (List Column)) (text : List ℕ) (a b : machine.Reply) → ColumnsReply told text a → ColumnsReply told text b → a ≡ b
+one_columns : (told : Option (List Column)) (text : List ℕ) (a b : machine.Reply) → ColumnsReply told text a → ColumnsReply told text b → a
+    ≡ b
 one_columns (Some columns) text a b x y = x ∙ sym y
 one_columns None text a b x y =
-    one_answer machine.Has_columns (IsSchemaText text) (IsNoSchema text) a b (one_schema text) (λ v w p q. p.0 ∙ sym q.0) (λ columns w is none. none.1 columns is) x y
+    one_answer machine.Has_columns (IsSchemaText text) (IsNoSchema text) a b (one_schema text) (λ v w p q. p.0 ∙ sym q.0)
+    (λ columns w is none. none.1 columns is) x y
 
-one_asked : (told : Option (List Column)) (asked : Option Checked) (text : List ℕ) (a b : machine.Reply) → QueryReply told asked text a → QueryReply told asked text b → a ≡ b
+one_asked : (told : Option (List Column)) (asked : Option Checked) (text : List ℕ) (a b : machine.Reply) → QueryReply told asked text a
+    → QueryReply told asked text b → a ≡ b
 one_asked None asked text a b x y = x ∙ sym y
 one_asked (Some columns) (Some query) text a b x y = x ∙ sym y
 one_asked (Some columns) None text a b x y =
@@ -199,21 +228,26 @@ one_asked (Some columns) None text a b x y =
     (λ v w p q. p.named ∙ ap query_refusal (one_refused columns text p.error q.error p.fault q.fault) ∙ sym q.named)
     (λ query w is none. not_both columns text query none.error is none.fault) x y
 
-one_feed : (columns : List Column) (known : Option Knowledge) (name origin number : List ℕ) (told_rows : ℕ) (owned : List Record) (a b : machine.Reply)
+one_feed : (columns : List Column) (known : Option Knowledge) (name origin number : List ℕ) (told_rows : ℕ) (owned : List Record)
+    (a b : machine.Reply)
     → FeedReply columns known name origin number told_rows owned a → FeedReply columns known name origin number told_rows owned b → a ≡ b
 one_feed columns None name origin number told_rows owned a b x y = x ∙ sym y
 one_feed columns (Some known) name origin number told_rows owned a b x y =
-    one_answer (λ (fed : Fed). machine.Took name fed (reply_of known (fed.origin, fed.number))) (IsBatch (kinds columns) origin number told_rows owned) (IsNoBatch (kinds columns) origin number told_rows owned) a b
+    one_answer (λ (fed : Fed). machine.Took name fed (reply_of known (fed.origin, fed.number)))
+    (IsBatch (kinds columns) origin number told_rows owned) (IsNoBatch (kinds columns) origin number told_rows owned) a b
     (one_fed (kinds columns) origin number told_rows owned)
-    (λ v w p q. p.named ∙ ap batch_refusal (one_build_fault (kinds columns) origin number told_rows owned p.error q.error p.found q.found p.fault q.fault) ∙ sym q.named)
+    (λ v w p q. p.named ∙ ap batch_refusal (one_build_fault (kinds columns) origin number told_rows owned p.error q.error p.found q.found
+    p.fault q.fault) ∙ sym q.named)
     (λ fed w is none. no_fault (kinds columns) origin number told_rows owned fed none.error is none.found none.fault) x y
 
-pub one_reply : (old : State) (request : Request) (owned : List Record) (a b : machine.Reply) → Replies old request owned a → Replies old request owned b → a ≡ b
+pub one_reply : (old : State) (request : Request) (owned : List Record) (a b : machine.Reply) → Replies old request owned a
+    → Replies old request owned b → a ≡ b
 one_reply old (ask.Columns text) owned a b x y = one_columns old.columns text a b x y
 one_reply old (ask.Query text) owned a b x y = one_asked old.columns old.query text a b x y
 one_reply old (ask.Limit bytes) owned a b x y = x ∙ sym y
 one_reply old (ask.Replica name) owned a b x y = x ∙ sym y
-one_reply old (ask.Feed name origin number told) owned a b x y = one_feed (unwrap_or old.columns []) (old.replicas name) name origin number told owned a b x y
+one_reply old (ask.Feed name origin number told) owned a b x y = one_feed (unwrap_or old.columns []) (old.replicas name) name origin number
+    told owned a b x y
 one_reply old (ask.Known name) owned a b x y = x ∙ sym y
 one_reply old (ask.Answer name) owned a b x y = x ∙ sym y
 one_reply old (ask.Merge into from) owned a b x y = x ∙ sym y

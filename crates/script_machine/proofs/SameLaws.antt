@@ -2,7 +2,8 @@
 use Rattle.std.specs.Prelude.{◌≡◌, List, [], ◌∷◌, ℕ, refl, map, length, IsTrue, unwrap_or, Some, codes, decimal}
 use Rattle.std.proofs.Common.{sym, ap, inl, inr, arith}
 use Rattle.grouping_model.specs.Grouping.{part}
-use Rattle.script_machine.proofs.Words.{World, Knowledge, knows, prefix, early, count_up, origins, origin_rows, batch_rows, Checked, packings, meaning, line, KnowTheSame, State, answer_reply, known_reply, save_reply}
+use Rattle.script_machine.proofs.Words.{World, Knowledge, knows, prefix, early, count_up, origins, origin_rows, batch_rows, Checked}
+use Rattle.script_machine.proofs.Words.{packings, meaning, line, KnowTheSame, State, answer_reply, known_reply, save_reply}
 use Rattle.grouping_model.specs.EarlyLaws.{early_are}
 use Rattle.grouping_model.specs.KnowledgeLaws.{same_knowledge}
 use Rattle.grouping_model.specs.MemberLaws.{Member, to_contains}
@@ -20,9 +21,20 @@ same_set : {here there : State} {a b : List ℕ} {world other : World} (k : Know
 same_set k = same_knowledge k.known k.known_there k.same
 
 pub same_answers : (here there : State) (a b : List ℕ) (world other : World) (r s : Reply) → KnowTheSame here there a b world other
-    → r ≡ answer_reply here.query (here.replicas a) → s ≡ answer_reply there.query (there.replicas b) → reply_text world r ≡ reply_text other s
+    → r ≡ answer_reply here.query (here.replicas a) → s ≡ answer_reply there.query (there.replicas b) → reply_text world r
+    ≡ reply_text other s
 same_answers here there a b world other r s k one two =
-    rw (one, two, k.asked, k.asked_there, k.knows_here, k.knows_there, sym (same_set k), known_alone (meaning k.query) world other k.known k.rows) refl
+    rw (
+      one,
+      two,
+      k.asked,
+      k.asked_there,
+      k.knows_here,
+      k.knows_there,
+      sym (same_set k),
+      known_alone (meaning k.query) world other k.known
+          k.rows,
+    ) refl
 
 pub same_lists : (here there : State) (a b : List ℕ) (world other : World) (r s : Reply) → KnowTheSame here there a b world other
     → r ≡ known_reply (here.replicas a) → s ≡ known_reply (there.replicas b) → reply_text world r ≡ reply_text other s
@@ -37,7 +49,8 @@ map_members : {X Y : Type 0} (f g : X → Y) (xs : List X) → ((x : X) → Memb
 map_members f g [] same = refl
 map_members f g (x ∷ xs) same = λ i. same x (inl refl) i ∷ map_members f g xs (λ y m. same y (inr m)) i
 
-same_rows : (known : Knowledge) (world other : World) → SameKnown known world other → (origin : ℕ) → origin_rows world known origin ≡ origin_rows other known origin
+same_rows : (known : Knowledge) (world other : World) → SameKnown known world other → (origin : ℕ) → origin_rows world known origin
+    ≡ origin_rows other known origin
 same_rows known world other same origin =
     flat_map_members (batch_rows world origin) (batch_rows other origin) (count_up 1 (prefix known origin)) (λ number counted.
     let within = counted_within 1 (prefix known origin) number counted in
@@ -46,12 +59,18 @@ same_rows known world other same origin =
 abbrev packed_batch : World → ℕ → ℕ → ℕ × List (List ℕ)
 packed_batch world origin number = (number, packings (batch_rows world origin number))
 
-same_early : (known : Knowledge) (world other : World) → SameKnown known world other → (origin : ℕ) → map (packed_batch world origin) (early known origin) ≡ map (packed_batch other origin) (early known origin)
+same_early : (known : Knowledge) (world other : World) → SameKnown known world other → (origin : ℕ)
+    → map (packed_batch world origin) (early known origin) ≡ map (packed_batch other origin) (early known origin)
 same_early known world other same origin =
     map_members (packed_batch world origin) (packed_batch other origin) (early known origin) (λ number listed.
-    λ i. (number, packings (unwrap_or (same origin number ((early_are known origin number).0 (to_contains (early known origin) number listed)).0 i) [])))
+    λ i. (
+      number,
+      packings
+          (unwrap_or (same origin number ((early_are known origin number).0 (to_contains (early known origin) number listed)).0 i) []),
+    ))
 
-same_part : (query : Checked) (known : Knowledge) (world other : World) → SameKnown known world other → (origin : ℕ) → world_part query world known origin ≡ world_part query other known origin
+same_part : (query : Checked) (known : Knowledge) (world other : World) → SameKnown known world other → (origin : ℕ)
+    → world_part query world known origin ≡ world_part query other known origin
 same_part query known world other same origin =
     λ i. (
       origin,
@@ -63,10 +82,13 @@ same_part query known world other same origin =
     )
 
 -- the file of what is known of a world is that of another world that has the same rows of it
-same_file : (query : Checked) (known : Knowledge) (world other : World) → SameKnown known world other → world_file query world known ≡ world_file query other known
-same_file query known world other same = λ i. file_in Second query (map (λ origin. same_part query known world other same origin i) (origins known))
+same_file : (query : Checked) (known : Knowledge) (world other : World) → SameKnown known world other → world_file query world known
+    ≡ world_file query other known
+same_file query known world other same = λ i. file_in Second query (map (λ origin. same_part query known world other same origin i)
+    (origins known))
 
-pub same_files : (here there : State) (a b saved other_saved : List ℕ) (world other : World) (r s : Reply) → KnowTheSame here there a b world other
+pub same_files : (here there : State) (a b saved other_saved : List ℕ) (world other : World) (r s : Reply)
+    → KnowTheSame here there a b world other
     → r ≡ save_reply here.query (here.replicas a) saved → s ≡ save_reply there.query (there.replicas b) other_saved
     → (file_saved world r ≡ file_saved other s) × (reply_text world r ≡ reply_text other s)
 same_files here there a b saved other_saved world other r s k one two =

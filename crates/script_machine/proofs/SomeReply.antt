@@ -1,8 +1,12 @@
 -- A command is never without a reply, memory being there.
-use Rattle.std.specs.Prelude.{◌≡◌, ◌≢◌, ◌≤◌, ◌<◌, ◌+◌, ◌⊎◌, refl, ℕ, zero, suc, List, [], length, Option, Some, None, slice_index_or, unwrap_or, Result, Ok, Err}
+use Rattle.std.specs.Prelude.{◌≡◌, ◌≢◌, ◌≤◌, ◌<◌, ◌+◌, ◌⊎◌, refl, ℕ, zero, suc, List, [], length, Option, Some, None, slice_index_or}
+use Rattle.std.specs.Prelude.{unwrap_or, Result, Ok, Err}
 use Rattle.std.proofs.Common.{subst, arith, inl, inr}
 use Rattle.std.proofs.lemmas.Bool.{cases_lt}
-use Rattle.script_machine.proofs.Words.{MOST_ROWS, Kind, Row, Bigint_kind, reply_of, Knowledge, Column, kinds, ReadsRows, BatchError, Checked, parsing, Record, Fed, IsBatch, IsNoBatch, State, ColumnsReply, QueryReply, FeedReply, Replies, limit_reply, replica_reply, known_reply, answer_reply, merge_reply, save_reply, load_reply, batch_refusal, query_refusal, Refusal}
+use Rattle.script_machine.proofs.Words.{MAX_ROWS, Kind, Row, Bigint_kind, reply_of, Knowledge, Column, kinds, ReadsRows, BatchError}
+use Rattle.script_machine.proofs.Words.{Checked, parsing, Record, Fed, IsBatch, IsNoBatch, State, ColumnsReply, QueryReply, FeedReply}
+use Rattle.script_machine.proofs.Words.{Replies, limit_reply, replica_reply, known_reply, answer_reply, merge_reply, save_reply, load_reply}
+use Rattle.script_machine.proofs.Words.{batch_refusal, query_refusal, Refusal}
 use Rattle.packed_rows.specs.Field.{ReadsRow, IsLeftmostBad}
 use Rattle.packed_rows.specs.Packing.{packing}
 use Rattle.packed_rows.specs.Lemmas.RowLaws.{PackedSoFar, packed_all, packed_more}
@@ -18,7 +22,8 @@ use Rattle.script_machine.specs.Machine as machine
 use Rattle.replies.specs.declared.refusal.Refusal.TheVariants as why
 
 -- fields as many as kinds stand for a row, or there is a leftmost bad one
-row_or_bad : (ks : List Kind) (fields : List (List ℕ)) → length fields ≡ length ks → ((row : Row) → ¬ (ReadsRow ks fields row)) → ((column : ℕ) → ¬ (IsLeftmostBad ks fields column)) → ⊥
+row_or_bad : (ks : List Kind) (fields : List (List ℕ)) → length fields ≡ length ks → ((row : Row) → ¬ (ReadsRow ks fields row))
+    → ((column : ℕ) → ¬ (IsLeftmostBad ks fields column)) → ⊥
 row_or_bad ks fields same no_row no_bad = go (length ks) 0 [] (omega arith) ([], tt, refl)
   where
     go : (left i : ℕ) (bytes : List ℕ) → i + left ≡ length ks → PackedSoFar ks fields i bytes → ⊥
@@ -29,14 +34,16 @@ row_or_bad ks fields same no_row no_bad = go (length ks) 0 [] (omega arith) ([],
     go (suc left) i bytes all so_far =
         no_bad i (
           omega (arith, all),
-          λ value reads. go left (i + 1) _ (omega (arith, all)) (packed_more ks fields i bytes Bigint_kind [] value (omega (arith, all)) (omega (arith, all, same)) reads so_far),
+          λ value reads. go left (i + 1) _ (omega (arith, all)) (packed_more ks fields i bytes Bigint_kind [] value (omega (arith, all))
+              (omega (arith, all, same)) reads so_far),
           so_far.0,
           so_far.1,
         )
 
 -- records stand for rows, or there is a first fault
 rows_or_fault : (ks : List Kind) (records : List (List (List ℕ))) → ((rows : List Row) → ¬ (ReadsRows ks records rows))
-    → ((row : ℕ) → ¬ (FirstFault ks records (batch.WrongWidth row))) → ((row column : ℕ) → ¬ (FirstFault ks records (batch.BadField row column))) → ⊥
+    → ((row : ℕ) → ¬ (FirstFault ks records (batch.WrongWidth row)))
+    → ((row column : ℕ) → ¬ (FirstFault ks records (batch.BadField row column))) → ⊥
 rows_or_fault ks records no_rows no_width no_field = go (length records) 0 [] (omega arith) ([], tt, refl)
   where
     go : (left i : ℕ) (bytes : List (List ℕ)) → i + left ≡ length records → RowsSoFar ks records i bytes → ⊥
@@ -50,18 +57,21 @@ rows_or_fault ks records no_rows no_width no_field = go (length records) 0 [] (o
           | inr other ↦ no_width i (record { place = i; within = within; before = (so_far.0, so_far.1); fault = (refl, other) })
           | inl same ↦
               row_or_bad ks fields same
-              (λ row reads. go left (i + 1) _ (omega (arith, all)) (rows_more ks records i bytes fields row (packing row) within refl reads refl so_far))
-              (λ column bad. no_field i column (record { place = i; within = within; before = (so_far.0, so_far.1); fault = (refl, same, bad) }))
+              (λ row reads. go left (i + 1) _ (omega (arith, all)) (rows_more ks records i bytes fields row (packing row) within refl reads
+              refl so_far))
+              (λ column bad. no_field i column
+              (record { place = i; within = within; before = (so_far.0, so_far.1); fault = (refl, same, bad) }))
         ]
 
 -- a feed's fields and records are a batch, or why not
-batch_or_not : (ks : List Kind) (origin number : List ℕ) (told : ℕ) (owned : List Record) → ((fed : Fed) → ¬ (IsBatch ks origin number told owned fed)) → ((w : Refusal) → ¬ (IsNoBatch ks origin number told owned w)) → ⊥
-batch_or_not ks origin number told owned no_batch none = no batch.BadBatchHead (λ e. cc) (λ head. headed head (cases_lt MOST_ROWS told))
+batch_or_not : (ks : List Kind) (origin number : List ℕ) (told : ℕ) (owned : List Record)
+    → ((fed : Fed) → ¬ (IsBatch ks origin number told owned fed)) → ((w : Refusal) → ¬ (IsNoBatch ks origin number told owned w)) → ⊥
+batch_or_not ks origin number told owned no_batch none = no batch.BadBatchHead (λ e. cc) (λ head. headed head (cases_lt MAX_ROWS told))
   where
     no : (error : BatchError) → error ≢ batch.NoMemory → ¬ (BuildFault ks origin number told owned error)
     no error found fault = none (batch_refusal error) (record { error = error; found = found; fault = fault; named = refl })
 
-    counted : HeadReads origin number → told ≤ MOST_ROWS → (length owned ≡ told) ⊎ (length owned ≢ told) → ⊥
+    counted : HeadReads origin number → told ≤ MAX_ROWS → (length owned ≡ told) ⊎ (length owned ≢ told) → ⊥
     counted head few (inr other) = no batch.RowCount (λ e. cc) (head, few, other)
     counted head few (inl whole) =
         rows_or_fault ks owned
@@ -70,7 +80,7 @@ batch_or_not ks origin number told owned no_batch none = no batch.BadBatchHead (
         (λ row fault. no (batch.WrongWidth row) (λ e. cc) (head, few, whole, fault))
         (λ row column fault. no (batch.BadField row column) (λ e. cc) (head, few, whole, fault))
 
-    headed : HeadReads origin number → (MOST_ROWS < told) ⊎ (told ≤ MOST_ROWS) → ⊥
+    headed : HeadReads origin number → (MAX_ROWS < told) ⊎ (told ≤ MAX_ROWS) → ⊥
     headed head (inl many) = no batch.TooManyRows (λ e. cc) (head, many)
     headed head (inr few) = counted head few (same_or_other (length owned) told)
 
@@ -78,33 +88,55 @@ columns_answered : (told : Option (List Column)) (text : List ℕ) → ((reply :
 columns_answered (Some columns) text none = none (machine.Refused why.BadCommand) refl
 columns_answered None text none =
     none (machine.Refused why.BadSchema)
-    (inr (record { refusal = why.BadSchema; is_so = (refl, λ columns is. none (machine.Has_columns columns) (inl (record { what = columns; is_so = is; says = refl }))); says = refl }))
+    (inr (record {
+      refusal = why.BadSchema;
+      is_so = (
+        refl,
+        λ columns is. none (machine.Has_columns columns)
+            (inl (record { what = columns; is_so = is; says = refl })),
+      );
+      says = refl;
+    }))
 
-query_answered : (columns : Option (List Column)) (query : Option Checked) (text : List ℕ) → ((reply : machine.Reply) → ¬ (QueryReply columns query text reply)) → ⊥
+query_answered : (columns : Option (List Column)) (query : Option Checked) (text : List ℕ)
+    → ((reply : machine.Reply) → ¬ (QueryReply columns query text reply)) → ⊥
 query_answered None query text none = none (machine.Refused why.BadCommand) refl
 query_answered (Some columns) (Some query) text none = none (machine.Refused why.BadCommand) refl
 query_answered (Some columns) None text none = go (parsing columns text) refl
   where
     go : (result : Result Checked ParseError) → parsing columns text ≡ result → ⊥
-    go (Ok query) is = none (machine.Has_query query) (inl (record { what = query; is_so = parses_accepts columns text query is; says = refl }))
+    go (Ok query) is = none (machine.Has_query query)
+        (inl (record { what = query; is_so = parses_accepts columns text query is; says = refl }))
     go (Err error) is =
         none (machine.Refused (query_refusal error))
-        (inr (record { refusal = query_refusal error; is_so = record { error = error; fault = parses_refuses columns text error is; named = refl }; says = refl }))
+        (inr (record {
+          refusal = query_refusal error;
+          is_so = record {
+            error = error;
+            fault = parses_refuses columns text error is;
+            named =
+                refl;
+          };
+          says = refl;
+        }))
 
 feed_answered : (columns : List Column) (known : Option Knowledge) (name origin number : List ℕ) (told : ℕ) (owned : List Record)
     → ((reply : machine.Reply) → ¬ (FeedReply columns known name origin number told owned reply)) → ⊥
 feed_answered columns None name origin number told owned none = none (machine.Refused why.NoSuchName) refl
 feed_answered columns (Some known) name origin number told owned none =
     batch_or_not (kinds columns) origin number told owned
-    (λ fed is. none (machine.Took name fed (reply_of known (fed.origin, fed.number))) (inl (record { what = fed; is_so = is; says = refl })))
+    (λ fed is. none (machine.Took name fed (reply_of known (fed.origin, fed.number)))
+    (inl (record { what = fed; is_so = is; says = refl })))
     (λ w is. none (machine.Refused w) (inr (record { refusal = w; is_so = is; says = refl })))
 
-pub some_reply : (old : State) (request : Request) (owned : List Record) → ((reply : machine.Reply) → ¬ (Replies old request owned reply)) → ⊥
+pub some_reply : (old : State) (request : Request) (owned : List Record) → ((reply : machine.Reply) → ¬ (Replies old request owned reply))
+    → ⊥
 some_reply old (ask.Columns text) owned none = columns_answered old.columns text none
 some_reply old (ask.Query text) owned none = query_answered old.columns old.query text none
 some_reply old (ask.Limit bytes) owned none = none (limit_reply bytes) refl
 some_reply old (ask.Replica name) owned none = none (replica_reply old.query (old.replicas name) name) refl
-some_reply old (ask.Feed name origin number told) owned none = feed_answered (unwrap_or old.columns []) (old.replicas name) name origin number told owned none
+some_reply old (ask.Feed name origin number told) owned none = feed_answered (unwrap_or old.columns []) (old.replicas name) name origin
+    number told owned none
 some_reply old (ask.Known name) owned none = none (known_reply (old.replicas name)) refl
 some_reply old (ask.Answer name) owned none = none (answer_reply old.query (old.replicas name)) refl
 some_reply old (ask.Merge into from) owned none = none (merge_reply (old.replicas into) (old.replicas from) into from) refl

@@ -4,8 +4,9 @@ pub use Rattle.batch_reader.specs.declared.error.BatchError.{BatchError}
 pub use Rattle.group_parser.specs.Parsing.{Accepts, parsing}
 pub use Rattle.grouping_model.specs.Datum.{Bigint_kind, Datum, HasKinds, Kind, Row}
 pub use Rattle.grouping_model.specs.Replies.{known_list, reply_of}
-pub use Rattle.grouping_model.specs.World.{IsWorld, Knowledge, World, batch_rows, count_up, early, knows, learn, nothing, origin_rows, origins, prefix, union}
-pub use Rattle.grouping_model.specs.declared.limits.TheConstants.{LAST_NUMBER, LAST_ORIGIN, MOST_ROWS}
+pub use Rattle.grouping_model.specs.World.{IsWorld, Knowledge, World, batch_rows, count_up, early, knows, learn, nothing, origin_rows}
+pub use Rattle.grouping_model.specs.World.{origins, prefix, union}
+pub use Rattle.grouping_model.specs.declared.limits.TheConstants.{LAST_NUMBER, LAST_ORIGIN, MAX_ROWS}
 pub use Rattle.having_filter.specs.Meaning.{meaning}
 pub use Rattle.packed_rows.specs.Columns.{Column, IsSchemaText, kinds, printed}
 pub use Rattle.query_checks.specs.Checks.{Checked}
@@ -16,12 +17,16 @@ pub use Rattle.replies.specs.Text.{answer_text, faults_in, is_refusal, is_tape_f
 pub use Rattle.replies.specs.declared.refusal.Refusal.{Refusal}
 pub use Rattle.script_commands.specs.Commands.{Command, command_at, commands_of, owned_by, request_of}
 pub use Rattle.script_io.specs.Records.{Record}
-pub use Rattle.tape_disks.specs.Disk.{Leaves}
+pub use Rattle.tape_disks.specs.Disk.{DiskFrame}
 unfoldable pub use Rattle.script_machine.specs.Agreement.{AreAmong}
 pub use Rattle.script_machine.specs.Agreement.{ColumnsOf, FeedsAmong, IsOfColumns, KnowTheSame, OneBatchEach, after_all, world_of}
 pub use Rattle.script_machine.specs.Disagreements.{FeedAlike, FeedApart, IsHeldAt, TellsDisagreement}
 pub use Rattle.script_machine.specs.Limits.{FeedWorked, WorksAtLimit, no_work, setting_at}
 unfoldable pub use Rattle.script_machine.specs.Machine.{Run, StrictRun}
 unfoldable pub use Rattle.script_machine.specs.Machine.{Agrees}
-pub use Rattle.script_machine.specs.Machine.{AgreesAt, AgreesWith, ColumnsReply, FeedAgrees, FeedReply, IsAccepted, IsNoSchema, IsRefusedFor, IsReply, MayReply, QueryReply, Refused, Replies, State, after, answer_reply, is_fault, is_refused, known_reply, limit_reply, load_reply, merge_reply, replica_reply, save_reply, start, uses_tapes, with_replica}
-pub use Rattle.script_machine.specs.Views.{Answers, AreSaved, Files, FitsWorld, IsFileOf, IsFitting, IsStore, JoinRefused, JoinsNames, Represents, Steps, Store, Updates, empty, knowledge_of, replica_at, saved_at}
+pub use Rattle.script_machine.specs.Machine.{AgreesAt, AgreesWith, ColumnsReply, FeedAgrees, FeedReply, IsAccepted, IsNoSchema}
+pub use Rattle.script_machine.specs.Machine.{IsRefusedFor, IsReply, MayReply, QueryReply, Refused, Replies, State, after, answer_reply}
+pub use Rattle.script_machine.specs.Machine.{is_fault, is_refused, known_reply, limit_reply, load_reply, merge_reply, replica_reply}
+pub use Rattle.script_machine.specs.Machine.{save_reply, start, uses_tapes, with_replica}
+pub use Rattle.script_machine.specs.Views.{Answers, AreSaved, Files, FitsWorld, IsFileOf, IsFitting, IsStore, JoinRefused, JoinsNames}
+pub use Rattle.script_machine.specs.Views.{Represents, Steps, Store, Updates, empty, knowledge_of, replica_at, saved_at}

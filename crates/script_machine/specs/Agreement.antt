@@ -1,7 +1,8 @@
 -- When a script agrees with a world, and two replicas, of one script or of two, that know the same. All of this is our own.
-use Rattle.std.specs.Prelude.{ℕ, ◌≡◌, ◌≤◌, ◌==◌, ◌&&◌, List, [], ◌∷◌, All, Contains, length, Some, None, IfSome, IsTrue, unwrap_or, if◌then◌else◌}
+use Rattle.std.specs.Prelude.{ℕ, ◌≡◌, ◌≤◌, ◌==◌, ◌&&◌, List, [], ◌∷◌, All, Contains, length, Some, None, IfSome, IsTrue, unwrap_or}
+use Rattle.std.specs.Prelude.{if◌then◌else◌}
 use Rattle.grouping_model.specs.Datum.{HasKinds}
-use Rattle.grouping_model.specs.declared.limits.TheConstants.{LAST_ORIGIN, LAST_NUMBER, MOST_ROWS}
+use Rattle.grouping_model.specs.declared.limits.TheConstants.{LAST_ORIGIN, LAST_NUMBER, MAX_ROWS}
 use Rattle.packed_rows.specs.Columns.{Column, kinds}
 use Rattle.script_io.specs.Records.{Record}
 use Rattle.script_commands.specs.Commands.{Command, Request, Feed, request_of}
@@ -41,7 +42,7 @@ pub record IsOfColumns (columns : List Column) (fed : Fed) : Type 0 where
   pub origin : fed.origin ≤ LAST_ORIGIN
   pub first : 1 ≤ fed.number
   pub last : fed.number ≤ LAST_NUMBER
-  pub few : length fed.rows ≤ MOST_ROWS
+  pub few : length fed.rows ≤ MAX_ROWS
   pub rows : All (HasKinds (kinds columns)) fed.rows
 
 -- the columns that were told are those of these batches
@@ -52,7 +53,8 @@ ColumnsOf feds reply = Unit {0}
 -- a feed to a replica that is there feeds one of these batches, if it reads as a batch
 abbrev pub FeedsAmong : List Fed → State → Request → List Record → Type 0
 FeedsAmong feds old (Feed name origin number told) owned =
-    IfSome (old.replicas name) (λ known. (fed : Fed) → IsBatch (kinds (unwrap_or old.columns [])) origin number told owned fed → Contains feds fed)
+    IfSome (old.replicas name) (λ known. (fed : Fed) → IsBatch (kinds (unwrap_or old.columns [])) origin number told owned fed
+    → Contains feds fed)
 FeedsAmong feds old request owned = Unit {0}
 
 -- the batches that a run feeds are among these

@@ -14,12 +14,15 @@ use Rattle.replica_merge.specs.Replicas.{Held}
 use Rattle.script_machine.specs.Views.{Store}
 
 abbrev pub coded_column : Coded Column
-coded_column = code_by (List ℕ × Kind) (coded× (coded_list coded_ℕ) coded_kind) (λ c. (c.name, c.kind)) (λ p. record { name = p.0; kind = p.1 }) (λ _. refl)
+coded_column = code_by (List ℕ × Kind) (coded× (coded_list coded_ℕ) coded_kind) (λ c. (c.name, c.kind))
+    (λ p. record { name = p.0; kind = p.1 }) (λ _. refl)
 
 -- given how names are told apart
 abbrev pub coded_store : Coded (Vec ℕ Global) → Coded Store
 coded_store coded_name =
     code_by (Option (List Column) × (Option Checked × (List (Vec ℕ Global × Held) × (List (Vec ℕ Global × List ℕ) × ℕ))))
     (coded× (coded_option (coded_list coded_column))
-    (coded× (coded_option coded_checked) (coded× (coded_list (coded× coded_name coded_held)) (coded× (coded_list (coded× coded_name (coded_list coded_ℕ))) coded_ℕ))))
-    (λ s. (s.columns, (s.query, (s.replicas, (s.saved, s.limit))))) (λ p. record { columns = p.0; query = p.1.0; replicas = p.1.1.0; saved = p.1.1.1.0; limit = p.1.1.1.1 }) (λ _. refl)
+    (coded× (coded_option coded_checked) (coded× (coded_list (coded× coded_name coded_held))
+    (coded× (coded_list (coded× coded_name (coded_list coded_ℕ))) coded_ℕ))))
+    (λ s. (s.columns, (s.query, (s.replicas, (s.saved, s.limit)))))
+    (λ p. record { columns = p.0; query = p.1.0; replicas = p.1.1.0; saved = p.1.1.1.0; limit = p.1.1.1.1 }) (λ _. refl)

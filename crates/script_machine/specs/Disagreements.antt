@@ -34,9 +34,12 @@ IsHeldAt store name holds = (held : Held) × (replica_at store name ≡ Some hel
 -- what a reply tells of disagreement: a feed is refused for it only where the batch disagrees, and taken only where it doesn't; a merge is
 -- refused for it only where the two replicas disagree, at the first origin where they do, and done only where they don't
 abbrev pub TellsDisagreement : Store → Request → List Record → Reply → Type 0
-TellsDisagreement old (Feed name origin number told) owned (says.Refused (OriginDisagrees of at)) = IsHeldAt old name (λ held. FeedApart held origin number told owned of at)
-TellsDisagreement old (Feed name origin number told) owned (says.Delivered delivered) = IsHeldAt old name (λ held. FeedAlike held origin number told owned)
+TellsDisagreement old (Feed name origin number told) owned (says.Refused (OriginDisagrees of at)) = IsHeldAt old name
+    (λ held. FeedApart held origin number told owned of at)
+TellsDisagreement old (Feed name origin number told) owned (says.Delivered delivered) = IsHeldAt old name
+    (λ held. FeedAlike held origin number told owned)
 TellsDisagreement old (Merge into from) owned (says.Refused (OriginDisagrees of at)) =
     IsHeldAt old into (λ own. IsHeldAt old from (λ theirs. IsApart own theirs (OriginDisagrees of at)))
-TellsDisagreement old (Merge into from) owned says.Merged = IsHeldAt old into (λ own. IsHeldAt old from (λ theirs. ¬ (DisagreeSomewhere own.parts theirs.parts)))
+TellsDisagreement old (Merge into from) owned says.Merged = IsHeldAt old into
+    (λ own. IsHeldAt old from (λ theirs. ¬ (DisagreeSomewhere own.parts theirs.parts)))
 TellsDisagreement old request owned reply = Unit {0}

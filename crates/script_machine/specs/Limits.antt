@@ -30,18 +30,22 @@ no_work = record { passes = 0; spilled = 0; most_held = 0 }
 
 -- at this limit just these aggregations were made, one after the other, by the pages that were written
 abbrev pub Worked : Query → ℕ → List (List Brought) → (writes written : ℕ) → Type 0
-Worked query limit aggregations writes written = (work : Work) × AreCounted query (setting_at limit query) aggregations no_work writes work written
+Worked query limit aggregations writes written = (work : Work) × AreCounted query (setting_at limit query) aggregations no_work writes work
+    written
 
 -- those of a batch that a replica takes
-pub record FeedWorked (held : Held) (limit : ℕ) (origin number : List ℕ) (told : ℕ) (owned : List Record) (writes written : ℕ) : Type 0 where
+pub record FeedWorked (held : Held) (limit : ℕ) (origin number : List ℕ) (told : ℕ) (owned : List Record) (writes written : ℕ) :
+    Type 0 where
   pub fed : Fed
   pub is_batch : IsBatch (kinds held.query.columns) origin number told owned fed
-  pub worked : Worked (meaning held.query) limit (aggregations_on (part_of held.parts fed.origin) fed.number (packings fed.rows)) writes written
+  pub worked : Worked (meaning held.query) limit (aggregations_on (part_of held.parts fed.origin) fed.number (packings fed.rows)) writes
+      written
 
 -- those of a replica that takes in another
 abbrev pub MergeWorked : Held → Held → ℕ → (writes written : ℕ) → Type 0
 MergeWorked own theirs limit writes written =
-    (work : Work) × MergeIsCounted (meaning own.query) (setting_at limit (meaning own.query)) own.parts theirs.parts no_work writes work written
+    (work : Work) × MergeIsCounted (meaning own.query) (setting_at limit (meaning own.query)) own.parts theirs.parts no_work writes work
+    written
 
 -- those of a command that is answered so, at the limit of what was there before it: a feed and a merge that aren't refused make just the
 -- aggregations that they need, and any other command writes nothing
@@ -50,6 +54,7 @@ WorksAtLimit old (Feed name origin number told) owned (says.Delivered delivered)
     (held : Held) × (replica_at old name ≡ Some held) × FeedWorked held old.limit origin number told owned writes written
 WorksAtLimit old (Feed name origin number told) owned reply writes written = Unit {0}
 WorksAtLimit old (Merge into from) owned says.Merged writes written =
-    (own theirs : Held) × (replica_at old into ≡ Some own) × (replica_at old from ≡ Some theirs) × MergeWorked own theirs old.limit writes written
+    (own theirs : Held) × (replica_at old into ≡ Some own) × (replica_at old from ≡ Some theirs)
+    × MergeWorked own theirs old.limit writes written
 WorksAtLimit old (Merge into from) owned reply writes written = Unit {0}
 WorksAtLimit old request owned reply writes written = written ≡ writes

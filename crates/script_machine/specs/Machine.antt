@@ -1,5 +1,6 @@
 -- The machine that a script runs: what is known under each name, and how each command is answered. All of this is our own.
-use Rattle.std.specs.Prelude.{ℕ, ◌≡◌, ◌⊎◌, nat_le, ◌&&◌, Bool, true, false, IsTrue, List, [], ◌∷◌, Option, Some, None, IfSome, unwrap_or, if◌then◌else◌}
+use Rattle.std.specs.Prelude.{ℕ, ◌≡◌, ◌⊎◌, nat_le, ◌&&◌, Bool, true, false, IsTrue, List, [], ◌∷◌, Option, Some, None, IfSome, unwrap_or}
+use Rattle.std.specs.Prelude.{if◌then◌else◌}
 use Rattle.std.specs.Str.{bytes_eq}
 use Rattle.grouping_model.specs.Replies.{KnownOrigin, known_list, reply_of}
 use Rattle.grouping_model.specs.World.{World, IsWorld, Knowledge, nothing, learn, union}
@@ -7,13 +8,15 @@ use Rattle.grouping_model.specs.declared.delivered.Delivered.{Delivered}
 use Rattle.packed_rows.specs.Columns.{Column, kinds, IsSchemaText}
 use Rattle.query_checks.specs.Checks.{Checked}
 use Rattle.group_parser.specs.Parsing.{Accepts}
-use Rattle.hash_agg.specs.declared.means.TheConstants.{LEAST_LIMIT, GREATEST_LIMIT, USUAL_LIMIT}
+use Rattle.hash_agg.specs.declared.means.TheConstants.{MIN_LIMIT, MAX_LIMIT, DEFAULT_LIMIT}
 use Rattle.script_io.specs.Records.{Record}
-use Rattle.script_commands.specs.Commands.{Command, Request, Columns, Query, Limit, Replica, Feed, Known, Answer, Merge, Save, Load, Unknown, request_of}
+use Rattle.script_commands.specs.Commands.{Command, Request, Columns, Query, Limit, Replica, Feed, Known, Answer, Merge, Save, Load}
+use Rattle.script_commands.specs.Commands.{Unknown, request_of}
 use Rattle.replies.specs.Batches.{Fed, IsBatch, IsNoBatch, IsNoQuery}
 use Rattle.replies.specs.Refusals.{limit_out_of_range, tells_fault}
 use Rattle.replies.specs.declared.refusal.Refusal.{Refusal}
-use Rattle.replies.specs.declared.refusal.Refusal.TheVariants.{NoMemory, BadSchema, OriginDisagrees, TapeFault, TapeDamaged, BadCommand, NoSuchName, NameTaken}
+use Rattle.replies.specs.declared.refusal.Refusal.TheVariants.{NoMemory, BadSchema, OriginDisagrees, TapeFault, TapeDamaged, BadCommand}
+use Rattle.replies.specs.declared.refusal.Refusal.TheVariants.{NoSuchName, NameTaken}
 
 -- what is there: the columns and the query, once they were told, what each replica knows, by its name, what was saved, by the name
 -- that it was given, and the limit of aggregations
@@ -26,7 +29,7 @@ pub record State : Type 0 where
 
 -- nothing is there but the usual limit
 abbrev pub start : State
-start = record { columns = None; query = None; replicas = λ name. None; saved = λ name. None; limit = USUAL_LIMIT }
+start = record { columns = None; query = None; replicas = λ name. None; saved = λ name. None; limit = DEFAULT_LIMIT }
 
 -- how a command is answered
 pub data Reply : Type 0 where
@@ -82,7 +85,7 @@ QueryReply (Some columns) None text reply = IsAccepted Has_query (Accepts column
 
 -- the reply to a limit
 abbrev pub limit_reply : ℕ → Reply
-limit_reply bytes = if nat_le LEAST_LIMIT bytes && nat_le bytes GREATEST_LIMIT then Has_limit bytes else Refused limit_out_of_range
+limit_reply bytes = if nat_le MIN_LIMIT bytes && nat_le bytes MAX_LIMIT then Has_limit bytes else Refused limit_out_of_range
 
 -- the reply to a new name: replicas come after the query
 abbrev pub replica_reply : Option Checked → Option Knowledge → List ℕ → Reply
@@ -94,7 +97,8 @@ replica_reply (Some query) None name = Created name
 abbrev pub FeedReply : List Column → Option Knowledge → (name origin number : List ℕ) → ℕ → List Record → Reply → Type 0
 FeedReply columns None name origin number told owned reply = reply ≡ Refused NoSuchName
 FeedReply columns (Some known) name origin number told owned reply =
-    IsAccepted (λ (fed : Fed). Took name fed (reply_of known (fed.origin, fed.number))) (IsBatch (kinds columns) origin number told owned) reply
+    IsAccepted (λ (fed : Fed). Took name fed (reply_of known (fed.origin, fed.number))) (IsBatch (kinds columns) origin number told owned)
+    reply
     ⊎ IsRefusedFor (IsNoBatch (kinds columns) origin number told owned) reply
 
 -- the reply to a question about a replica
@@ -121,7 +125,8 @@ abbrev pub load_reply : Option Knowledge → (name : List ℕ) → Reply
 load_reply (Some known) name = Loaded name known
 load_reply None name = Refused NoSuchName
 
--- how a command is answered that asks for this and owns these records, where memory is there and no disk fails. There is one way only (law one_reply)
+-- how a command is answered that asks for this and owns these records, where memory is there and no disk fails. There is one way only (law
+-- one_reply)
 abbrev pub Replies : State → Request → List Record → Reply → Type 0
 Replies old (Columns text) owned reply = ColumnsReply old.columns text reply
 Replies old (Query text) owned reply = QueryReply old.columns old.query text reply
@@ -174,7 +179,8 @@ pub record IsDamage (honest : Bool) (request : Request) (reply : Reply) : Type 0
 
 -- the same where origins need not keep to one batch a number, and the disk of tapes may be honest or not
 abbrev pub MayReply : Bool → State → Request → List Record → Reply → Type 0
-MayReply honest old request owned reply = (IsReply old request owned reply ⊎ IsDisagreement old request owned reply) ⊎ IsDamage honest request reply
+MayReply honest old request owned reply = (IsReply old request owned reply ⊎ IsDisagreement old request owned reply)
+    ⊎ IsDamage honest request reply
 
 -- under a name is this, and under the others what was there
 abbrev pub with_replica : (List ℕ → Option Knowledge) → List ℕ → Knowledge → List ℕ → Option Knowledge
@@ -189,7 +195,10 @@ after old (Created name) = record old { replicas = with_replica old.replicas nam
 after old (Took name fed delivered) =
     record old { replicas = with_replica old.replicas name (learn (unwrap_or (old.replicas name) nothing) (fed.origin, fed.number)) }
 after old (Merged into from) =
-    record old { replicas = with_replica old.replicas into (union (unwrap_or (old.replicas into) nothing) (unwrap_or (old.replicas from) nothing)) }
+    record old {
+      replicas = with_replica old.replicas into
+          (union (unwrap_or (old.replicas into) nothing) (unwrap_or (old.replicas from) nothing));
+    }
 after old (Saved saved query known) = record old { saved = with_replica old.saved saved known }
 after old (Loaded name known) = record old { replicas = with_replica old.replicas name known }
 after old reply = old
@@ -197,7 +206,8 @@ after old reply = old
 -- commands may be answered so, one after the other
 unfoldable pub Run : Bool → State → List Command → List Reply → Type 0
 Run honest old [] [] = Unit {0}
-Run honest old (command ∷ commands) (reply ∷ replies) = MayReply honest old (request_of command.head) command.owned reply × Run honest (after old reply) commands replies
+Run honest old (command ∷ commands) (reply ∷ replies) = MayReply honest old (request_of command.head) command.owned reply
+    × Run honest (after old reply) commands replies
 Run honest old commands replies = ⊥
 
 abbrev pub is_refused : Reply → Bool
@@ -212,7 +222,8 @@ is_fault reply = false
 -- the same, each in its one way, or refused for want of memory or by the disk of tapes
 unfoldable pub StrictRun : State → List Command → List Reply → Type 0
 StrictRun old [] [] = Unit {0}
-StrictRun old (command ∷ commands) (reply ∷ replies) = IsReply old (request_of command.head) command.owned reply × StrictRun (after old reply) commands replies
+StrictRun old (command ∷ commands) (reply ∷ replies) = IsReply old (request_of command.head) command.owned reply
+    × StrictRun (after old reply) commands replies
 StrictRun old commands replies = ⊥
 
 -- a world is one of the columns that were told
@@ -223,7 +234,8 @@ AgreesWith world reply = Unit {0}
 -- a feed to a replica that is there agrees with a world: if it reads as a batch, it is the world's, whatever is replied
 abbrev pub FeedAgrees : World → State → Request → List Record → Type 0
 FeedAgrees world old (Feed name origin number told) owned =
-    IfSome (old.replicas name) (λ known. (fed : Fed) → IsBatch (kinds (unwrap_or old.columns [])) origin number told owned fed → world fed.origin fed.number ≡ Some fed.rows)
+    IfSome (old.replicas name) (λ known. (fed : Fed) → IsBatch (kinds (unwrap_or old.columns [])) origin number told owned fed
+    → world fed.origin fed.number ≡ Some fed.rows)
 FeedAgrees world old request owned = Unit {0}
 
 abbrev pub AgreesAt : World → State → Request → List Record → Reply → Type 0

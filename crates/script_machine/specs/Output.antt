@@ -2,7 +2,7 @@
 use Rattle.std.specs.Prelude.{ℕ, ◌≡◌, ◌≤◌, ◌<◌, ◌+◌, Bool, true, false, IsTrue, List, ◌++◌, length, count_by, Option, IfSome, Result, Err}
 use Rattle.std.specs.Io.KnownBytes.{Appends, Keeps}
 use Rattle.grouping_model.specs.World.{World}
-use Rattle.grouping_model.specs.declared.limits.TheConstants.{LONGEST_INPUT}
+use Rattle.grouping_model.specs.declared.limits.TheConstants.{MAX_INPUT_LEN}
 use Rattle.script_io.specs.Output.{StopsShort}
 use Rattle.script_io.specs.Records.{records_of}
 use Rattle.script_commands.specs.Commands.{Command, commands_of}
@@ -76,11 +76,12 @@ StopsAt disk most script old new NoMemory = (most < length script → Keeps old 
 
 -- a run answered a script within the limit, as the machine does over such a disk, with so many refusals
 abbrev pub AnswersAll : Disk → Option (List ℕ) → Option (List ℕ) → Option (List ℕ) → ℕ → Type 0
-AnswersAll disk unread old new refused = IfSome unread (λ script. (length script ≤ LONGEST_INPUT) × WritesAll disk (commands_in script) old new refused)
+AnswersAll disk unread old new refused = IfSome unread (λ script. (length script ≤ MAX_INPUT_LEN)
+    × WritesAll disk (commands_in script) old new refused)
 
 -- a run stopped before the end of its script
 abbrev pub AnswersSome : Disk → Option (List ℕ) → Option (List ℕ) → Option (List ℕ) → RunError → Type 0
-AnswersSome disk unread old new error = IfSome unread (λ script. StopsAt disk LONGEST_INPUT script old new error)
+AnswersSome disk unread old new error = IfSome unread (λ script. StopsAt disk MAX_INPUT_LEN script old new error)
 
 -- a run that did not read its script wrote nothing
 abbrev pub KeepsUnread : Option (List ℕ) → Option (List ℕ) → RunError → Type 0

@@ -9,7 +9,8 @@ use Rattle.having_filter.specs.Kept.{by_names, headers}
 use Rattle.summary_codec.specs.WorldFile.{world_file}
 use Rattle.table_print.specs.Table.{table_text}
 use Rattle.replies.specs.Text.{line, delivered_text, known_text, answer_text, refusal_name}
-use Rattle.script_machine.specs.Machine.{Reply, Has_columns, Has_query, Has_limit, Created, Took, Merged, Saved, Loaded, Listed, Answered, Refused}
+use Rattle.script_machine.specs.Machine.{Reply, Has_columns, Has_query, Has_limit, Created, Took, Merged, Saved, Loaded, Listed, Answered}
+use Rattle.script_machine.specs.Machine.{Refused}
 
 -- the text of a reply, where the batches are a world's
 abbrev pub reply_text : World → Reply → List ℕ

@@ -4,7 +4,7 @@ use Rattle.std.specs.declared.alloc.Global.{Global}
 use Rattle.std.specs.declared.vec.Vec.{Vec}
 use Rattle.std.specs.Map.{lookup}
 use Rattle.std.specs.Str.{bytes_eq}
-use Rattle.hash_agg.specs.declared.means.TheConstants.{USUAL_LIMIT}
+use Rattle.hash_agg.specs.declared.means.TheConstants.{DEFAULT_LIMIT}
 use Rattle.grouping_model.specs.World.{World, IsWorld, Knowledge}
 use Rattle.packed_rows.specs.Columns.{Column, kinds}
 use Rattle.query_checks.specs.Checks.{Checked}
@@ -32,7 +32,7 @@ pub record Store : Type 0 where
 
 -- nothing is there but the usual limit
 abbrev pub empty : Store
-empty = record { columns = None; query = None; replicas = []; saved = []; limit = USUAL_LIMIT }
+empty = record { columns = None; query = None; replicas = []; saved = []; limit = DEFAULT_LIMIT }
 
 -- the replica of a name
 abbrev pub replica_at : Store → List ℕ → Option Held
@@ -91,16 +91,19 @@ pub record FitsWorld (world : World) (store : Store) : Type 0 where
 
 -- a reply of the code to what is asked, over a disk of tapes that may be honest, is one of the machine's, and what is kept then is what is
 -- there then. Over an honest disk it is the right one
-pub record Answers (honest : Bool) (state : State) (request : Request) (owned : List Record) (old : Store) (reply : Reply) (new : Store) : Type 0 where
+pub record Answers (honest : Bool) (state : State) (request : Request) (owned : List Record) (old : Store) (reply : Reply) (new : Store) :
+    Type 0 where
   pub said : machine.Reply
   pub may : MayReply honest state request owned said
   pub represents : Represents (after state said) new
   pub refused : is_refusal reply ≡ machine.is_refused said
   pub faulted : is_tape_fault reply ≡ machine.is_fault said
   pub reads : MayRead said (said_text reply)
-  pub strict : IsTrue honest → (world : World) → FitsWorld world old → AgreesAt world state request owned said → IsReply state request owned said
+  pub strict : IsTrue honest → (world : World) → FitsWorld world old → AgreesAt world state request owned said
+      → IsReply state request owned said
   pub fits : IsTrue honest → (world : World) → FitsWorld world old → AgreesAt world state request owned said → FitsWorld world new
-  pub text : IsTrue honest → (world : World) → FitsWorld world old → AgreesAt world state request owned said → said_text reply ≡ reply_text world said
+  pub text : IsTrue honest → (world : World) → FitsWorld world old → AgreesAt world state request owned said → said_text reply
+      ≡ reply_text world said
 
 -- the same for whatever is there
 pub record Steps (honest : Bool) (request : Request) (owned : List Record) (old : Store) (reply : Reply) (new : Store) : Type 0 where

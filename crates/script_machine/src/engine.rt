@@ -1,18 +1,19 @@
 //! Runs a script.
 
 ghost use Rattle.std.specs.Prelude.{◌≡◌, ◌≤◌, ◌+◌, ℕ, length, IfErr, IfOk, MatchResult};
-ghost use Rattle.tape_disks.specs.Disk.{Leaves};
+ghost use Rattle.tape_disks.specs.Disk.{DiskFrame};
 ghost use Rattle.script_io.specs.Fused.{FailsAsTold, has_failed, unread, written};
 ghost use Rattle.script_io.specs.Input.{ConsumesAtMost};
 ghost use Rattle.script_commands.specs.Commands.{commands_of};
 ghost use Rattle.script_machine.specs.Views.{empty};
-ghost use Rattle.script_machine.specs.Output.{AnswersAll, AnswersSome, KeepsUnread, WritesAll, WritesSome, commands_in, tells_read_fault, tells_write_fault};
+ghost use Rattle.script_machine.specs.Output.{AnswersAll, AnswersSome, KeepsUnread, WritesAll, WritesSome, commands_in, tells_read_fault};
+ghost use Rattle.script_machine.specs.Output.{tells_write_fault};
 
 use crate::lines::Lines;
 use crate::session::Session;
 use csv::ByteRecord;
-use grouping_model::limits::LONGEST_INPUT;
-use hash_agg::{Seed, TapeDisk, USUAL_SEED};
+use grouping_model::limits::MAX_INPUT_LEN;
+use hash_agg::{DEFAULT_SEED, Seed, TapeDisk};
 use replies::{Outcome, Refusal, Reply, RunError, put_reply};
 use script_commands::{Command, next_command};
 use script_io::{Fused, Records, read_input};
@@ -55,7 +56,7 @@ fn answer_all<W: Write, O: Observer, D: TapeDisk>(
     lines: &mut Lines<'_>,
     disk: &mut D,
 ) -> Result<Outcome, RunError>
-    requires few { length records.old ≤ LONGEST_INPUT + 1 }
+    requires few { length records.old ≤ MAX_INPUT_LEN + 1 }
     requires none { session.old ≡ empty }
     ensures writes { MatchResult result
         (λ outcome. WritesAll (record { honest = D.honest disk.old; failed = D.failures disk.old; failed_now = D.failures disk.new }) (commands_of records.old) (written W.contents writer.old)
@@ -63,7 +64,7 @@ fn answer_all<W: Write, O: Observer, D: TapeDisk>(
         (λ e. WritesSome (record { honest = D.honest disk.old; failed = D.failures disk.old; failed_now = D.failures disk.new }) (commands_of records.old) (written W.contents writer.old)
         (written W.contents writer.new) e) }
     ensures write_fault { FailsAsTold writer.old writer.new (tells_write_fault result) }
-    ensures disk { (faults : ℕ) × Leaves D.TapeDisk faults disk.old disk.new }
+    ensures disk { (faults : ℕ) × DiskFrame D.TapeDisk faults disk.old disk.new }
 {
     let mut refused = 0;
     while let Some(command) = next_command(records)? {
@@ -86,14 +87,14 @@ fn run_script<W: Write, O: Observer, D: TapeDisk>(
     disk: &mut D,
     seed: Seed,
 ) -> Result<Outcome, RunError>
-    requires { length script.now ≤ LONGEST_INPUT }
+    requires { length script.now ≤ MAX_INPUT_LEN }
     ensures writes { MatchResult result
         (λ outcome. WritesAll (record { honest = D.honest disk.old; failed = D.failures disk.old; failed_now = D.failures disk.new }) (commands_in script.now) (written W.contents writer.old)
         (written W.contents writer.new) outcome.refused)
         (λ e. WritesSome (record { honest = D.honest disk.old; failed = D.failures disk.old; failed_now = D.failures disk.new }) (commands_in script.now) (written W.contents writer.old)
         (written W.contents writer.new) e) }
     ensures write_fault { FailsAsTold writer.old writer.new (tells_write_fault result) }
-    ensures disk { (faults : ℕ) × Leaves D.TapeDisk faults disk.old disk.new }
+    ensures disk { (faults : ℕ) × DiskFrame D.TapeDisk faults disk.old disk.new }
 {
     let mut records = Records::new(alloc, script);
     let mut session = Session::new(alloc, seed);
@@ -123,12 +124,16 @@ pub fn run<R: Read, W: Write, D: TapeDisk>(
 ) -> Result<Outcome, RunError>
     // No more is read than the longest script and one byte.
     ensures reads { ConsumesAtMost (unread R.remaining reader.old) (unread R.remaining reader.new)
-        (LONGEST_INPUT + 1) }
+        (MAX_INPUT_LEN + 1) }
     // A script within the limit is answered as the machine does over such a disk, with so many refusals.
-    ensures done { IfOk result (λ outcome. AnswersAll (record { honest = D.honest disk.old; failed = D.failures disk.old; failed_now = D.failures disk.new }) (unread R.remaining reader.old)
+    ensures done { IfOk result
+        (λ outcome. AnswersAll (record { honest = D.honest disk.old; failed = D.failures disk.old; failed_now = D.failures disk.new })
+        (unread R.remaining reader.old)
         (written W.contents writer.old) (written W.contents writer.new) outcome.refused) }
     // What was written where the run stopped.
-    ensures stopped { IfErr result (AnswersSome (record { honest = D.honest disk.old; failed = D.failures disk.old; failed_now = D.failures disk.new }) (unread R.remaining reader.old) (written W.contents writer.old)
+    ensures stopped { IfErr result
+        (AnswersSome (record { honest = D.honest disk.old; failed = D.failures disk.old; failed_now = D.failures disk.new })
+        (unread R.remaining reader.old) (written W.contents writer.old)
         (written W.contents writer.new)) }
     // Nothing was written where the script was not read.
     ensures silent { IfErr result (KeepsUnread (written W.contents writer.old) (written W.contents writer.new)) }
@@ -137,9 +142,9 @@ pub fn run<R: Read, W: Write, D: TapeDisk>(
     // The output is told to be unwritable exactly where its writer failed, if that had not failed before.
     ensures write_fault { FailsAsTold writer.old writer.new (tells_write_fault result) }
     // The disk is as honest as it was, so that another script can run over it.
-    ensures disk { (faults : ℕ) × Leaves D.TapeDisk faults disk.old disk.new }
+    ensures disk { (faults : ℕ) × DiskFrame D.TapeDisk faults disk.old disk.new }
 {
-    run_observed(alloc, reader, writer, &mut Unobserved, disk, USUAL_SEED)
+    run_observed(alloc, reader, writer, &mut Unobserved, disk, DEFAULT_SEED)
 }
 
 /// The same as `run`, whose observer is told of each command that is refused, in order, and where it stands in the script. No clause
@@ -154,16 +159,20 @@ pub fn run_observed<R: Read, W: Write, O: Observer, D: TapeDisk>(
     seed: Seed,
 ) -> Result<Outcome, RunError>
     ensures reads { ConsumesAtMost (unread R.remaining reader.old) (unread R.remaining reader.new)
-        (LONGEST_INPUT + 1) }
-    ensures done { IfOk result (λ outcome. AnswersAll (record { honest = D.honest disk.old; failed = D.failures disk.old; failed_now = D.failures disk.new }) (unread R.remaining reader.old)
+        (MAX_INPUT_LEN + 1) }
+    ensures done { IfOk result
+        (λ outcome. AnswersAll (record { honest = D.honest disk.old; failed = D.failures disk.old; failed_now = D.failures disk.new })
+        (unread R.remaining reader.old)
         (written W.contents writer.old) (written W.contents writer.new) outcome.refused) }
-    ensures stopped { IfErr result (AnswersSome (record { honest = D.honest disk.old; failed = D.failures disk.old; failed_now = D.failures disk.new }) (unread R.remaining reader.old) (written W.contents writer.old)
+    ensures stopped { IfErr result
+        (AnswersSome (record { honest = D.honest disk.old; failed = D.failures disk.old; failed_now = D.failures disk.new })
+        (unread R.remaining reader.old) (written W.contents writer.old)
         (written W.contents writer.new)) }
     ensures silent { IfErr result (KeepsUnread (written W.contents writer.old) (written W.contents writer.new)) }
     ensures fault { tells_read_fault result ≡ has_failed reader.new }
     ensures write_fault { FailsAsTold writer.old writer.new (tells_write_fault result) }
-    ensures disk { (faults : ℕ) × Leaves D.TapeDisk faults disk.old disk.new }
+    ensures disk { (faults : ℕ) × DiskFrame D.TapeDisk faults disk.old disk.new }
 {
-    let script = read_input(alloc, reader, LONGEST_INPUT)?;
+    let script = read_input(alloc, reader, MAX_INPUT_LEN)?;
     run_script(alloc, &script, writer, observer, disk, seed)
 }

@@ -1,8 +1,10 @@
 //! Laws of the machine that a script runs.
 
 ghost use Rattle.std.specs.Prelude.{◌≡◌, List, ℕ};
-ghost use Rattle.grouping_model.specs.declared.limits.TheConstants.{LAST_ORIGIN, LAST_NUMBER, MOST_ROWS, MOST_COLUMNS, MOST_KEYS, MOST_CALLS, MOST_ITEMS, LONGEST_QUERY, DEEPEST_CONDITION, MOST_OPEN, LONGEST_NAME, LONGEST_TEXT, LONGEST_INPUT};
-ghost use Rattle.hash_agg.specs.declared.means.TheConstants.{LEAST_LIMIT, GREATEST_LIMIT, USUAL_LIMIT};
+ghost use Rattle.grouping_model.specs.declared.limits.TheConstants.{LAST_ORIGIN, LAST_NUMBER, MAX_ROWS, MAX_COLUMNS, MAX_KEYS, MAX_CALLS};
+ghost use Rattle.grouping_model.specs.declared.limits.TheConstants.{MAX_ITEMS, MAX_QUERY_LEN, DEEPEST_CONDITION, MAX_OPEN, MAX_NAME_LEN};
+ghost use Rattle.grouping_model.specs.declared.limits.TheConstants.{MAX_TEXT_LEN, MAX_INPUT_LEN};
+ghost use Rattle.hash_agg.specs.declared.means.TheConstants.{MIN_LIMIT, MAX_LIMIT, DEFAULT_LIMIT};
 ghost use Rattle.grouping_model.specs.World.{World};
 ghost use Rattle.script_io.specs.Records.{Record};
 ghost use Rattle.script_commands.specs.Commands.{Command, Request, Answer, Known, Save};
@@ -20,7 +22,8 @@ pub fn one_reply()
         ((reply : Reply) → ¬ (Replies old request owned reply)) → ⊥ }
 {}
 
-/// Two replicas of one query that know the same batches print and save the same bytes, be they of one script or of two: whatever the order in
+/// Two replicas of one query that know the same batches print and save the same bytes, be they of one script or of two: whatever the order
+/// in
 /// which these came, and however often, an answer is the same text, so is the list of what is known, and a file that is saved has the
 /// same bytes, under whichever name.
 pub fn same_batches_same_bytes()
@@ -62,18 +65,18 @@ pub fn one_batch_each_agrees()
 pub fn limits_in_digits()
     ensures origins { LAST_ORIGIN ≡ 1023 }
     ensures numbers { LAST_NUMBER ≡ 4294967295 }
-    ensures rows_of_a_batch { MOST_ROWS ≡ 1048576 }
-    ensures columns { MOST_COLUMNS ≡ 32 }
-    ensures keys { MOST_KEYS ≡ 16 }
-    ensures aggregates { MOST_CALLS ≡ 32 }
-    ensures items { MOST_ITEMS ≡ 64 }
-    ensures bytes_of_a_query { LONGEST_QUERY ≡ 16384 }
+    ensures rows_of_a_batch { MAX_ROWS ≡ 1048576 }
+    ensures columns { MAX_COLUMNS ≡ 32 }
+    ensures keys { MAX_KEYS ≡ 16 }
+    ensures aggregates { MAX_CALLS ≡ 32 }
+    ensures items { MAX_ITEMS ≡ 64 }
+    ensures bytes_of_a_query { MAX_QUERY_LEN ≡ 16384 }
     ensures depth_of_a_condition { DEEPEST_CONDITION ≡ 64 }
-    ensures open_parentheses { MOST_OPEN ≡ 64 }
-    ensures bytes_of_a_name { LONGEST_NAME ≡ 63 }
-    ensures bytes_of_a_text { LONGEST_TEXT ≡ 255 }
-    ensures bytes_of_an_input { LONGEST_INPUT ≡ 67108864 }
-    ensures least_limit { LEAST_LIMIT ≡ 65536 }
-    ensures greatest_limit { GREATEST_LIMIT ≡ 1099511627776 }
-    ensures usual_limit { USUAL_LIMIT ≡ 4194304 }
+    ensures open_parentheses { MAX_OPEN ≡ 64 }
+    ensures bytes_of_a_name { MAX_NAME_LEN ≡ 63 }
+    ensures bytes_of_a_text { MAX_TEXT_LEN ≡ 255 }
+    ensures bytes_of_an_input { MAX_INPUT_LEN ≡ 67108864 }
+    ensures least_limit { MIN_LIMIT ≡ 65536 }
+    ensures greatest_limit { MAX_LIMIT ≡ 1099511627776 }
+    ensures usual_limit { DEFAULT_LIMIT ≡ 4194304 }
 {}

@@ -1,6 +1,7 @@
 //! What is there while a script runs, and how its commands are answered.
 
-ghost use Rattle.std.specs.Prelude.{◌≡◌, ◌≢◌, Bool, IsTrue, false, List, Option, Some, None, [], IfOk, IfErr, OnOk, OnErr, drop, string_bytes, take, ℕ};
+ghost use Rattle.std.specs.Prelude.{◌≡◌, ◌≢◌, Bool, IsTrue, false, List, Option, Some, None, [], IfOk, IfErr, OnOk, OnErr, drop};
+ghost use Rattle.std.specs.Prelude.{string_bytes, take, ℕ};
 ghost use Rattle.std.specs.HashMap.{UpdatesBy};
 ghost use Rattle.std.specs.Str.{bytes_eq};
 ghost use Rattle.csv.specs.Records.{fields_of};
@@ -24,7 +25,7 @@ ghost use Rattle.script_machine.specs.Disagreements.{FeedAlike, FeedApart, Tells
 ghost use Rattle.script_machine.specs.Limits.{FeedWorked, WorksAtLimit};
 ghost use Rattle.script_machine.specs.Views.{Store, IsStore, empty, Steps, JoinsNames};
 ghost use Rattle.tape_disks.specs.Calls.{failed};
-ghost use Rattle.tape_disks.specs.Disk.{Leaves};
+ghost use Rattle.tape_disks.specs.Disk.{DiskFrame};
 
 use crate::saved::{Head, SavedFile, head_of};
 use batch_reader::read_rows;
@@ -115,8 +116,8 @@ fn deliver<D: TapeDisk>(
         FeedWorked replica.old means.now.limit origin.now number.now told (take told records.old)
         (D.writes disk.old) (D.writes disk.new))) }
     ensures left { OnOk result (records.new ≡ drop told records.old) }
-    ensures disk { IfOk result (λ done. Leaves D.TapeDisk (failed refusal_faults done) disk.old disk.new) }
-    ensures stopped { OnErr result (Leaves D.TapeDisk 0 disk.old disk.new) }
+    ensures disk { IfOk result (λ done. DiskFrame D.TapeDisk (failed refusal_faults done) disk.old disk.new) }
+    ensures stopped { OnErr result (DiskFrame D.TapeDisk 0 disk.old disk.new) }
 {
     let schema = replica.query().schema();
     let batch = match read_rows(alloc, schema, origin, number, told, records)? {
@@ -306,8 +307,8 @@ impl Session {
             (D.writes disk.old) (D.writes disk.new)) }
         ensures tells { IfOk result (TellsDisagreement self.old (ask.Feed name.now origin.now number.now told) (take told records.old)) }
         ensures left { OnOk result (records.new ≡ drop told records.old) }
-        ensures disk { IfOk result (λ reply. Leaves D.TapeDisk (faults_in reply) disk.old disk.new) }
-        ensures stopped { OnErr result (Leaves D.TapeDisk 0 disk.old disk.new) }
+        ensures disk { IfOk result (λ reply. DiskFrame D.TapeDisk (faults_in reply) disk.old disk.new) }
+        ensures stopped { OnErr result (DiskFrame D.TapeDisk 0 disk.old disk.new) }
     {
         let Some(replica) = self.replicas.get_mut(name) else {
             records.skip(told as usize)?;
@@ -360,7 +361,7 @@ impl Session {
         ensures agreed { OnOk result ((owned : List Record) →
             TellsDisagreement self.now (ask.Merge into.now from.now) owned says.Merged) }
         ensures undamaged { IfErr result (λ why. IsTrue (D.honest disk.old) → why ≢ TapeDamaged) }
-        ensures disk { Leaves D.TapeDisk (failed refusal_faults result) disk.old disk.new }
+        ensures disk { DiskFrame D.TapeDisk (failed refusal_faults result) disk.old disk.new }
     {
         let Some(own) = self.replicas.get(into) else {
             return Err(Refusal::NoSuchName);
@@ -379,7 +380,7 @@ impl Session {
         ensures limit { IsTrue (D.honest disk.old) → (owned : List Record) →
             WorksAtLimit self.old (ask.Merge into.now from.now) owned result (D.writes disk.old) (D.writes disk.new) }
         ensures tells { (owned : List Record) → TellsDisagreement self.old (ask.Merge into.now from.now) owned result }
-        ensures disk { Leaves D.TapeDisk (faults_in result) disk.old disk.new }
+        ensures disk { DiskFrame D.TapeDisk (faults_in result) disk.old disk.new }
     {
         let joined = match self.join(into, from, disk) {
             Ok(joined) => joined,
@@ -454,8 +455,8 @@ impl Session {
             (take (owned_by (fields_of command.now.head)) records.old)) }
         ensures left { OnOk result (records.new
             ≡ drop (owned_by (fields_of command.now.head)) records.old) }
-        ensures disk { IfOk result (λ reply. Leaves D.TapeDisk (faults_in reply) disk.old disk.new) }
-        ensures stopped { OnErr result ((faults : ℕ) × Leaves D.TapeDisk faults disk.old disk.new) }
+        ensures disk { IfOk result (λ reply. DiskFrame D.TapeDisk (faults_in reply) disk.old disk.new) }
+        ensures stopped { OnErr result ((faults : ℕ) × DiskFrame D.TapeDisk faults disk.old disk.new) }
     {
         let reply = match command.request() {
             Request::Feed {

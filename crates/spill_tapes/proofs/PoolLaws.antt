@@ -2,7 +2,8 @@
 use Rattle.std.specs.Prelude.{◌≡◌, refl, ℕ, ◌+◌, ◌^◌, ◌<◌, ◌≤◌, List, [], ◌∷◌, ◌++◌, length}
 use Rattle.std.proofs.Common.{inl, inr, ◌∙◌, ap, arith, length-append}
 use Rattle.std.proofs.lemmas.Bool.Decides.{nat_tests}
-use Rattle.spill_tapes.specs.Pages.{PoolState, IsPool, HavePages, given_back, once, times, below, IsApart, IsBalanced, IsFresh, FreesNone, UsesAgain, TakesPages, GivesBack}
+use Rattle.spill_tapes.specs.Pages.{PoolState, IsPool, HavePages, given_back, once, times, below, IsApart, IsBalanced, IsFresh, FreesNone}
+use Rattle.spill_tapes.specs.Pages.{UsesAgain, TakesPages, GivesBack}
 use Rattle.std.proofs.lemmas.Grind.{common_steps}
 
 pub times-append : (page : ℕ) (xs ys : List ℕ) → times page (xs ++ ys) ≡ times page xs + times page ys
@@ -10,7 +11,8 @@ times-append page [] ys = omega arith
 times-append page (x ∷ xs) ys = omega (arith, times-append page xs ys)
 
 pub times_push : (page x : ℕ) (xs : List ℕ) → times page (xs ++ x ∷ []) ≡ times page xs + once page x
-times_push page x xs = let e : times page (xs ++ x ∷ []) ≡ times page xs + times page (x ∷ []) = times-append page xs (x ∷ []) in omega (arith, e)
+times_push page x xs = let e : times page (xs ++ x ∷ []) ≡ times page xs + times page (x ∷ []) = times-append page xs (x ∷ []) in omega
+    (arith, e)
 
 -- a page is given out or not
 pub below_less : (page count : ℕ) → 0 < below page count → page < count
@@ -27,7 +29,8 @@ balanced_twice a b c xs ys zs first second = grind (arith, nat_tests, common_ste
 pub frees_twice : (a b c : PoolState) → FreesNone a b → FreesNone b c → FreesNone a c
 frees_twice a b c first second = λ page. omega (arith, first page, second page)
 
-pub apart_page : (pool : PoolState) (pages : List ℕ) (page : ℕ) → IsApart pool pages → 0 < times page pages → (page < pool.count) × (times page pool.free ≡ 0)
+pub apart_page : (pool : PoolState) (pages : List ℕ) (page : ℕ) → IsApart pool pages → 0 < times page pages → (page < pool.count)
+    × (times page pool.free ≡ 0)
 apart_page pool pages page apart there = grind (arith, nat_tests, common_steps)
 
 -- what was taken was fresh
@@ -37,7 +40,8 @@ fresh_first a page rest free none = grind (arith, nat_tests, common_steps)
 pub fresh_new : (a : PoolState) (page : ℕ) → page ≡ a.count → IsFresh a page
 fresh_new a page is none = omega (arith, is)
 
-pub small_first : (a : PoolState) (pages : List ℕ) (page : ℕ) (rest : List ℕ) → IsPool a → IsApart a pages → a.free ≡ page ∷ rest → page < 2 ^ 49
+pub small_first : (a : PoolState) (pages : List ℕ) (page : ℕ) (rest : List ℕ) → IsPool a → IsApart a pages → a.free ≡ page ∷ rest
+    → page < 2 ^ 49
 small_first a pages page rest pool apart free =
     let e : times page a.free ≡ once page page + times page rest = ap (times page) free in
     let at : times page a.free + times page pages ≤ below page a.count = apart page in
@@ -45,7 +49,8 @@ small_first a pages page rest pool apart free =
     omega (arith, given, pool.few)
 
 -- a page that was read is given back
-pub balanced_back : (a : PoolState) (pages pages' : List ℕ) (page : ℕ) → pages ≡ page ∷ pages' → IsBalanced a pages (given_back a page) pages'
+pub balanced_back : (a : PoolState) (pages pages' : List ℕ) (page : ℕ) → pages ≡ page ∷ pages'
+    → IsBalanced a pages (given_back a page) pages'
 balanced_back a pages pages' page first =
     let gives : (p : ℕ) → times p (a.free ++ page ∷ []) ≡ times p a.free + once p page = λ p. times_push p page a.free in
     let less : (p : ℕ) → times p pages ≡ once p page + times p pages' = λ p. ap (times p) first in
@@ -64,7 +69,8 @@ apart_first a pages pages' page pool apart first =
     omega (arith, given, pool.few)
 
 -- all pages of a tape are given back
-pub balanced_all : (a b : PoolState) (pages pages' : List ℕ) → b.free ≡ a.free ++ pages → b.count ≡ a.count → pages' ≡ [] → IsBalanced a pages b pages'
+pub balanced_all : (a b : PoolState) (pages pages' : List ℕ) → b.free ≡ a.free ++ pages → b.count ≡ a.count → pages' ≡ []
+    → IsBalanced a pages b pages'
 balanced_all a b pages pages' free count none =
     let gives : (p : ℕ) → times p b.free ≡ times p a.free + times p pages = λ p. ap (times p) free ∙ times-append p a.free pages in
     let left : (p : ℕ) → times p pages' ≡ 0 = λ p. ap (times p) none in
@@ -116,7 +122,8 @@ takes_more a b xs ys takes = record {
 }
 
 -- a page that was read is given back
-pub back : (a : PoolState) (pages pages' : List ℕ) (page : ℕ) → HavePages a pages → pages ≡ page ∷ pages' → GivesBack a pages (given_back a page) pages'
+pub back : (a : PoolState) (pages pages' : List ℕ) (page : ℕ) → HavePages a pages → pages ≡ page ∷ pages'
+    → GivesBack a pages (given_back a page) pages'
 back a pages pages' page have first = record {
   pool = record { few = have.pool.few; room = have.pool.room };
   balanced = balanced_back a pages pages' page first;

@@ -14,17 +14,23 @@ pub bytes_push : (rs : List Record) (r : Record) → tape_bytes (rs ++ r ∷ [])
 bytes_push rs r = sym (flat_map_more record_bytes [] rs r)
 
 -- a record more
-pub appended : (before after : ℕ → ℕ → Type 0) (t t1 t' : TapeState) (r : Record) → IsRecord r → ((bytes : List ℕ) → HasWritten before t bytes → HasWritten after t1 (bytes ++ record_bytes r)) → t'.pages ≡ t1.pages → t'.buffer ≡ t1.buffer → t'.records ≡ t.records + 1 → (rs : List Record) → AreWritten before t rs → AreWritten after t' (rs ++ r ∷ [])
+pub appended : (before after : ℕ → ℕ → Type 0) (t t1 t' : TapeState) (r : Record) → IsRecord r
+    → ((bytes : List ℕ) → HasWritten before t bytes → HasWritten after t1 (bytes ++ record_bytes r)) → t'.pages ≡ t1.pages → t'.buffer
+    ≡ t1.buffer → t'.records ≡ t.records + 1 → (rs : List Record) → AreWritten before t rs → AreWritten after t' (rs ++ r ∷ [])
 appended before after t t1 t' r good put pages buffer records rs had = record {
   good = records_push rs r had.good good;
   number = records ∙ ap (λ n. n + 1) had.number ∙ sym (length-append rs (r ∷ []));
-  bytes = same_written after t1 t' pages buffer (tape_bytes (rs ++ r ∷ [])) (subst (λ bs. HasWritten after t1 bs) (sym (bytes_push rs r)) (put (tape_bytes rs) had.bytes));
+  bytes = same_written after t1 t' pages buffer (tape_bytes (rs ++ r ∷ [])) (subst (λ bs. HasWritten after t1 bs) (sym (bytes_push rs r))
+      (put (tape_bytes rs) had.bytes));
 }
 
 -- a tape whose last page was written
-pub rewound_records : (before after : ℕ → ℕ → Type 0) (t t1 t' : TapeState) → t1.pages ≡ t.pages → t1.buffer ≡ t.buffer → ((bytes : List ℕ) → HasWritten before t1 bytes → ((rest : List ℕ) × HasWritten after t' (bytes ++ rest))) → t'.buffer ≡ [] → t'.records ≡ t.records → t'.left ≡ tape_len t → (rs : List Record) → AreWritten before t rs → AreAhead after t' rs
+pub rewound_records : (before after : ℕ → ℕ → Type 0) (t t1 t' : TapeState) → t1.pages ≡ t.pages → t1.buffer ≡ t.buffer
+    → ((bytes : List ℕ) → HasWritten before t1 bytes → ((rest : List ℕ) × HasWritten after t' (bytes ++ rest))) → t'.buffer ≡ []
+    → t'.records ≡ t.records → t'.left ≡ tape_len t → (rs : List Record) → AreWritten before t rs → AreAhead after t' rs
 rewound_records before after t t1 t' pages buffer put empty records left rs had =
-    let done : (rest : List ℕ) × HasWritten after t' (tape_bytes rs ++ rest) = put (tape_bytes rs) (same_written before t t1 pages buffer (tape_bytes rs) had.bytes) in
+    let done : (rest : List ℕ) × HasWritten after t' (tape_bytes rs ++ rest) = put (tape_bytes rs)
+    (same_written before t t1 pages buffer (tape_bytes rs) had.bytes) in
     record {
       good = had.good;
       number = records ∙ had.number;

@@ -1,7 +1,7 @@
 -- The pages of tapes, by their numbers. Page n of a disk are its PAGE bytes from the place PAGE * n on. All of this is our own.
 use Rattle.std.specs.Prelude.{◌≡◌, ℕ, ◌+◌, ◌-◌, ◌*◌, ◌/◌, ◌<◌, ◌≤◌, ◌⊎◌, ◌==◌, nat_lt, cond, List, [], ◌∷◌, ◌++◌, length, get_or}
 use Rattle.tape_disks.specs.declared.limits.TheConstants.{PAGE}
-use Rattle.spill_tapes.specs.declared.limits.TheConstants.{MOST_PAGES}
+use Rattle.spill_tapes.specs.declared.limits.TheConstants.{MAX_PAGES}
 
 -- how many pages so many bytes take
 abbrev pub pages_for : ℕ → ℕ
@@ -14,9 +14,9 @@ pub record PoolState : Type 0 where
   pub count : ℕ
   pub room : ℕ
 
--- there is room for all numbers, and at most MOST_PAGES are given out
+-- there is room for all numbers, and at most MAX_PAGES are given out
 pub record IsPool (pool : PoolState) : Type 0 where
-  pub few : pool.count ≤ MOST_PAGES
+  pub few : pool.count ≤ MAX_PAGES
   pub room : pool.count ≤ pool.room
 
 -- one page more is free
@@ -40,7 +40,8 @@ IsApart pool pages = (page : ℕ) → times page pool.free + times page pages �
 
 -- pages moved between a tape and the free ones, and no page was lost or is there twice
 pub record IsBalanced (before : PoolState) (pages : List ℕ) (after : PoolState) (pages' : List ℕ) : Type 0 where
-  pub each : (page : ℕ) → times page after.free + times page pages' + below page before.count ≡ times page before.free + times page pages + below page after.count
+  pub each : (page : ℕ) → times page after.free + times page pages' + below page before.count ≡ times page before.free + times page pages
+      + below page after.count
   pub all : length after.free + length pages' + before.count ≡ length before.free + length pages + after.count
   pub grows : before.count ≤ after.count
 
@@ -86,4 +87,5 @@ AreOn last pages contents = ⊥
 
 -- each page that is given out and not free has the bytes that it had
 abbrev pub KeepsPages : PoolState → (ℕ → ℕ → Type 0) → (ℕ → ℕ → Type 0) → Type 0
-KeepsPages pool before after = (page : ℕ) → page < pool.count → times page pool.free ≡ 0 → (k byte : ℕ) → k < PAGE → before (page * PAGE + k) byte → after (page * PAGE + k) byte
+KeepsPages pool before after = (page : ℕ) → page < pool.count → times page pool.free ≡ 0 → (k byte : ℕ) → k < PAGE
+    → before (page * PAGE + k) byte → after (page * PAGE + k) byte

@@ -2,7 +2,7 @@
 use Rattle.std.specs.Prelude.{ℕ, ◌+◌, ◌^◌, ◌<◌, ◌≤◌, List, [], ◌∷◌, ◌++◌, length, get_or}
 use Rattle.std.specs.Int.{w32, from_be_bytes, to_be_bytes}
 use Rattle.std.specs.List.{flat_map}
-use Rattle.spill_tapes.specs.declared.limits.TheConstants.{LONGEST_RECORD}
+use Rattle.spill_tapes.specs.declared.limits.TheConstants.{MAX_RECORD_LEN}
 
 -- a record: a hash, a tag, and bytes
 pub record Record : Type 0 where
@@ -14,7 +14,7 @@ pub record Record : Type 0 where
 pub record IsRecord (r : Record) : Type 0 where
   pub hash : r.hash < 2 ^ 32
   pub tag : r.tag < 2
-  pub len : length r.bytes ≤ LONGEST_RECORD
+  pub len : length r.bytes ≤ MAX_RECORD_LEN
 
 abbrev pub AreRecords : List Record → Type 0
 AreRecords [] = Unit {0}
@@ -33,4 +33,5 @@ tape_bytes rs = flat_map record_bytes rs
 
 -- what nine bytes are as the front of a record
 unfoldable pub number_at : List ℕ → ℕ → ℕ
-number_at bytes at = from_be_bytes w32 (get_or bytes at 0 ∷ get_or bytes (at + 1) 0 ∷ get_or bytes (at + 2) 0 ∷ get_or bytes (at + 3) 0 ∷ [])
+number_at bytes at = from_be_bytes w32 (get_or bytes at 0 ∷ get_or bytes (at + 1) 0 ∷ get_or bytes (at + 2) 0 ∷ get_or bytes (at + 3) 0
+    ∷ [])

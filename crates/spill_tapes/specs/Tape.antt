@@ -1,5 +1,6 @@
 -- One tape. All of this is our own.
-use Rattle.std.specs.Prelude.{Bool, true, false, ◌≡◌, IsTrue, IfSome, IfNone, ℕ, ◌+◌, ◌-◌, ◌*◌, ◌<◌, ◌≤◌, ◌==◌, List, [], ◌∷◌, ◌++◌, length, drop, Option, Some, None, Result, OnOk}
+use Rattle.std.specs.Prelude.{Bool, true, false, ◌≡◌, IsTrue, IfSome, IfNone, ℕ, ◌+◌, ◌-◌, ◌*◌, ◌<◌, ◌≤◌, ◌==◌, List, [], ◌∷◌, ◌++◌, length}
+use Rattle.std.specs.Prelude.{drop, Option, Some, None, Result, OnOk}
 use Rattle.std.specs.List.{flat_map}
 use Rattle.spill_tapes.specs.Records.{Record, IsRecord, AreRecords, tape_bytes}
 use Rattle.tape_disks.specs.Calls.{failed}
@@ -12,7 +13,7 @@ use Rattle.spill_tapes.specs.declared.header.Header.{Header}
 use Rattle.spill_tapes.specs.declared.tape.Phase.{Phase}
 use Rattle.spill_tapes.specs.declared.tape.Phase.TheVariants.{Closed, Written, Read}
 use Rattle.tape_disks.specs.declared.limits.TheConstants.{PAGE}
-use Rattle.spill_tapes.specs.declared.limits.TheConstants.{LONGEST_RECORD}
+use Rattle.spill_tapes.specs.declared.limits.TheConstants.{MAX_RECORD_LEN}
 
 -- whether a tape is in a phase
 abbrev pub is_in : Phase → Phase → Bool
@@ -85,7 +86,8 @@ pub record IsGoodRead (t : TapeState) : Type 0 where
   pub end : t.records ≡ 0 → t.left ≡ 0
 
 -- how a part of a record is read: pages that were read are given back, the tape is read on, and the disk is only read
-pub record ReadsPart {D X : Type 0} (g : Ghosts D) (given : PoolState) (old : TapeState) (before : D) (result : Result X DiskError) (taken : PoolState) (new : TapeState) (after : D) : Type 0 where
+pub record ReadsPart {D X : Type 0} (g : Ghosts D) (given : PoolState) (old : TapeState) (before : D) (result : Result X DiskError)
+    (taken : PoolState) (new : TapeState) (after : D) : Type 0 where
   pub pages : GivesBack given old.pages taken new.pages
   pub phase : new.phase ≡ old.phase
   pub good : OnOk result (IsGoodRead new)
@@ -157,9 +159,10 @@ IsCounted before after (Some found) = before ≡ after + 1
 
 -- what the call told that read the next record of a tape: the first of those ahead, if the disk is honest; and over any disk that none is
 -- left, or a tag and bytes that a record can have
-pub record IsGiven (honest : Bool) (last : ℕ → ℕ → Type 0) (before : TapeState) (last' : ℕ → ℕ → Type 0) (after : TapeState) (bytes : List ℕ) (found : Option (ℕ × ℕ)) : Type 0 where
+pub record IsGiven (honest : Bool) (last : ℕ → ℕ → Type 0) (before : TapeState) (last' : ℕ → ℕ → Type 0) (after : TapeState)
+    (bytes : List ℕ) (found : Option (ℕ × ℕ)) : Type 0 where
   pub good : IsGood after
   pub gives : IsTrue honest → (rs : List Record) → AreAhead last before rs → Gives (AreAhead last' after) rs bytes found
   pub counted : IsCounted before.records after.records found
   pub none : IfNone found (bytes ≡ [])
-  pub framed : IfSome found (λ told. (told.1 < 2) × (length bytes ≤ LONGEST_RECORD))
+  pub framed : IfSome found (λ told. (told.1 < 2) × (length bytes ≤ MAX_RECORD_LEN))

@@ -74,7 +74,8 @@ IsReadRefusal dead _ = dead ≡ false
 
 -- how a call ends that reads or writes the disk: dead tapes refuse it, and nothing is changed; and where living ones refuse it, for one of
 -- these reasons, they are dead from then on
-pub record DiesIfRefused {T D : Type 0} (IsReason : Bool → TapeError → Type 0) (result : Result T TapeError) (old new : TapesState) (before after : D) : Type 0 where
+pub record DiesIfRefused {T D : Type 0} (IsReason : Bool → TapeError → Type 0) (result : Result T TapeError) (old new : TapesState)
+    (before after : D) : Type 0 where
   pub dead : old.is_dead ≡ true → result ≡ Err TapesDead
   pub unchanged : old.is_dead ≡ true → (new ≡ old) × (after ≡ before)
   pub refused : IfErr result (IsReason old.is_dead)

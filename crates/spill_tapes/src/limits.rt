@@ -8,15 +8,15 @@ pub use tape_disks::limits::PAGE;
 pub const FRONT: usize = 9;
 
 /// The most bytes of a record.
-pub const LONGEST_RECORD: u32 = 65_535;
+pub const MAX_RECORD_LEN: u32 = 65_535;
 
 /// The most pages.
-pub const MOST_PAGES: u64 = 562_949_953_421_311;
+pub const MAX_PAGES: u64 = 562_949_953_421_311;
 
 /// A law: these are the sizes.
 pub fn sizes()
     ensures page { PAGE ≡ 8192 }
     ensures front { FRONT ≡ 9 }
-    ensures longest { LONGEST_RECORD ≡ 65535 }
-    ensures most { MOST_PAGES + 1 ≡ 2 ^ 49 }
+    ensures longest { MAX_RECORD_LEN ≡ 65535 }
+    ensures most { MAX_PAGES + 1 ≡ 2 ^ 49 }
 {}

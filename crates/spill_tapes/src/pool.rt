@@ -2,7 +2,7 @@
 ghost use Rattle.std.specs.Prelude.{◌≡◌, ◌<◌, ◌^◌, ◌∷◌, ◌++◌, [], IfOk, OnErr, length};
 ghost use Rattle.spill_tapes.specs.Pages.{IsPool, HavePages, TakesPages, IsFresh, given_back};
 
-use crate::limits::MOST_PAGES;
+use crate::limits::MAX_PAGES;
 use std::alloc::{AllocError, Global};
 use std::collections::VecDeque;
 use std::marker::Model;
@@ -64,7 +64,7 @@ impl PagePool {
         if let Some(page) = self.free.pop_front() {
             return Ok(page);
         }
-        if self.count == MOST_PAGES {
+        if self.count == MAX_PAGES {
             return Err(AllocError);
         }
         self.free.reserve(self.count as usize + 1)?;

@@ -1,18 +1,20 @@
 //! One tape: pages on a disk, and a buffer of one page.
-ghost use Rattle.std.specs.Prelude.{◌≡◌, ◌≢◌, ◌&&◌, ◌||◌, ◌==◌, nat_lt, nat_le, ◌+◌, ◌-◌, ◌*◌, ◌/◌, ◌<◌, ◌≤◌, ◌^◌, ◌∷◌, ◌++◌, [], ℕ, List, Some, None, IsTrue, IfOk, IfErr, OnOk, OnErr, length, take, drop};
-ghost use Rattle.tape_disks.specs.Disk.{Leaves, OnlyReads};
+ghost use Rattle.std.specs.Prelude.{◌≡◌, ◌≢◌, ◌&&◌, ◌||◌, ◌==◌, nat_lt, nat_le, ◌+◌, ◌-◌, ◌*◌, ◌/◌, ◌<◌, ◌≤◌, ◌^◌, ◌∷◌, ◌++◌, [], ℕ, List};
+ghost use Rattle.std.specs.Prelude.{Some, None, IsTrue, IfOk, IfErr, OnOk, OnErr, length, take, drop};
+ghost use Rattle.tape_disks.specs.Disk.{DiskFrame, OnlyReads};
 ghost use Rattle.tape_disks.specs.Calls.{failed};
 ghost use Rattle.tape_disks.specs.Errors.{disk_faults};
 ghost use Rattle.spill_tapes.specs.Errors.{tape_faults};
 ghost use Rattle.spill_tapes.specs.Records.{Record, IsRecord};
 ghost use Rattle.spill_tapes.specs.Pages.{pages_for, HavePages, TakesPages, GivesBack, KeepsPages};
-ghost use Rattle.spill_tapes.specs.Tape.{TapeState, new_tape, no_tape, tape_len, ahead, HasWritten, HasAhead, IsSameTape, IsGood, IsGoodRead, ReadsPart, IsAfterHeader, Gives, IsGiven, spent, ended, AreWritten, AreAhead};
+ghost use Rattle.spill_tapes.specs.Tape.{TapeState, new_tape, no_tape, tape_len, ahead, HasWritten, HasAhead, IsSameTape, IsGood};
+ghost use Rattle.spill_tapes.specs.Tape.{IsGoodRead, ReadsPart, IsAfterHeader, Gives, IsGiven, spent, ended, AreWritten, AreAhead};
 ghost use Rattle.spill_tapes.specs.declared.error.TapeError.TheVariants.{TapeDamaged, TapesDead};
 ghost use Rattle.spill_tapes.specs.declared.tape.Phase.TheVariants as phase;
 
 use crate::error::TapeError;
 use crate::header::Header;
-use crate::limits::{FRONT, LONGEST_RECORD, PAGE};
+use crate::limits::{FRONT, MAX_RECORD_LEN, PAGE};
 use crate::pool::PagePool;
 use std::alloc::{AllocError, Global};
 use std::collections::VecDeque;
@@ -74,9 +76,10 @@ impl Tape {
         ensures keeps { KeepsPages pool.old (D.last disk.old) (D.last disk.new) }
         ensures empty { OnOk result (self.new.buffer ≡ []) }
         ensures longer { OnOk result (length self.new.pages ≡ length self.old.pages + 1) }
-        ensures written { OnOk result ((bytes : List ℕ) → HasWritten (D.last disk.old) self.old bytes → HasWritten (D.last disk.new) self.new bytes) }
+        ensures written { OnOk result ((bytes : List ℕ) → HasWritten (D.last disk.old) self.old bytes
+            → HasWritten (D.last disk.new) self.new bytes) }
         ensures counted { OnOk result (D.writes disk.new ≡ D.writes disk.old + 1) }
-        ensures disk { Leaves D.TapeDisk (failed disk_faults result) disk.old disk.new }
+        ensures disk { DiskFrame D.TapeDisk (failed disk_faults result) disk.old disk.new }
     {
         let page = pool.take(&mut self.pages)?;
         disk.write_at(page * PAGE as u64, &self.buffer)?;
@@ -98,9 +101,10 @@ impl Tape {
         ensures keeps { KeepsPages pool.old (D.last disk.old) (D.last disk.new) }
         ensures small { OnOk result (length self.new.buffer < PAGE) }
         ensures longer { OnOk result (tape_len self.new ≡ tape_len self.old + length bytes.now) }
-        ensures written { OnOk result ((before : List ℕ) → HasWritten (D.last disk.old) self.old before → HasWritten (D.last disk.new) self.new (before ++ bytes.now)) }
+        ensures written { OnOk result ((before : List ℕ) → HasWritten (D.last disk.old) self.old before
+            → HasWritten (D.last disk.new) self.new (before ++ bytes.now)) }
         ensures counted { OnOk result (D.writes disk.new + length self.old.pages ≡ D.writes disk.old + length self.new.pages) }
-        ensures disk { Leaves D.TapeDisk (failed disk_faults result) disk.old disk.new }
+        ensures disk { DiskFrame D.TapeDisk (failed disk_faults result) disk.old disk.new }
     {
         let n = bytes.len().min(PAGE - self.buffer.len());
         self.buffer.extend_from_slice(&bytes[..n])?;
@@ -129,9 +133,10 @@ impl Tape {
         ensures phase { self.new.phase ≡ phase.Written }
         ensures good { OnOk result (IsGood self.new) }
         ensures longer { OnOk result (tape_len self.new ≡ tape_len self.old + (FRONT + length bytes.now)) }
-        ensures appended { OnOk result ((rs : List Record) → AreWritten (D.last disk.old) self.old rs → AreWritten (D.last disk.new) self.new (rs ++ record { hash = header.hash; tag = header.tag; bytes = bytes.now } ∷ [])) }
+        ensures appended { OnOk result ((rs : List Record) → AreWritten (D.last disk.old) self.old rs
+            → AreWritten (D.last disk.new) self.new (rs ++ record { hash = header.hash; tag = header.tag; bytes = bytes.now } ∷ [])) }
         ensures counted { OnOk result (D.writes disk.new + tape_len self.old / PAGE ≡ D.writes disk.old + tape_len self.new / PAGE) }
-        ensures disk { Leaves D.TapeDisk (failed disk_faults result) disk.old disk.new }
+        ensures disk { DiskFrame D.TapeDisk (failed disk_faults result) disk.old disk.new }
     {
         self.buffer.reserve_exact(PAGE - self.buffer.len())?;
         self.put(disk, pool, &header.to_bytes())?;
@@ -151,9 +156,10 @@ impl Tape {
         ensures empty { OnOk result (self.new.buffer ≡ []) }
         ensures longer { OnOk result (tape_len self.old ≤ tape_len self.new) }
         ensures page { OnOk result (tape_len self.new < tape_len self.old + PAGE) }
-        ensures written { OnOk result ((bytes : List ℕ) → HasWritten (D.last disk.old) self.old bytes → ((rest : List ℕ) × HasWritten (D.last disk.new) self.new (bytes ++ rest))) }
+        ensures written { OnOk result ((bytes : List ℕ) → HasWritten (D.last disk.old) self.old bytes
+            → ((rest : List ℕ) × HasWritten (D.last disk.new) self.new (bytes ++ rest))) }
         ensures counted { OnOk result (D.writes disk.new + tape_len self.old / PAGE ≡ D.writes disk.old + pages_for (tape_len self.old)) }
-        ensures disk { Leaves D.TapeDisk (failed disk_faults result) disk.old disk.new }
+        ensures disk { DiskFrame D.TapeDisk (failed disk_faults result) disk.old disk.new }
     {
         if self.buffer.is_empty() {
             return Ok(());
@@ -175,9 +181,10 @@ impl Tape {
         ensures keeps { KeepsPages pool.old (D.last disk.old) (D.last disk.new) }
         ensures phase { self.new.phase ≡ phase.Read }
         ensures good { OnOk result (IsGood self.new) }
-        ensures rewound { OnOk result ((rs : List Record) → AreWritten (D.last disk.old) self.old rs → AreAhead (D.last disk.new) self.new rs) }
+        ensures rewound { OnOk result ((rs : List Record) → AreWritten (D.last disk.old) self.old rs
+            → AreAhead (D.last disk.new) self.new rs) }
         ensures counted { OnOk result (D.writes disk.new + tape_len self.old / PAGE ≡ D.writes disk.old + pages_for (tape_len self.old)) }
-        ensures disk { Leaves D.TapeDisk (failed disk_faults result) disk.old disk.new }
+        ensures disk { DiskFrame D.TapeDisk (failed disk_faults result) disk.old disk.new }
     {
         self.phase = Phase::Read;
         self.read = 0;
@@ -195,7 +202,8 @@ impl Tape {
         ensures start { OnOk result (self.new.read ≡ 0) }
         ensures full { OnOk result (length self.new.buffer ≡ PAGE) }
         ensures shorter { OnOk result (length self.new.pages + 1 ≡ length self.old.pages) }
-        ensures loaded { OnOk result (IsTrue (D.honest disk.old) → (bytes : List ℕ) → HasAhead (D.last disk.old) self.old bytes → HasAhead (D.last disk.new) self.new bytes) }
+        ensures loaded { OnOk result (IsTrue (D.honest disk.old) → (bytes : List ℕ) → HasAhead (D.last disk.old) self.old bytes
+            → HasAhead (D.last disk.new) self.new bytes) }
         ensures disk { OnlyReads D.TapeDisk (failed disk_faults result) disk.old disk.new }
     {
         self.buffer.resize(PAGE, 0)?;
@@ -234,7 +242,9 @@ impl Tape {
         ensures read { OnOk result (self.new.read ≤ length self.new.buffer) }
         ensures ahead { OnOk result (ahead self.new + n ≡ ahead self.old) }
         ensures len { OnOk result (length bytes.new.items ≡ length bytes.old.items + n) }
-        ensures filled { OnOk result (IsTrue (D.honest disk.old) → (front rest : List ℕ) → length front ≡ n → HasAhead (D.last disk.old) self.old (front ++ rest) → (bytes.new.items ≡ bytes.old.items ++ front) × HasAhead (D.last disk.new) self.new rest) }
+        ensures filled { OnOk result (IsTrue (D.honest disk.old) → (front rest : List ℕ) → length front ≡ n
+            → HasAhead (D.last disk.old) self.old (front ++ rest) → (bytes.new.items ≡ bytes.old.items ++ front)
+            × HasAhead (D.last disk.new) self.new rest) }
         ensures disk { OnlyReads D.TapeDisk (failed disk_faults result) disk.old disk.new }
     {
         let ahead = self.buffer.len() - self.read;
@@ -261,7 +271,8 @@ impl Tape {
         requires empty { bytes.old.items ≡ [] }
         ensures part { ReadsPart D.TapeDisk pool.old self.old disk.old result pool.new self.new disk.new }
         ensures records { self.new.records ≡ self.old.records }
-        ensures header { IfOk result (λ header. IsTrue (D.honest disk.old) → (rs : List Record) → AreAhead (D.last disk.old) self.old rs → IsAfterHeader (D.last disk.new) self.new header rs) }
+        ensures header { IfOk result (λ header. IsTrue (D.honest disk.old) → (rs : List Record) → AreAhead (D.last disk.old) self.old rs
+            → IsAfterHeader (D.last disk.new) self.new header rs) }
     {
         self.fill(disk, pool, FRONT, bytes)?;
         self.left -= FRONT as u64;
@@ -284,7 +295,8 @@ impl Tape {
         ensures part { ReadsPart D.TapeDisk pool.old self.old disk.old result pool.new self.new disk.new }
         ensures records { OnOk result (self.old.records ≡ self.new.records + 1) }
         ensures len { OnOk result (length bytes.new.items ≡ header.len) }
-        ensures gives { OnOk result (IsTrue (D.honest disk.old) → (rs : List Record) → IsAfterHeader (D.last disk.old) self.old header rs → Gives (AreAhead (D.last disk.new) self.new) rs bytes.new.items (Some (header.hash, header.tag))) }
+        ensures gives { OnOk result (IsTrue (D.honest disk.old) → (rs : List Record) → IsAfterHeader (D.last disk.old) self.old header rs
+            → Gives (AreAhead (D.last disk.new) self.new) rs bytes.new.items (Some (header.hash, header.tag))) }
     {
         bytes.clear();
         bytes.reserve(header.len as usize)?;
@@ -309,7 +321,8 @@ impl Tape {
         ensures pages { GivesBack pool.old self.old.pages pool.new self.new.pages }
         ensures phase { self.new.phase ≡ phase.Read }
         ensures given { IfOk result (IsGiven (D.honest disk.old) (D.last disk.old) self.old (D.last disk.new) self.new bytes.new.items) }
-        ensures undamaged { IfErr result (λ error. IsTrue (D.honest disk.old) → (rs : List Record) → AreAhead (D.last disk.old) self.old rs → error ≢ TapeDamaged) }
+        ensures undamaged { IfErr result (λ error. IsTrue (D.honest disk.old) → (rs : List Record) → AreAhead (D.last disk.old) self.old rs
+            → error ≢ TapeDamaged) }
         ensures alive { IfErr result (λ error. error ≢ TapesDead) }
         ensures disk { OnlyReads D.TapeDisk (failed tape_faults result) disk.old disk.new }
     {
@@ -330,11 +343,12 @@ impl Tape {
 
     /// Whether a record with this front can stand at the front of what is left. The last one takes all of it.
     fn can_have(&self, header: Header) -> bool
-        ensures { result ≡ (nat_lt header.tag 2 && nat_le header.len LONGEST_RECORD && nat_le header.len self.now.left && (nat_lt 1 self.now.records || header.len == self.now.left)) }
+        ensures { result ≡ (nat_lt header.tag 2 && nat_le header.len MAX_RECORD_LEN && nat_le header.len self.now.left
+            && (nat_lt 1 self.now.records || header.len == self.now.left)) }
     {
         let len = u64::from(header.len);
         header.tag < 2
-            && len <= u64::from(LONGEST_RECORD)
+            && len <= u64::from(MAX_RECORD_LEN)
             && len <= self.left
             && (self.records > 1 || len == self.left)
     }

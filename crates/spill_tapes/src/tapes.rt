@@ -1,12 +1,15 @@
 //! Tapes over a disk.
-ghost use Rattle.std.specs.Prelude.{◌≡◌, ◌≢◌, ◌+◌, ◌*◌, ◌/◌, ◌<◌, ◌≤◌, ◌∷◌, ◌++◌, [], ℕ, List, Some, Err, true, false, IsTrue, IfOk, IfErr, IfSome, IfNone, OnOk, OnErr, length, get_or};
+ghost use Rattle.std.specs.Prelude.{◌≡◌, ◌≢◌, ◌+◌, ◌*◌, ◌/◌, ◌<◌, ◌≤◌, ◌∷◌, ◌++◌, [], ℕ, List, Some, Err, true, false, IsTrue, IfOk, IfErr};
+ghost use Rattle.std.specs.Prelude.{IfSome, IfNone, OnOk, OnErr, length, get_or};
 ghost use Rattle.tape_disks.specs.Calls.{failed};
-ghost use Rattle.tape_disks.specs.Disk.{Leaves, OnlyReads};
+ghost use Rattle.tape_disks.specs.Disk.{DiskFrame, OnlyReads};
 ghost use Rattle.spill_tapes.specs.Errors.{tape_faults};
 ghost use Rattle.spill_tapes.specs.Pages.{UsesAgain, pages_for};
 ghost use Rattle.spill_tapes.specs.Records.{Record, tape_bytes};
 ghost use Rattle.spill_tapes.specs.Tape.{Gives, IsCounted, new_tape, no_tape};
-ghost use Rattle.spill_tapes.specs.Tapes.{tape_at, phase_of, is_open, is_written, is_read, written_len, record_count, AreOpenBefore, IsTape, KeepsOthers, DiesIfRefused, IsOpenRefusal, IsRefusal, IsReadRefusal, FreesPages, HasNoPageMore, TapesState};
+ghost use Rattle.spill_tapes.specs.Tapes.{tape_at, phase_of, is_open, is_written, is_read, written_len, record_count, AreOpenBefore};
+ghost use Rattle.spill_tapes.specs.Tapes.{IsTape, KeepsOthers, DiesIfRefused, IsOpenRefusal, IsRefusal, IsReadRefusal, FreesPages};
+ghost use Rattle.spill_tapes.specs.Tapes.{HasNoPageMore, TapesState};
 ghost use Rattle.spill_tapes.specs.declared.error.TapeError.TheVariants.{TapeDamaged, TapesDead};
 ghost use Rattle.spill_tapes.specs.declared.tape.Phase.TheVariants.{Closed, Written, Read};
 ghost use Rattle.spill_tapes.specs.declared.tape_id.TapeId.{TapeId};
@@ -14,7 +17,7 @@ ghost use Rattle.spill_tapes.specs.TapesFields.{tapes_of, AreFields};
 
 use crate::error::TapeError;
 use crate::header::Header;
-use crate::limits::{FRONT, LONGEST_RECORD, PAGE};
+use crate::limits::{FRONT, MAX_RECORD_LEN, PAGE};
 use crate::pool::PagePool;
 use crate::tape::{Phase, Tape};
 use crate::tape_id::TapeId;
@@ -170,15 +173,17 @@ impl Tapes {
     ) -> Result<(), TapeError>
         requires written { self.old.is_dead ≡ false → is_written self.old tape ≡ true }
         requires tag { tag < 2 }
-        requires len { length bytes.now ≤ LONGEST_RECORD }
+        requires len { length bytes.now ≤ MAX_RECORD_LEN }
         ensures dies { DiesIfRefused IsRefusal result self.old self.new disk.old disk.new }
         ensures phases { (id : TapeId) → phase_of self.new id ≡ phase_of self.old id }
-        ensures appended { OnOk result ((rs : List Record) → IsTape (D.last disk.old) self.old tape rs → IsTape (D.last disk.new) self.new tape (rs ++ record { hash = hash; tag = tag; bytes = bytes.now } ∷ [])) }
+        ensures appended { OnOk result ((rs : List Record) → IsTape (D.last disk.old) self.old tape rs
+            → IsTape (D.last disk.new) self.new tape (rs ++ record { hash = hash; tag = tag; bytes = bytes.now } ∷ [])) }
         ensures longer { OnOk result (written_len self.new tape ≡ written_len self.old tape + (FRONT + length bytes.now)) }
-        ensures counted { OnOk result (D.writes disk.new + written_len self.old tape / PAGE ≡ D.writes disk.old + written_len self.new tape / PAGE) }
+        ensures counted { OnOk result (D.writes disk.new + written_len self.old tape / PAGE ≡ D.writes disk.old
+            + written_len self.new tape / PAGE) }
         ensures others { KeepsOthers (D.last disk.old) (D.last disk.new) self.old self.new tape }
         ensures again { UsesAgain self.old.pool self.new.pool }
-        ensures disk { Leaves D.TapeDisk (failed tape_faults result) disk.old disk.new }
+        ensures disk { DiskFrame D.TapeDisk (failed tape_faults result) disk.old disk.new }
     {
         if self.is_dead() {
             return Err(TapeError::TapesDead);
@@ -209,7 +214,8 @@ impl Tapes {
     pub fn pages_left<D: TapeDisk>(&self, _disk: &D, _tape: TapeId)
         requires read { is_read self.now _tape ≡ true }
         requires alive { self.now.is_dead ≡ false }
-        ensures { (rs : List Record) → IsTape (D.last _disk.now) self.now _tape rs → PAGE * length (tape_at self.now _tape).pages < length (tape_bytes rs) + PAGE }
+        ensures { (rs : List Record) → IsTape (D.last _disk.now) self.now _tape rs → PAGE
+            * length (tape_at self.now _tape).pages < length (tape_bytes rs) + PAGE }
     {
         let _pool = &self.pool;
     }
@@ -221,12 +227,15 @@ impl Tapes {
         ensures dies { DiesIfRefused IsRefusal result self.old self.new disk.old disk.new }
         ensures open { is_open self.new tape ≡ is_open self.old tape }
         ensures read { OnOk result (is_read self.new tape ≡ true) }
-        ensures rewound { OnOk result ((rs : List Record) → IsTape (D.last disk.old) self.old tape rs → IsTape (D.last disk.new) self.new tape rs) }
-        ensures bytes { self.old.is_dead ≡ false → (rs : List Record) → IsTape (D.last disk.old) self.old tape rs → written_len self.old tape ≡ length (tape_bytes rs) }
-        ensures counted { OnOk result (D.writes disk.new + written_len self.old tape / PAGE ≡ D.writes disk.old + pages_for (written_len self.old tape)) }
+        ensures rewound { OnOk result ((rs : List Record) → IsTape (D.last disk.old) self.old tape rs
+            → IsTape (D.last disk.new) self.new tape rs) }
+        ensures bytes { self.old.is_dead ≡ false → (rs : List Record) → IsTape (D.last disk.old) self.old tape rs
+            → written_len self.old tape ≡ length (tape_bytes rs) }
+        ensures counted { OnOk result (D.writes disk.new + written_len self.old tape / PAGE ≡ D.writes disk.old
+            + pages_for (written_len self.old tape)) }
         ensures others { KeepsOthers (D.last disk.old) (D.last disk.new) self.old self.new tape }
         ensures again { UsesAgain self.old.pool self.new.pool }
-        ensures disk { Leaves D.TapeDisk (failed tape_faults result) disk.old disk.new }
+        ensures disk { DiskFrame D.TapeDisk (failed tape_faults result) disk.old disk.new }
     {
         if self.is_dead() {
             return Err(TapeError::TapesDead);
@@ -247,10 +256,12 @@ impl Tapes {
     ) -> Result<Option<(u32, u8)>, TapeError>
         requires read { self.old.is_dead ≡ false → is_read self.old tape ≡ true }
         ensures dies { DiesIfRefused IsReadRefusal result self.old self.new disk.old disk.new }
-        ensures undamaged { IfErr result (λ error. IsTrue (D.honest disk.old) → (rs : List Record) → IsTape (D.last disk.old) self.old tape rs → error ≢ TapeDamaged) }
+        ensures undamaged { IfErr result (λ error. IsTrue (D.honest disk.old) → (rs : List Record)
+            → IsTape (D.last disk.old) self.old tape rs → error ≢ TapeDamaged) }
         ensures phases { (id : TapeId) → phase_of self.new id ≡ phase_of self.old id }
-        ensures gives { IfOk result (λ found. IsTrue (D.honest disk.old) → (rs : List Record) → IsTape (D.last disk.old) self.old tape rs → Gives (IsTape (D.last disk.new) self.new tape) rs bytes.new.items found) }
-        ensures framed { IfOk result (λ found. IfSome found (λ told. (told.1 < 2) × (length bytes.new.items ≤ LONGEST_RECORD))) }
+        ensures gives { IfOk result (λ found. IsTrue (D.honest disk.old) → (rs : List Record) → IsTape (D.last disk.old) self.old tape rs
+            → Gives (IsTape (D.last disk.new) self.new tape) rs bytes.new.items found) }
+        ensures framed { IfOk result (λ found. IfSome found (λ told. (told.1 < 2) × (length bytes.new.items ≤ MAX_RECORD_LEN))) }
         ensures counted { IfOk result (IsCounted (record_count self.old tape) (record_count self.new tape)) }
         ensures none { IfOk result (λ found. IfNone found (bytes.new.items ≡ [])) }
         ensures nothing { OnErr result (bytes.new.items ≡ []) }

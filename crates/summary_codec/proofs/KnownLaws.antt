@@ -23,7 +23,8 @@ map_members f g (x ∷ xs) same = λ i. same x (inl refl) i ∷ map_members f g 
 abbrev early_batch : World → ℕ → ℕ → ℕ × List (List ℕ)
 early_batch world origin n = (n, packings (batch_rows world origin n))
 
-module _ (query : Checked) (world other : World) (known : Knowledge) (same : (origin number : ℕ) → IsTrue (knows known (origin, number)) → world origin number ≡ other origin number) where
+module _ (query : Checked) (world other : World) (known : Knowledge) (same : (origin number : ℕ) → IsTrue (knows known (origin, number))
+    → world origin number ≡ other origin number) where
   same_prefix : (origin : ℕ) → origin_rows world known origin ≡ origin_rows other known origin
   same_prefix origin =
       flat_map_members (batch_rows world origin) (batch_rows other origin) (count_up 1 (prefix known origin)) (λ number counted.
@@ -38,7 +39,16 @@ module _ (query : Checked) (world other : World) (known : Knowledge) (same : (or
 
   same_part : (origin : ℕ) → world_part query world known origin ≡ world_part query other known origin
   same_part origin =
-      (λ i. (origin, record { prefix = prefix known origin; run = run_bytes (part (meaning query) (same_prefix origin i)); early = same_early origin i }))
+      (λ i. (
+        origin,
+        record {
+          prefix = prefix known origin;
+          run = run_bytes (part (meaning query) (same_prefix origin i));
+          early =
+              same_early origin i;
+        },
+      ))
 
   pub known_file : (version : Version) → world_file_in version query world known ≡ world_file_in version query other known
-  known_file version = ap (file_in version query) (map_members (world_part query world known) (world_part query other known) (origins known) (λ origin listed. same_part origin))
+  known_file version = ap (file_in version query) (map_members (world_part query world known) (world_part query other known) (origins known)
+      (λ origin listed. same_part origin))

@@ -2,7 +2,8 @@
 use Rattle.std.specs.Prelude.{ℕ, List, codes}
 use Rattle.group_parser.specs.Names.{parse_name}
 use Rattle.summary_codec.specs.declared.error.SummaryError.{SummaryError}
-use Rattle.summary_codec.specs.declared.error.SummaryError.TheVariants.{NoMemory, NotASummary, Truncated, Trailing, NotCanonical, OutOfRange, BadSchema, BadPacked, BadState, Query}
+use Rattle.summary_codec.specs.declared.error.SummaryError.TheVariants.{NoMemory, NotASummary, Truncated, Trailing, NotCanonical}
+use Rattle.summary_codec.specs.declared.error.SummaryError.TheVariants.{OutOfRange, BadSchema, BadPacked, BadState, Query}
 
 abbrev pub summary_name : SummaryError → List ℕ
 summary_name NoMemory = codes "NoMemory"

@@ -1,5 +1,6 @@
 -- What bytes read as, from the left: a query and what is held of some origins, or the first fault. The order of the faults is our own.
-use Rattle.std.specs.Prelude.{◌≡◌, ◌≢◌, ℕ, zero, suc, ◌+◌, ◌-◌, ◌*◌, ◌^◌, ◌<◌, ◌≤◌, ◌⊎◌, List, [], ◌∷◌, ◌++◌, map, length, slice_get, IfSome, Result, Ok, Err, IsUtf8}
+use Rattle.std.specs.Prelude.{◌≡◌, ◌≢◌, ℕ, zero, suc, ◌+◌, ◌-◌, ◌*◌, ◌^◌, ◌<◌, ◌≤◌, ◌⊎◌, List, [], ◌∷◌, ◌++◌, map, length, slice_get}
+use Rattle.std.specs.Prelude.{IfSome, Result, Ok, Err, IsUtf8}
 use Rattle.std.specs.Int.{bytes_high_first}
 use Rattle.std.specs.Cmp.Lexicographic.{slice_cmp}
 use Rattle.std.specs.Ordering.{nat_cmp}
@@ -27,7 +28,8 @@ use Rattle.summary_codec.specs.Versions.{opening, last_number, most_batch_rows}
 use Rattle.summary_codec.specs.declared.version.Version.{Version}
 use Rattle.summary_codec.specs.declared.version.Version.TheVariants.{Second}
 use Rattle.summary_codec.specs.declared.error.SummaryError.{SummaryError}
-use Rattle.summary_codec.specs.declared.error.SummaryError.TheVariants.{NotASummary, Truncated, Trailing, NotCanonical, OutOfRange, BadSchema, BadPacked, BadState}
+use Rattle.summary_codec.specs.declared.error.SummaryError.TheVariants.{NotASummary, Truncated, Trailing, NotCanonical, OutOfRange}
+use Rattle.summary_codec.specs.declared.error.SummaryError.TheVariants.{BadSchema, BadPacked, BadState}
 use Rattle.summary_codec.specs.declared.error.SummaryError.TheVariants as fault
 
 -- what is read: a value and the bytes behind it, or the first fault
@@ -203,7 +205,8 @@ summary = opened >>= λ version. body version
 
 -- bytes are a summary file of a version, of a query and parts
 abbrev pub IsSummaryIn : Version → List ℕ → Checked → Parts → Type 0
-IsSummaryIn version bytes query parts = (behind : List ℕ) × opened bytes (Ok (version, behind)) × body version behind (Ok ((query, parts), []))
+IsSummaryIn version bytes query parts = (behind : List ℕ) × opened bytes (Ok (version, behind))
+    × body version behind (Ok ((query, parts), []))
 
 -- they are one of some version, as files are read: what `summary` reads without a fault, to the end
 abbrev pub IsSummary : List ℕ → Checked → Parts → Type 0

@@ -1,7 +1,7 @@
 -- The versions of a summary file: what each begins with, and its bounds. All of this is our own.
 use Rattle.std.specs.Prelude.{ℕ, ◌*◌, ◌≤◌, List, length, codes}
 use Rattle.std.specs.List.{AllByRecursion}
-use Rattle.grouping_model.specs.declared.limits.TheConstants.{LAST_NUMBER, MOST_ROWS}
+use Rattle.grouping_model.specs.declared.limits.TheConstants.{LAST_NUMBER, MAX_ROWS}
 use Rattle.query_checks.specs.Checks.{Checked}
 use Rattle.having_filter.specs.Meaning.{meaning}
 use Rattle.group_runs.specs.Standing.{IsRun}
@@ -9,7 +9,7 @@ use Rattle.origin_prefix.specs.Parts.{Part}
 use Rattle.origin_prefix.specs.Held.{Parts}
 use Rattle.summary_codec.specs.declared.version.Version.{Version}
 use Rattle.summary_codec.specs.declared.version.Version.TheVariants.{First, Second}
-use Rattle.summary_codec.specs.declared.version.TheConstants.{LAST_NUMBER_OF_FIRST, MOST_ROWS_OF_FIRST}
+use Rattle.summary_codec.specs.declared.version.TheConstants.{LAST_NUMBER_OF_FIRST, MAX_ROWS_OF_FIRST}
 
 -- what a file begins with
 abbrev pub opening : Version → List ℕ
@@ -23,8 +23,8 @@ last_number Second = LAST_NUMBER
 
 -- the most rows of a batch
 abbrev pub most_batch_rows : Version → ℕ
-most_batch_rows First = MOST_ROWS_OF_FIRST
-most_batch_rows Second = MOST_ROWS
+most_batch_rows First = MAX_ROWS_OF_FIRST
+most_batch_rows Second = MAX_ROWS
 
 -- an early batch within these bounds
 pub record IsBatchWithin (version : Version) (batch : ℕ × List (List ℕ)) : Type 0 where

@@ -11,5 +11,5 @@ mod writing;
 pub use error::SummaryError;
 pub use laws::{files_of_the_known, files_of_worlds, one_spelling, versions};
 pub use reading::{decode, decode_sharing};
-pub use version::{LAST_NUMBER_OF_FIRST, MOST_ROWS_OF_FIRST, Version};
+pub use version::{LAST_NUMBER_OF_FIRST, MAX_ROWS_OF_FIRST, Version};
 pub use writing::encode;

@@ -1,6 +1,7 @@
 //! From a file to a query and what is held of some origins.
 
-ghost use Rattle.std.specs.Prelude.{◌≡◌, ◌≢◌, ◌≤◌, ◌++◌, ◌∷◌, ◌*◌, ◌⊎◌, ◌<◌, ℕ, List, [], Ok, Err, IfOk, IfErr, OnOk, IfNone, length, map, true, IsTrue, ◌↔◌};
+ghost use Rattle.std.specs.Prelude.{◌≡◌, ◌≢◌, ◌≤◌, ◌++◌, ◌∷◌, ◌*◌, ◌⊎◌, ◌<◌, ℕ, List, [], Ok, Err, IfOk, IfErr, OnOk, IfNone, length, map};
+ghost use Rattle.std.specs.Prelude.{true, IsTrue, ◌↔◌};
 ghost use Rattle.grouping_model.specs.declared.limits.TheConstants.{LAST_ORIGIN};
 ghost use Rattle.packed_rows.specs.Columns.{Column, kinds, IsSchemaText};
 ghost use Rattle.group_parser.specs.Parsing.{Accepts, Refuses};
@@ -16,7 +17,9 @@ ghost use Rattle.agg_protocol.specs.States.{most_rows};
 ghost use Rattle.group_runs.specs.Runs.{Entry, Rises, packed_keys};
 ghost use Rattle.origin_prefix.specs.Parts.{Part, IsPartOf};
 ghost use Rattle.origin_prefix.specs.Held.{AreHeldParts};
-ghost use Rattle.summary_codec.specs.Reading.{IsNext, MayFollow, IsPacking, AreStateBytes, states_width, each, group, row, batch, batches, contents, part, parts, text, heading, rest, body, schema, query, columns_in, query_in, IsSummary, HasFault};
+ghost use Rattle.summary_codec.specs.Reading.{IsNext, MayFollow, IsPacking, AreStateBytes, states_width, each, group, row, batch, batches};
+ghost use Rattle.summary_codec.specs.Reading.{contents, part, parts, text, heading, rest, body, schema, query, columns_in, query_in};
+ghost use Rattle.summary_codec.specs.Reading.{IsSummary, HasFault};
 ghost use Rattle.summary_codec.specs.declared.error.SummaryError.TheVariants.{NoMemory, BadPacked, BadState, BadSchema, NotCanonical};
 
 use crate::error::SummaryError;

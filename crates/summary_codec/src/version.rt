@@ -4,13 +4,13 @@ ghost use Rattle.std.specs.Prelude.{◌≡◌, ◌≤◌, ◌*◌};
 ghost use Rattle.agg_protocol.specs.States.{most_rows};
 ghost use Rattle.summary_codec.specs.Versions.{opening, most_batch_rows, last_number};
 
-use grouping_model::limits::{LAST_NUMBER, MOST_ROWS};
+use grouping_model::limits::{LAST_NUMBER, MAX_ROWS};
 
 /// The greatest number of a batch in a file of the first version.
 pub const LAST_NUMBER_OF_FIRST: u32 = 2_147_483_647;
 
 /// The most rows of a batch in a file of the first version.
-pub const MOST_ROWS_OF_FIRST: u32 = 65_536;
+pub const MAX_ROWS_OF_FIRST: u32 = 65_536;
 
 /// A version of a summary file: what it begins with, and its bounds. All else is one layout. Files are written in the second.
 #[derive(Clone, Copy)]
@@ -45,11 +45,11 @@ impl Version {
     /// The most rows of a batch.
     pub(crate) fn most_batch_rows(self) -> u32
         ensures rows { result ≡ most_batch_rows self }
-        ensures limit { result ≤ MOST_ROWS }
+        ensures limit { result ≤ MAX_ROWS }
     {
         match self {
-            Version::First => MOST_ROWS_OF_FIRST,
-            Version::Second => MOST_ROWS,
+            Version::First => MAX_ROWS_OF_FIRST,
+            Version::Second => MAX_ROWS,
         }
     }
 

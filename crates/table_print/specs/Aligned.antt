@@ -1,6 +1,7 @@
 -- The text of an aligned table: the header, a rule, and a line for each row, whose columns stand below one another. Unless a
 -- source is named, all of this is our own.
-use Rattle.std.specs.Prelude.{ℕ, ◌-◌, ◌/◌, ◌%◌, ◌==◌, ◌&&◌, ◌||◌, Bool, List, [], ◌∷◌, ◌++◌, map, flat_map, fold, max, replicate, codes, nat_lt, Option, Some, slice_index_or, if◌then◌else◌}
+use Rattle.std.specs.Prelude.{ℕ, ◌-◌, ◌/◌, ◌%◌, ◌==◌, ◌&&◌, ◌||◌, Bool, List, [], ◌∷◌, ◌++◌, map, flat_map, fold, max, replicate, codes}
+use Rattle.std.specs.Prelude.{nat_lt, Option, Some, slice_index_or, if◌then◌else◌}
 use Rattle.std.specs.Char.{digit_char}
 use Rattle.std.specs.Fmt.{char_count}
 use Rattle.std.specs.List.{enumerate_from, join_by, zip}

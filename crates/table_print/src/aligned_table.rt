@@ -1,6 +1,7 @@
 //! Tables whose columns stand below one another.
 
-ghost use Rattle.std.specs.Prelude.{All, ◌≡◌, ◌<◌, ◌++◌, ◌∷◌, ◌==◌, [], length, map, flat_map, max, codes, replicate, slice_get, Some, option_map, IfOk, OnOk, slice_index_or, if◌then◌else◌};
+ghost use Rattle.std.specs.Prelude.{All, ◌≡◌, ◌<◌, ◌++◌, ◌∷◌, ◌==◌, [], length, map, flat_map, max, codes, replicate, slice_get, Some};
+ghost use Rattle.std.specs.Prelude.{option_map, IfOk, OnOk, slice_index_or, if◌then◌else◌};
 ghost use Rattle.std.specs.Char.{digit_char};
 ghost use Rattle.std.specs.Fmt.{char_count, is_char_start};
 ghost use Rattle.packed_rows.specs.Columns.{kinds};
@@ -9,7 +10,8 @@ ghost use Rattle.query_checks.specs.Checks.{kind_of_form};
 ghost use Rattle.query_checks.specs.Forms.{item_form};
 ghost use Rattle.having_filter.specs.Meaning.{meaning};
 ghost use Rattle.having_filter.specs.Kept.{headers};
-ghost use Rattle.table_print.specs.Aligned.{is_control, shown_byte, shown, header_cells, row_cells, longest, column_cells, side_of, sides, columns_of, on_side, padded, aligned_line, rule_line, aligned_text};
+ghost use Rattle.table_print.specs.Aligned.{is_control, shown_byte, shown, header_cells, row_cells, longest, column_cells, side_of, sides};
+ghost use Rattle.table_print.specs.Aligned.{columns_of, on_side, padded, aligned_line, rule_line, aligned_text};
 
 use crate::cell::cell;
 use having_filter::{Answer, Item, Query};

@@ -3,14 +3,14 @@ use Rattle.std.specs.Prelude.{◌≡◌, ◌≢◌, ℕ, ◌+◌, ◌/◌, ◌%�
 use Rattle.std.specs.Map.{lookup}
 use Rattle.std.specs.BTreeMap.{is_at}
 use Rattle.std.specs.Ordering.{nat_cmp}
-use Rattle.chunk_layout.specs.Pieces.{Piece, place_of, same_place}
+use Rattle.chunk_layout.specs.Pieces.{ChunkContents, place_of, same_place}
 use Rattle.chunk_layout.specs.declared.place.ChunkName.{ChunkName}
 use Rattle.chunk_contexts.specs.Chunks.{is_live, bytes_of}
 use Rattle.tape_disks.specs.declared.limits.TheConstants.{PAGE}
 
 -- the chunks; the name of each page's chunk, by the page's number; and how often it was written
 pub record MemoryState : Type 0 where
-  pub chunks : List Piece
+  pub chunks : List ChunkContents
   pub pages : List (ℕ × ChunkName)
   pub count : ℕ
 
@@ -19,7 +19,7 @@ abbrev pub name_of : List (ℕ × ChunkName) → ℕ → Option ChunkName
 name_of pages page = lookup (is_at (nat_cmp page)) pages
 
 -- the byte at a place of a page, and of the disk
-abbrev pub byte_in : List Piece → Option ChunkName → ℕ → ℕ
+abbrev pub byte_in : List ChunkContents → Option ChunkName → ℕ → ℕ
 byte_in chunks None k = 0
 byte_in chunks (Some name) k = get_or (bytes_of chunks name) k 0
 
@@ -41,4 +41,5 @@ AreAt m at bytes = (k : ℕ) → k < length bytes → byte_at m (at + k) ≡ get
 pub record ArePages (m : MemoryState) : Type 0 where
   pub live : (page : ℕ) → (name : ChunkName) → name_of m.pages page ≡ Some name → IsTrue (is_live m.chunks name)
   pub len : (page : ℕ) → (name : ChunkName) → name_of m.pages page ≡ Some name → name.len ≡ PAGE
-  pub apart : (page other : ℕ) → (name name' : ChunkName) → name_of m.pages page ≡ Some name → name_of m.pages other ≡ Some name' → page ≢ other → same_place (place_of name) (place_of name') ≡ false
+  pub apart : (page other : ℕ) → (name name' : ChunkName) → name_of m.pages page ≡ Some name → name_of m.pages other ≡ Some name'
+      → page ≢ other → same_place (place_of name) (place_of name') ≡ false

@@ -1,5 +1,6 @@
 //! A disk in memory.
-ghost use Rattle.std.specs.Prelude.{◌≡◌, ◌+◌, ◌-◌, ◌%◌, ◌/◌, ◌<◌, ◌≤◌, ◌++◌, ℕ, Some, None, min, IsTrue, IfOk, IfErr, OnOk, length, take, drop};
+ghost use Rattle.std.specs.Prelude.{◌≡◌, ◌+◌, ◌-◌, ◌%◌, ◌/◌, ◌<◌, ◌≤◌, ◌++◌, ℕ, Some, None, min, IsTrue, IfOk, IfErr, OnOk, length, take};
+ghost use Rattle.std.specs.Prelude.{drop};
 ghost use Rattle.chunk_contexts.specs.Chunks.{is_live, bytes_of, KeepsOthers};
 ghost use Rattle.tape_disks.specs.Memory.{name_of, byte_at, IsSame, IsSameBeside, AreAt, MemoryState};
 ghost use Rattle.tape_disks.specs.declared.disk.DiskError.TheVariants as disk_error;
@@ -37,7 +38,8 @@ fn write_over(chunks: &mut Generation, name: ChunkName, from: usize, bytes: &[u8
     requires live { IsTrue (is_live chunks.old.chunks name) }
     requires fits { from + length bytes.now ≤ name.len }
     ensures live { IsTrue (is_live chunks.new.chunks name) }
-    ensures bytes { bytes_of chunks.new.chunks name ≡ take from (bytes_of chunks.old.chunks name) ++ (bytes.now ++ drop (from + length bytes.now) (bytes_of chunks.old.chunks name)) }
+    ensures bytes { bytes_of chunks.new.chunks name ≡ take from (bytes_of chunks.old.chunks name)
+        ++ (bytes.now ++ drop (from + length bytes.now) (bytes_of chunks.old.chunks name)) }
     ensures keeps { KeepsOthers chunks.old.chunks chunks.new.chunks name name }
 {
     chunks.get_mut(name)[from..from + bytes.len()].copy_from_slice(bytes);

@@ -1,4 +1,5 @@
-//! Disks for tests, over one in memory: those of which something is wrong, and one that keeps how far it was written. And a reader and a writer that fail.
+//! Disks for tests, over one in memory: those of which something is wrong, and one that keeps how far it was written. And a reader and a
+//! writer that fail.
 #![tactic(auto)]
 
 ghost use Rattle.std.specs.Prelude.{◌≡◌, ◌<◌, true};

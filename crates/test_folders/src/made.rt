@@ -102,21 +102,22 @@ pub(crate) fn write_listed(rt: &HostRuntime, file: &str, told: &str) -> io::Resu
 }
 
 /// How many bytes a text may have, and a file.
-const LONGEST_TEXT: usize = 255;
+const MAX_TEXT_LEN: usize = 255;
 
-const LONGEST_FILE: usize = 67_108_864;
+const MAX_FILE_LEN: usize = 67_108_864;
 
-/// Writes a batch file, the `NUMBER|ROWS` of origin 0: so many rows of four of the longest texts, and empty lines behind them, up to the most
+/// Writes a batch file, the `NUMBER|ROWS` of origin 0: so many rows of four of the longest texts, and empty lines behind them, up to the
+/// most
 /// bytes that a file may have.
 pub(crate) fn write_wide(rt: &HostRuntime, file: &str, told: &str) -> io::Result<bool> {
     let (number, rows) = two_numbers(told)?;
-    let text = "x".repeat(rt.alloc(), LONGEST_TEXT)?;
+    let text = "x".repeat(rt.alloc(), MAX_TEXT_LEN)?;
     let row = format!(in rt.alloc(); "{text},{text},{text},{text}\n")?;
     let mut bytes = format!(in rt.alloc(); "batch,0,{number},{rows}\n")?.into_bytes();
     for _ in 0..rows {
         bytes.extend_from_slice(row.as_bytes())?;
     }
-    bytes.resize(LONGEST_FILE, b'\n')?;
+    bytes.resize(MAX_FILE_LEN, b'\n')?;
     fs::write(rt, file, bytes.as_slice())?;
     Ok(true)
 }

@@ -21,7 +21,7 @@ const ASIDE: usize = 512;
 const BLOCK: usize = 65_000;
 
 /// How many blocks may be held.
-const MOST_BLOCKS: usize = 1 << 17;
+const MAX_BLOCKS: usize = 1 << 17;
 
 /// All memory that can be had but for a room, in blocks: those that are held all the while, and those that make a room as small as it is.
 #[derive(Drop)]
@@ -33,7 +33,7 @@ pub struct Hoard {
 
 /// Takes blocks of a size until there is none.
 fn take_all(alloc: Global, blocks: &mut Vec<Vec<u8>>, size: usize) {
-    for _ in 0..MOST_BLOCKS {
+    for _ in 0..MAX_BLOCKS {
         let Ok(block) = Vec::with_capacity(alloc, size) else {
             return;
         };
@@ -83,8 +83,8 @@ impl Hoard {
     }
 
     fn take(alloc: Global) -> Result<Hoard, AllocError> {
-        let mut kept = Vec::with_capacity(alloc, MOST_BLOCKS)?;
-        let mut around = Vec::with_capacity(alloc, MOST_BLOCKS)?;
+        let mut kept = Vec::with_capacity(alloc, MAX_BLOCKS)?;
+        let mut around = Vec::with_capacity(alloc, MAX_BLOCKS)?;
         for _ in 0..ASIDE {
             around.push(Vec::with_capacity(alloc, BLOCK)?)?;
         }

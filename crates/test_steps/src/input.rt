@@ -4,7 +4,7 @@
 //! character of that number, and `{0xff}` for a byte.
 
 use std::alloc::{AllocError, Global};
-use test_tables::cut;
+use test_cases::cut;
 
 /// Appends a text so many times, with the number of the turn for each `#`.
 fn push_turns(

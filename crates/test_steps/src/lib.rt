@@ -1,4 +1,5 @@
-//! What the steps of a transcript are made of: what its texts stand for, the streams of a command, and the lines in which what these took is told.
+//! What the steps of a transcript are made of: what its texts stand for, the streams of a command, and the lines in which what these took
+//! is told.
 #![tactic(auto)]
 
 mod input;

@@ -2,7 +2,7 @@
 
 ghost use Rattle.std.specs.Prelude.{◌≤◌, IfOk, length};
 
-use grouping_model::limits::LONGEST_INPUT;
+use grouping_model::limits::MAX_INPUT_LEN;
 use script_io::{Fused, InputError, read_input};
 use std::fs::Metadata;
 use std::os::unix::fs::MetadataExt;
@@ -30,14 +30,14 @@ fn length_of<R: Files>(rt: &R, path: &str) -> Option<u64> {
 
 /// The bytes of a file, where they are 67,108,864 or fewer.
 pub fn read_file<R: Files + AllocGlobal>(rt: &R, path: &str) -> Result<Vec<u8>, Unread>
-    ensures few { IfOk result (λ bytes. length bytes.items ≤ LONGEST_INPUT) }
+    ensures few { IfOk result (λ bytes. length bytes.items ≤ MAX_INPUT_LEN) }
 {
     let mut reader = match fs::open(rt, path) {
         Ok(file) => Fused::new(file),
         Err(cause) => return Err(Unread::Failed(cause)),
     };
     match (
-        read_input(rt.alloc(), &mut reader, LONGEST_INPUT),
+        read_input(rt.alloc(), &mut reader, MAX_INPUT_LEN),
         reader.fault(),
     ) {
         (Ok(bytes), _) => Ok(bytes),

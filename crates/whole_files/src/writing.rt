@@ -6,7 +6,7 @@ use std::rt::Files;
 use std::{fs, io};
 
 /// How many names are tried for the new file that takes the place of an old one.
-const MOST_ATTEMPTS: u32 = 100;
+const MAX_ATTEMPTS: u32 = 100;
 
 /// Writes bytes to an opened file, and waits until the system has them on its disk.
 fn fill<F: Write + OpenFile>(file: &mut F, bytes: &[u8]) -> io::Result<()> {
@@ -16,7 +16,7 @@ fn fill<F: Write + OpenFile>(file: &mut F, bytes: &[u8]) -> io::Result<()> {
 
 /// Makes an empty file beside that of a path, and answers its path.
 fn create_beside<R: Files + AllocGlobal>(rt: &R, path: &str) -> io::Result<(String, R::File)> {
-    for attempt in 0..MOST_ATTEMPTS {
+    for attempt in 0..MAX_ATTEMPTS {
         let beside = format!(in rt.alloc(); "{path}.part{attempt}")?;
         match File::create_new(rt, beside.as_str()) {
             Ok(file) => return Ok((beside, file)),

@@ -6,5 +6,7 @@ use Rattle.agg_protocol.proofs.aggregate_in_parts.Goals as goal
 
 pub combine-requires : goal.combine-requires
 combine-requires g c =
-    rows_of_both g.A.Aggregate.function (g.A.Aggregate.denoted c.aggregate_values.result) (g.A.Aggregate.denoted c.aggregate_values-2.result) (row_of c.args.first.now) (row_of c.args.second.now) c.aggregate_values.ensures c.aggregate_values-2.ensures
+    rows_of_both g.A.Aggregate.function (g.A.Aggregate.denoted c.aggregate_values.result)
+    (g.A.Aggregate.denoted c.aggregate_values-2.result) (row_of c.args.first.now) (row_of c.args.second.now) c.aggregate_values.ensures
+    c.aggregate_values-2.ensures
     (omega (arith, length-row_of c.args.first.now, length-row_of c.args.second.now))

@@ -14,5 +14,11 @@ transition-state-requires-clause-takes g c =
 pub transition-state-requires-clause-few : goal.transition-state-requires-clause-few
 transition-state-requires-clause-few g c =
     let before = row_of (take c.loop-value.value-index c.args.values.now) in
-    let few : length before < most_rows = omega (arith, length-row_of (take c.loop-value.value-index c.args.values.now), length-take c.loop-value.value-index c.args.values.now) in
-    rows_after g.A.Aggregate.function (g.A.Aggregate.denoted c.loop-value.state) before (datum_of (slice_index_or c.args.values.now c.loop-value.value-index Null)) c.loop-value.invariant few
+    let few : length before < most_rows = omega (
+      arith,
+      length-row_of (take c.loop-value.value-index c.args.values.now),
+      length-take
+          c.loop-value.value-index c.args.values.now,
+    ) in
+    rows_after g.A.Aggregate.function (g.A.Aggregate.denoted c.loop-value.state) before
+    (datum_of (slice_index_or c.args.values.now c.loop-value.value-index Null)) c.loop-value.invariant few

@@ -1,11 +1,14 @@
 -- What one more argument makes of a partial result, where the function takes it.
-use Rattle.std.proofs.Common.{◌≡◌, refl, ℕ, zero, suc, ◌+◌, ◌-◌, ◌*◌, ◌^◌, ◌≤◌, ◌<◌, List, [], ◌∷◌, ◌++◌, length, All, slice_index_or, sym, ap, subst, inl, inr, ◌∙◌, arith, length-append, Option, Some, None, true, false, cond, ℤ, pos, neg_ℤ, ◌≤ℤ◌, FitsSigned}
+use Rattle.std.proofs.Common.{◌≡◌, refl, ℕ, zero, suc, ◌+◌, ◌-◌, ◌*◌, ◌^◌, ◌≤◌, ◌<◌, List, [], ◌∷◌, ◌++◌, length, All, slice_index_or, sym}
+use Rattle.std.proofs.Common.{ap, subst, inl, inr, ◌∙◌, arith, length-append, Option, Some, None, true, false, cond, ℤ, pos, neg_ℤ, ◌≤ℤ◌}
+use Rattle.std.proofs.Common.{FitsSigned}
 use Rattle.std.proofs.lemmas.Int.{ints}
 use Rattle.std.proofs.lemmas.List.Sums.{length-filter, count_by-le-length}
 use Rattle.std.specs.Int.{w64}
 use Rattle.std.specs.List.{AllByRecursion}
 use Rattle.grouping_model.specs.Datum.{Datum, Null, Bigint, Boolean, Text, Bigint_kind, HasKind}
-use Rattle.grouping_model.specs.Aggregates.{Function, Count_rows, Partial, Counted, Summed, Number, Truth_value, counts, number_of, gathered, partial, numbers, total}
+use Rattle.grouping_model.specs.Aggregates.{Function, Count_rows, Partial, Counted, Summed, Number, Truth_value, counts, number_of}
+use Rattle.grouping_model.specs.Aggregates.{gathered, partial, numbers, total}
 use Rattle.grouping_model.specs.Combining.{combine, transition}
 use Rattle.grouping_model.specs.MemberLaws.{Member, from_contains}
 use Rattle.grouping_model.specs.Lemmas.CombiningLaws.{partial_append}
@@ -35,14 +38,17 @@ pub one_more_taken : (f : Function) (xs : List Datum) (v : Datum) → Takes f v 
 one_more_taken f xs v takes = one_more f xs v (takes_fit f v takes)
 
 -- it is as much as the state of that argument alone, combined
-pub taken_alone : (f : Function) (m : ℕ) (p : Partial) (v : Datum) → IsState m (shape_of f) p → Takes f v → transition f p v ≡ combine f p (partial f (v ∷ []))
+pub taken_alone : (f : Function) (m : ℕ) (p : Partial) (v : Datum) → IsState m (shape_of f) p → Takes f v → transition f p v
+    ≡ combine f p (partial f (v ∷ []))
 taken_alone f m p v known takes = sym (alone f p v (shape_known m (shape_of f) p known) (takes_fit f v takes))
 
 -- what a transition makes, and what combining makes, in the words of lists
-pub moved_list : (f : Function) (p q : Partial) (v : Datum) → Takes f v → q ≡ transition f p v → (xs : List Datum) → p ≡ partial f xs → q ≡ partial f (xs ++ v ∷ [])
+pub moved_list : (f : Function) (p q : Partial) (v : Datum) → Takes f v → q ≡ transition f p v → (xs : List Datum) → p ≡ partial f xs → q
+    ≡ partial f (xs ++ v ∷ [])
 moved_list f p q v takes moved xs is = moved ∙ ap (λ r. transition f r v) is ∙ sym (one_more_taken f xs v takes)
 
-pub combined_lists : (f : Function) (p q r : Partial) → r ≡ combine f p q → (xs ys : List Datum) → p ≡ partial f xs → q ≡ partial f ys → r ≡ partial f (xs ++ ys)
+pub combined_lists : (f : Function) (p q r : Partial) → r ≡ combine f p q → (xs ys : List Datum) → p ≡ partial f xs → q ≡ partial f ys → r
+    ≡ partial f (xs ++ ys)
 combined_lists f p q r both xs ys is is' = both ∙ (λ j. combine f (is j) (is' j)) ∙ sym (partial_append f xs ys)
 
 -- ---- one more argument, by what the states of a function hold
@@ -78,12 +84,15 @@ rows_within f xs = by_shape (shape_of f)
     by_shape A_number = omega arith
     by_shape A_truth = omega arith
 
-pub rows_after : (f : Function) (p : Partial) (xs : List Datum) (v : Datum) → p ≡ partial f xs → length xs < most_rows → rows_of (transition f p v) ≤ most_rows
+pub rows_after : (f : Function) (p : Partial) (xs : List Datum) (v : Datum) → p ≡ partial f xs → length xs < most_rows
+    → rows_of (transition f p v) ≤ most_rows
 rows_after f p xs v is few = omega (arith, rows_step f p v, ap rows_of is, rows_within f xs)
 
-pub rows_of_both : (f : Function) (p q : Partial) (xs ys : List Datum) → p ≡ partial f xs → q ≡ partial f ys → length xs + length ys ≤ most_rows → rows_of (combine f p q) ≤ most_rows
+pub rows_of_both : (f : Function) (p q : Partial) (xs ys : List Datum) → p ≡ partial f xs → q ≡ partial f ys → length xs
+    + length ys ≤ most_rows → rows_of (combine f p q) ≤ most_rows
 rows_of_both f p q xs ys is is' few =
-    let both : rows_of (combine f p q) ≡ rows_of (partial f (xs ++ ys)) = ap rows_of (combined_lists f p q (combine f p q) refl xs ys is is') in
+    let both : rows_of (combine f p q)
+    ≡ rows_of (partial f (xs ++ ys)) = ap rows_of (combined_lists f p q (combine f p q) refl xs ys is is') in
     omega (arith, rows_within f (xs ++ ys), length-append xs ys)
 
 -- ---- states
@@ -126,11 +135,13 @@ partial_state f xs all = by_shape (shape_of f) refl (rows_within f xs)
     by_shape A_sum shape few = (few, total_within (numbers xs) (of_bigints (sums_taken f shape)))
     by_shape A_number shape few =
         number_state (number_of f (numbers xs))
-        (number_fits f (numbers xs) (λ z c. of_member (FitsSigned w64) (numbers xs) z (of_bigints (numbers_taken f shape)) (from_contains (numbers xs) z c)))
+        (number_fits f (numbers xs) (λ z c. of_member (FitsSigned w64) (numbers xs) z (of_bigints (numbers_taken f shape))
+        (from_contains (numbers xs) z c)))
     by_shape A_truth shape few = tt
 
 -- ---- the values of a list
-pub takes_at : (f : Function) (values : List Value) (i : ℕ) (default : Value) → i < length values → All (Takes f) (row_of values) → Takes f (datum_of (slice_index_or values i default))
+pub takes_at : (f : Function) (values : List Value) (i : ℕ) (default : Value) → i < length values → All (Takes f) (row_of values)
+    → Takes f (datum_of (slice_index_or values i default))
 takes_at f [] i default in_range all = absurd (omega arith)
 takes_at f (v ∷ values) zero default in_range all = all 0 (datum_of default) (omega arith)
 takes_at f (v ∷ values) (suc i) default in_range all = takes_at f values i default (omega arith) (λ k d l. all (suc k) d (omega arith))

@@ -12,7 +12,8 @@ use Rattle.std.proofs.lemmas.Grind.{common_steps}
 pub fronts-take : {X : Type 0} (n : ℕ) (xs : List X) → fronts (take n xs) ≡ take n (fronts xs)
 fronts-take zero xs = refl
 fronts-take (suc n) [] = refl
-fronts-take (suc n) (x ∷ xs) = ap (λ ys. (x ∷ []) ∷ map (λ front. x ∷ front) ys) (fronts-take n xs) ∙ ap (λ ys. (x ∷ []) ∷ ys) (sym (take-map (λ front. x ∷ front) n (fronts xs)))
+fronts-take (suc n) (x ∷ xs) = ap (λ ys. (x ∷ []) ∷ map (λ front. x ∷ front) ys) (fronts-take n xs)
+    ∙ ap (λ ys. (x ∷ []) ∷ ys) (sym (take-map (λ front. x ∷ front) n (fronts xs)))
 
 pub length-fronts : {X : Type 0} (xs : List X) → length (fronts xs) ≡ length xs
 length-fronts [] = refl
@@ -36,11 +37,15 @@ no_longer p (suc n) (x ∷ xs) within (hit, pass) =
 -- where all fit, all are taken
 pub all_taken : (setting : Setting) (keys : List Key) → AllFit setting keys → taken setting keys ≡ keys
 all_taken setting keys fit =
-    let pass : passing (fits setting) (take (length keys) (fronts keys)) = subst (passing (fits setting)) (ap fronts (sym (take_all (length keys) keys (omega arith))) ∙ fronts-take (length keys) keys) (recursion_from_All (λ front. fits setting front ≡ true) (fronts keys) fit) in
+    let pass : passing (fits setting) (take (length keys) (fronts keys)) = subst (passing (fits setting))
+    (ap fronts (sym (take_all (length keys) keys (omega arith))) ∙ fronts-take (length keys) keys)
+    (recursion_from_All (λ front. fits setting front ≡ true) (fronts keys) fit) in
     let of_all : length (fronts keys) ≡ length keys = length-fronts keys in
-    let most : length keys ≤ prefix_len (fits setting) (fronts keys) = no_longer (fits setting) (length keys) (fronts keys) (omega arith) pass in
+    let most : length keys ≤ prefix_len (fits setting) (fronts keys) = no_longer (fits setting) (length keys) (fronts keys) (omega arith)
+    pass in
     take_all (prefix_len (fits setting) (fronts keys)) keys most
 
 -- where the first key fits by itself, it is taken
-pub first_taken : (setting : Setting) (key : Key) (keys : List Key) → fits setting (key ∷ []) ≡ true → taken setting (key ∷ keys) ≡ key ∷ take (prefix_len (fits setting) (map (λ front. key ∷ front) (fronts keys))) keys
+pub first_taken : (setting : Setting) (key : Key) (keys : List Key) → fits setting (key ∷ []) ≡ true → taken setting (key ∷ keys) ≡ key
+    ∷ take (prefix_len (fits setting) (map (λ front. key ∷ front) (fronts keys))) keys
 first_taken setting key keys fit = grind (arith, nat_tests, common_steps)

@@ -5,7 +5,7 @@ use Rattle.std.specs.Str.{bytes_eq}
 use Rattle.std.specs.List.{AllByRecursion}
 use Rattle.std.proofs.lemmas.Bool.{ltb-false, or_parts}
 use Rattle.query_tokens.specs.Spelling.{lexemes_of}
-use Rattle.grouping_model.specs.declared.limits.TheConstants.{MOST_ITEMS, MOST_KEYS, MOST_CALLS, LONGEST_QUERY}
+use Rattle.grouping_model.specs.declared.limits.TheConstants.{MAX_ITEMS, MAX_KEYS, MAX_CALLS, MAX_QUERY_LEN}
 use Rattle.query_checks.specs.Order.{Asked}
 use Rattle.query_checks.specs.Sameness.{first_of_each}
 use Rattle.query_checks.specs.Checks.{Checked, has_too_many}
@@ -20,16 +20,16 @@ use Rattle.query_grammar.specs.Lemmas.OneText.{is_canonical}
 use Rattle.query_grammar.specs.Lemmas.PrintedQuery.{text_says}
 use Rattle.group_parser.specs.Parsing.{Accepts}
 
-short_of : (w : Asked) → has_too_many w ≡ false → length (spelling w) ≤ LONGEST_QUERY
+short_of : (w : Asked) → has_too_many w ≡ false → length (spelling w) ≤ MAX_QUERY_LEN
 short_of w few =
-    let items = nat_lt MOST_ITEMS (length w.written.items) in
-    let keys = nat_lt MOST_KEYS (length (first_of_each bytes_eq w.written.keys)) in
-    let calls = nat_lt MOST_CALLS (length (distinct_calls bytes_eq w.written)) in
-    let bytes = nat_lt LONGEST_QUERY (length (spelling w)) in
+    let items = nat_lt MAX_ITEMS (length w.written.items) in
+    let keys = nat_lt MAX_KEYS (length (first_of_each bytes_eq w.written.keys)) in
+    let calls = nat_lt MAX_CALLS (length (distinct_calls bytes_eq w.written)) in
+    let bytes = nat_lt MAX_QUERY_LEN (length (spelling w)) in
     let one = or_parts items (keys || (calls || bytes)) few in
     let two = or_parts keys (calls || bytes) one.1 in
     let three = or_parts calls bytes two.1 in
-    ltb-false LONGEST_QUERY (length (spelling w)) three.1
+    ltb-false MAX_QUERY_LEN (length (spelling w)) three.1
 
 pub parsed_again : (q : Checked) (text : List ℕ) → kept.IsCheckedQuery q → text ≡ spelling (by_names q) → Accepts q.columns text q
 parsed_again q text is same =

@@ -1,6 +1,7 @@
 -- Groups after more rows and more groups.
 -- ---- rows
-use Rattle.std.specs.Prelude.{◌≡◌, refl, ℕ, zero, suc, ◌+◌, ◌≤◌, Bool, true, false, cond, ◌||◌, List, [], ◌∷◌, ◌++◌, length, map, find, take, Some, None, option_map, slice_get}
+use Rattle.std.specs.Prelude.{◌≡◌, refl, ℕ, zero, suc, ◌+◌, ◌≤◌, Bool, true, false, cond, ◌||◌, List, [], ◌∷◌, ◌++◌, length, map, find}
+use Rattle.std.specs.Prelude.{take, Some, None, option_map, slice_get}
 use Rattle.std.proofs.Common.{sym, ◌∙◌, ap, arith, append_assoc, append-nil}
 use Rattle.std.proofs.lemmas.List.{map-append}
 use Rattle.std.proofs.lemmas.List.Elements.{filter-append}
@@ -12,7 +13,8 @@ use Rattle.std.specs.List.Sorted.{IsStrictlySortedBy}
 use Rattle.std.specs.BTreeMap.{insert_entry}
 use Rattle.grouping_model.specs.Datum.{Row, Kind, HasKinds, row_cmp, same_row}
 use Rattle.grouping_model.specs.Rising.{put, distinct, is_among}
-use Rattle.grouping_model.specs.Rising.Facts.{distinct-rises, put-rises, among-distinct, among-put, among-append, same_members, or_comm, or_assoc}
+use Rattle.grouping_model.specs.Rising.Facts.{distinct-rises, put-rises, among-distinct, among-put, among-append, same_members, or_comm}
+use Rattle.grouping_model.specs.Rising.Facts.{or_assoc}
 use Rattle.grouping_model.specs.Aggregates.{Partial}
 use Rattle.grouping_model.specs.Condition.{is_met}
 use Rattle.grouping_model.specs.Query.{Query}
@@ -28,14 +30,17 @@ use Rattle.group_runs.specs.Adding.{row_added, rows_added, merged, group_added, 
 use Rattle.group_runs.specs.MergeLaws.{AreApart, apart_from, nothing_rises, puts, puts_rise, rising_apart}
 
 -- the part of rows and one more
-pub row_added_part : (q : Query) (kinds : List Kind) (rows : List Row) (row : Row) → HasKinds kinds row → row_added q (part q rows) row ≡ part q (rows ++ row ∷ [])
+pub row_added_part : (q : Query) (kinds : List Kind) (rows : List Row) (row : Row) → HasKinds kinds row → row_added q (part q rows) row
+    ≡ part q (rows ++ row ∷ [])
 row_added_part q kinds rows row has =
-    elim (is_met (column_of row) q.condition) as (λ b. is_met (column_of row) q.condition ≡ b → cond b (with_row q (part q rows) row) (part q rows) ≡ part q (rows ++ row ∷ [])) [
+    elim (is_met (column_of row) q.condition) as (λ b. is_met (column_of row) q.condition ≡ b
+    → cond b (with_row q (part q rows) row) (part q rows) ≡ part q (rows ++ row ∷ [])) [
       | true ↦ λ met. sym (part_one_more q kinds rows row has met)
       | false ↦ λ met. sym (part_passes q rows row met)
     ] refl
 
-pub rows_added_part : (q : Query) (kinds : List Kind) (rows more : List Row) → AllByRecursion (HasKinds kinds) more → rows_added q (part q rows) more ≡ part q (rows ++ more)
+pub rows_added_part : (q : Query) (kinds : List Kind) (rows more : List Row) → AllByRecursion (HasKinds kinds) more
+    → rows_added q (part q rows) more ≡ part q (rows ++ more)
 rows_added_part q kinds rows [] has = ap (part q) (sym (append-nil rows))
 rows_added_part q kinds rows (row ∷ more) (first, has) =
     ap (λ gs. rows_added q gs more) (row_added_part q kinds rows row first)
@@ -54,13 +59,15 @@ among-puts key ks [] = or_false (is_among row_cmp key ks)
     or_false false = refl
 among-puts key ks (l ∷ ls) =
     among-puts key (put row_cmp l ks) ls
-    ∙ ap (λ b. b || is_among row_cmp key ls) (among-put row_cmp_total key l ks ∙ or_comm (eq_by_cmp row_cmp key l) (is_among row_cmp key ks))
+    ∙ ap (λ b. b || is_among row_cmp key ls) (among-put row_cmp_total key l ks
+    ∙ or_comm (eq_by_cmp row_cmp key l) (is_among row_cmp key ks))
     ∙ or_assoc (is_among row_cmp key ks) (eq_by_cmp row_cmp key l) (is_among row_cmp key ls)
 
 -- put from nothing, they are the distinct ones
 pub puts_all : (ls : List Row) → puts [] ls ≡ distinct row_cmp ls
 puts_all ls =
-    same_members row_cmp_total row_cmp_ties (puts [] ls) (distinct row_cmp ls) (puts_rise [] ls nothing_rises) (distinct-rises row_cmp_total ls)
+    same_members row_cmp_total row_cmp_ties (puts [] ls) (distinct row_cmp ls) (puts_rise [] ls nothing_rises)
+    (distinct-rises row_cmp_total ls)
     (λ key. among-puts key [] ls ∙ sym (among-distinct row_cmp_total key ls))
 
 -- there are not more distinct ones than there are
@@ -89,32 +96,41 @@ distinct_few (k ∷ ks) =
     omega (arith, rest, one)
 
 -- ---- groups
-pub groups_added_more : (q : Query) (gs more : List Group) (g : Group) → groups_added q gs (more ++ g ∷ []) ≡ group_added q (groups_added q gs more) g
+pub groups_added_more : (q : Query) (gs more : List Group) (g : Group) → groups_added q gs (more ++ g ∷ [])
+    ≡ group_added q (groups_added q gs more) g
 groups_added_more q gs [] g = refl
 groups_added_more q gs (h ∷ more) g = groups_added_more q (group_added q gs h) more g
 
 -- what is found at another key after an insertion
-pub found_others : (k l : Row) (v : List Partial) (gs : List Group) → same_row l k ≡ false → partials_at k (insert_entry row_cmp gs l v) ≡ partials_at k gs
+pub found_others : (k l : Row) (v : List Partial) (gs : List Group) → same_row l k ≡ false → partials_at k (insert_entry row_cmp gs l v)
+    ≡ partials_at k gs
 found_others k l v [] apart = ap (λ b. option_map (λ (group : Group). group.1) (cond b (Some (l, v)) None)) apart
 found_others k l v (g ∷ gs) apart =
-    elim (row_cmp l g.0) as (λ r. row_cmp l g.0 ≡ r → partials_at k (match_ordering r ((l, v) ∷ g ∷ gs) ((g.0, v) ∷ gs) (g ∷ insert_entry row_cmp gs l v)) ≡ partials_at k (g ∷ gs)) [
-      | Less ↦ λ e. ap (λ b. option_map (λ (group : Group). group.1) (cond b (Some (l, v)) (find (λ (group : Group). same_row group.0 k) (g ∷ gs)))) apart
+    elim (row_cmp l g.0) as (λ r. row_cmp l g.0 ≡ r
+    → partials_at k (match_ordering r ((l, v) ∷ g ∷ gs) ((g.0, v) ∷ gs) (g ∷ insert_entry row_cmp gs l v)) ≡ partials_at k (g ∷ gs)) [
+      | Less ↦ λ e. ap (λ b. option_map (λ (group : Group). group.1)
+          (cond b (Some (l, v)) (find (λ (group : Group). same_row group.0 k) (g ∷ gs)))) apart
       | Equal ↦ λ e.
           let other : same_row g.0 k ≡ false = ap (λ x. same_row x k) (sym (row_cmp_ties l g.0 e)) ∙ apart in
           ap (λ b. option_map (λ (group : Group). group.1) (cond b (Some (g.0, v)) (find (λ (group : Group). same_row group.0 k) gs))) other
-          ∙ ap (λ b. option_map (λ (group : Group). group.1) (cond b (Some g) (find (λ (group : Group). same_row group.0 k) gs))) (sym other)
+          ∙ ap (λ b. option_map (λ (group : Group). group.1) (cond b (Some g) (find (λ (group : Group). same_row group.0 k) gs)))
+          (sym other)
       | Greater ↦ λ e.
-          elim (same_row g.0 k) as (λ b. option_map (λ (group : Group). group.1) (cond b (Some g) (find (λ (group : Group). same_row group.0 k) (insert_entry row_cmp gs l v))) ≡ option_map (λ (group : Group). group.1) (cond b (Some g) (find (λ (group : Group). same_row group.0 k) gs))) [
+          elim (same_row g.0 k) as (λ b. option_map (λ (group : Group). group.1)
+          (cond b (Some g) (find (λ (group : Group). same_row group.0 k) (insert_entry row_cmp gs l v)))
+          ≡ option_map (λ (group : Group). group.1) (cond b (Some g) (find (λ (group : Group). same_row group.0 k) gs))) [
             | true ↦ refl
             | false ↦ found_others k l v gs apart
           ]
     ] refl
 
 -- a key that no new group has keeps its partial results
-pub found_still : (q : Query) (k : Row) (gs more : List Group) → is_among row_cmp k (keys_of more) ≡ false → partials_at k (groups_added q gs more) ≡ partials_at k gs
+pub found_still : (q : Query) (k : Row) (gs more : List Group) → is_among row_cmp k (keys_of more) ≡ false
+    → partials_at k (groups_added q gs more) ≡ partials_at k gs
 found_still q k gs [] none = refl
 found_still q k gs (g ∷ more) none =
-    elim (same_row k g.0) as (λ b. same_row k g.0 ≡ b → (b || is_among row_cmp k (keys_of more)) ≡ false → partials_at k (groups_added q (group_added q gs g) more) ≡ partials_at k gs) [
+    elim (same_row k g.0) as (λ b. same_row k g.0 ≡ b → (b || is_among row_cmp k (keys_of more)) ≡ false
+    → partials_at k (groups_added q (group_added q gs g) more) ≡ partials_at k gs) [
       | true ↦ λ e none. false_is_not_true (sym none)
       | false ↦ λ e none. found_still q k (group_added q gs g) more none ∙ found_others k g.0 _ gs (same_row-swap g.0 k ∙ e)
     ] refl none
@@ -131,7 +147,8 @@ found_among (h ∷ gs) (suc i) g e =
       | false ↦ found_among gs i g e
     ]
 
-pub none_before : (gs : List Group) (i : ℕ) (g : Group) → AreApart (keys_of gs) → slice_get gs i ≡ Some g → is_among row_cmp g.0 (keys_of (take i gs)) ≡ false
+pub none_before : (gs : List Group) (i : ℕ) (g : Group) → AreApart (keys_of gs) → slice_get gs i ≡ Some g
+    → is_among row_cmp g.0 (keys_of (take i gs)) ≡ false
 none_before [] i g apart e = absurd cc
 none_before (h ∷ gs) zero g apart e = refl
 none_before (h ∷ gs) (suc i) g (none, apart) e =
@@ -147,7 +164,8 @@ module _ (q : Query) (h all : Row → List Partial) where
   same_values f [] same = refl
   same_values f (k ∷ ks) same = λ i. (k, same k i) ∷ same_values f ks same i
 
-  added_values : (f : Row → List Partial) (ks ls : List Row) → IsStrictlySortedBy row_cmp ks → AreApart ls → ((key : Row) → is_among row_cmp key ls ≡ false → f key ≡ all key)
+  added_values : (f : Row → List Partial) (ks ls : List Row) → IsStrictlySortedBy row_cmp ks → AreApart ls
+      → ((key : Row) → is_among row_cmp key ls ≡ false → f key ≡ all key)
       → ((key : Row) → is_among row_cmp key ls ≡ true → merged q (cond (is_among row_cmp key ks) (Some (f key)) None) (h key) ≡ all key)
       → groups_added q (with_values f ks) (with_values h ls) ≡ with_values all (puts ks ls)
   added_values f ks [] rising apart others own = same_values f ks (λ key. others key refl)
@@ -158,7 +176,8 @@ module _ (q : Query) (h all : Row → List Partial) where
       ap (λ o. merged q o (h l)) (found_at f l ks) ∙ own l (ap (λ b. b || is_among row_cmp l ls) itself) in
       let one : group_added q (with_values f ks) (l, h l) ≡ with_values g (put row_cmp l ks) =
       ap (λ v. insert_entry row_cmp (with_values f ks) l v) value
-      ∙ sym (put-map row_cmp_total row_cmp_ties l (all l) f g (ap (λ b. cond b (all l) (f l)) itself) (λ y e. ap (λ b. cond b (all y) (f y)) e) ks rising) in
+      ∙ sym (put-map row_cmp_total row_cmp_ties l (all l) f g (ap (λ b. cond b (all l) (f l)) itself)
+      (λ y e. ap (λ b. cond b (all y) (f y)) e) ks rising) in
       ap (λ gs. groups_added q gs (with_values h ls)) one
       ∙ added_values g (put row_cmp l ks) ls (put-rises row_cmp_total l ks rising) apart
       (λ key e.
@@ -168,20 +187,24 @@ module _ (q : Query) (h all : Row → List Partial) where
       ] refl)
       (λ key e.
       let apart_l : same_row key l ≡ false = apart_from l key ls none e in
-      let there : is_among row_cmp key (put row_cmp l ks) ≡ is_among row_cmp key ks = among-put row_cmp_total key l ks ∙ ap (λ b. b || is_among row_cmp key ks) apart_l in
+      let there : is_among row_cmp key (put row_cmp l ks) ≡ is_among row_cmp key ks = among-put row_cmp_total key l ks
+      ∙ ap (λ b. b || is_among row_cmp key ks) apart_l in
       let kept : g key ≡ f key = ap (λ b. cond b (all key) (f key)) (same_row-swap l key ∙ apart_l) in
       (λ i. merged q (cond (there i) (Some (kept i)) None) (h key))
       ∙ own key (ap (λ b. b || is_among row_cmp key ls) apart_l ∙ e))
 
 no_group : (q : Query) (rows : List Row) (key : Row) → is_among row_cmp key (keys q rows) ≡ false → group q rows key ≡ []
-no_group q rows key e = empty_group (key_of q) key (selected q rows) (sym (among-distinct row_cmp_total key (map (key_of q) (selected q rows))) ∙ e)
+no_group q rows key e = empty_group (key_of q) key (selected q rows)
+    (sym (among-distinct row_cmp_total key (map (key_of q) (selected q rows))) ∙ e)
 
 both_keys : (q : Query) (xs ys : List Row) → puts (keys q xs) (keys q ys) ≡ keys q (xs ++ ys)
 both_keys q xs ys =
-    same_members row_cmp_total row_cmp_ties (puts (keys q xs) (keys q ys)) (keys q (xs ++ ys)) (puts_rise (keys q xs) (keys q ys) (keys_rise q xs)) (keys_rise q (xs ++ ys))
+    same_members row_cmp_total row_cmp_ties (puts (keys q xs) (keys q ys)) (keys q (xs ++ ys))
+    (puts_rise (keys q xs) (keys q ys) (keys_rise q xs)) (keys_rise q (xs ++ ys))
     (λ key.
     among-puts key (keys q xs) (keys q ys)
-    ∙ (λ i. among-distinct row_cmp_total key (map (key_of q) (selected q xs)) i || among-distinct row_cmp_total key (map (key_of q) (selected q ys)) i)
+    ∙ (λ i. among-distinct row_cmp_total key (map (key_of q) (selected q xs)) i
+    || among-distinct row_cmp_total key (map (key_of q) (selected q ys)) i)
     ∙ sym (among-append row_cmp key (map (key_of q) (selected q xs)) (map (key_of q) (selected q ys)))
     ∙ ap (is_among row_cmp key) (sym (map-append (key_of q) (selected q xs) (selected q ys)))
     ∙ ap (λ rows. is_among row_cmp key (map (key_of q) rows)) (sym (filter-append (λ row. is_met (column_of row) q.condition) xs ys))
@@ -189,10 +212,13 @@ both_keys q xs ys =
 
 pub groups_added_part : (q : Query) (xs ys : List Row) → groups_added q (part q xs) (part q ys) ≡ part q (xs ++ ys)
 groups_added_part q xs ys =
-    added_values q (λ key. partials q (group q ys key)) (λ key. partials q (group q (xs ++ ys) key)) (λ key. partials q (group q xs key)) (keys q xs) (keys q ys) (keys_rise q xs) (rising_apart (keys q ys) (keys_rise q ys))
-    (λ key none. ap (partials q) (sym (append-nil (group q xs key)) ∙ ap (λ rows. group q xs key ++ rows) (sym (no_group q ys key none)) ∙ sym (group_append q xs ys key)))
+    added_values q (λ key. partials q (group q ys key)) (λ key. partials q (group q (xs ++ ys) key)) (λ key. partials q (group q xs key))
+    (keys q xs) (keys q ys) (keys_rise q xs) (rising_apart (keys q ys) (keys_rise q ys))
+    (λ key none. ap (partials q) (sym (append-nil (group q xs key)) ∙ ap (λ rows. group q xs key ++ rows) (sym (no_group q ys key none))
+    ∙ sym (group_append q xs ys key)))
     (λ key among.
-    elim (is_among row_cmp key (keys q xs)) as (λ b. is_among row_cmp key (keys q xs) ≡ b → merged q (cond b (Some (partials q (group q xs key))) None) (partials q (group q ys key)) ≡ partials q (group q (xs ++ ys) key)) [
+    elim (is_among row_cmp key (keys q xs)) as (λ b. is_among row_cmp key (keys q xs) ≡ b
+    → merged q (cond b (Some (partials q (group q xs key))) None) (partials q (group q ys key)) ≡ partials q (group q (xs ++ ys) key)) [
       | true ↦ λ e. sym (partials-append q (group q xs key) (group q ys key)) ∙ ap (partials q) (sym (group_append q xs ys key))
       | false ↦ λ e. ap (partials q) (ap (λ rows. rows ++ group q ys key) (sym (no_group q xs key e)) ∙ sym (group_append q xs ys key))
     ] refl)

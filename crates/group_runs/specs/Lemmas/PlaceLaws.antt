@@ -13,20 +13,26 @@ use Rattle.group_runs.specs.Places.{IsBelow, AllBelow, AllAbove}
 use Rattle.group_runs.specs.PlaceLaws.{key_total}
 
 -- up to a group below a key, all groups of a run that rises are below it
-before_below : (run : List Entry) (i : ℕ) (e : Entry) (key : List ℕ) → Rises run → slice_get run i ≡ Some e → IsBelow key e → AllBelow key (take (i + 1) run)
+before_below : (run : List Entry) (i : ℕ) (e : Entry) (key : List ℕ) → Rises run → slice_get run i ≡ Some e → IsBelow key e
+    → AllBelow key (take (i + 1) run)
 unfolding IsStrictlySortedBy
 before_below [] i e key rises at below = absurd cc
 before_below (x ∷ run) zero e key rises at below = let same : x ≡ e = cc in (subst (IsBelow key) (sym same) below, tt)
 before_below (x ∷ run) (suc i) e key (above, rises) at below =
-    subst (λ n. AllBelow key (take n (x ∷ run))) (sym (add-one (suc i)))
-    (key_total.trans x.0 e.0 key (above_at run i above at) below, subst (λ n. AllBelow key (take n run)) (add-one i) (before_below run i e key rises at below))
+    subst (λ n. AllBelow key (take n (x ∷ run))) (sym (add-one (suc i))) (
+      key_total.trans x.0 e.0 key (above_at run i above at) below,
+      subst (λ n. AllBelow key (take n run)) (add-one i)
+          (before_below run i e key rises at below),
+    )
   where
-    above_at : (es : List Entry) (i : ℕ) → AllByRecursion (λ k. slice_cmp nat_cmp x.0 k ≡ Less) (packed_keys es) → slice_get es i ≡ Some e → slice_cmp nat_cmp x.0 e.0 ≡ Less
+    above_at : (es : List Entry) (i : ℕ) → AllByRecursion (λ k. slice_cmp nat_cmp x.0 k ≡ Less) (packed_keys es) → slice_get es i ≡ Some e
+        → slice_cmp nat_cmp x.0 e.0 ≡ Less
     above_at [] i all at = absurd cc
     above_at (y ∷ es) zero all at = let same : y ≡ e = cc in subst (λ (y : Entry). slice_cmp nat_cmp x.0 y.0 ≡ Less) same all.0
     above_at (y ∷ es) (suc i) all at = above_at es i all.1 at
 
-pub below_to : (run : List Entry) (from i : ℕ) (e : Entry) (key : List ℕ) → Rises run → from ≤ i → slice_get run i ≡ Some e → IsBelow key e → AllBelow key (slice_range run from (i + 1))
+pub below_to : (run : List Entry) (from i : ℕ) (e : Entry) (key : List ℕ) → Rises run → from ≤ i → slice_get run i ≡ Some e → IsBelow key e
+    → AllBelow key (slice_range run from (i + 1))
 below_to run from i e key rises low at below =
     let whole : from + (i + 1 - from) ≡ i + 1 = omega (arith, low) in
     subst (AllBelow key) (ap (λ n. drop from (take n run)) (sym whole) ∙ drop-take from (i + 1 - from) run)
@@ -41,16 +47,22 @@ pub record KeyStands (run : List Entry) (place : ℕ) (key : List ℕ) : Type 0 
   pub low : place < length run
 
 -- a group goes between those below and those above
-pub rises_between : (front back : List Entry) (key states : List ℕ) → Rises (front ++ back) → AllBelow key front → AllAbove key back → Rises (front ++ (key, states) ∷ back)
+pub rises_between : (front back : List Entry) (key states : List ℕ) → Rises (front ++ back) → AllBelow key front → AllAbove key back
+    → Rises (front ++ (key, states) ∷ back)
 unfolding IsStrictlySortedBy
 rises_between [] back key states rises below above = (all_keys back above, rises)
   where
     all_keys : (es : List Entry) → AllAbove key es → AllByRecursion (λ z. slice_cmp nat_cmp key z ≡ Less) (packed_keys es)
     all_keys [] all = tt
     all_keys (e ∷ es) (first, all) = (first, all_keys es all)
-rises_between (e ∷ front) back key states (over, rises) (low, below) above = (through front over, rises_between front back key states rises below above)
+rises_between (e ∷ front) back key states (over, rises) (low, below) above = (
+  through front over,
+  rises_between front back key states rises
+      below above,
+)
   where
-    through : (es : List Entry) → AllByRecursion (λ z. slice_cmp nat_cmp e.0 z ≡ Less) (packed_keys (es ++ back)) → AllByRecursion (λ z. slice_cmp nat_cmp e.0 z ≡ Less) (packed_keys (es ++ (key, states) ∷ back))
+    through : (es : List Entry) → AllByRecursion (λ z. slice_cmp nat_cmp e.0 z ≡ Less) (packed_keys (es ++ back))
+        → AllByRecursion (λ z. slice_cmp nat_cmp e.0 z ≡ Less) (packed_keys (es ++ (key, states) ∷ back))
     through [] all = (low, all)
     through (x ∷ es) (first, all) = (first, through es all)
 

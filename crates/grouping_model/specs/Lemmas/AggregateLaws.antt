@@ -1,5 +1,7 @@
 -- The least and the greatest member of a list, and the bits of a number.
-use Rattle.std.specs.Prelude.{◌≡◌, refl, ℕ, zero, suc, ◌+◌, ◌-◌, ◌*◌, ◌^◌, ◌<◌, ◌⊎◌, ◌==◌, Bool, true, false, T, cond, List, [], ◌∷◌, ℤ, pos, negsuc, FitsSigned, ◌≤ℤ◌, ◌<ℤ◌, int_le, int_lt, find, Contains, ◌↔◌, Some, is_some, IsSome, ◌++◌, ◌%◌, ◌&&◌, ◌||◌, count_by, None}
+use Rattle.std.specs.Prelude.{◌≡◌, refl, ℕ, zero, suc, ◌+◌, ◌-◌, ◌*◌, ◌^◌, ◌<◌, ◌⊎◌, ◌==◌, Bool, true, false, T, cond, List, [], ◌∷◌, ℤ}
+use Rattle.std.specs.Prelude.{pos, negsuc, FitsSigned, ◌≤ℤ◌, ◌<ℤ◌, int_le, int_lt, find, Contains, ◌↔◌, Some, is_some, IsSome, ◌++◌, ◌%◌}
+use Rattle.std.specs.Prelude.{◌&&◌, ◌||◌, count_by, None}
 use Rattle.std.proofs.Common.{sym, ◌∙◌, ap, subst, inl, inr, arith}
 use Rattle.std.specs.List.{list_all, list_any}
 use Rattle.std.specs.Int.{w64, cast_unsigned, cast_signed, bit_at, int_min, int_max}
@@ -12,8 +14,10 @@ use Rattle.std.proofs.lemmas.List.{append-nil}
 use Rattle.std.proofs.lemmas.List.Elements.{Contains-append_left, Contains-append_right, Contains-append_cases}
 use Rattle.std.proofs.Math.Bool.{and-true}
 use Rattle.grouping_model.specs.Combining.{joined}
-use Rattle.grouping_model.specs.Aggregates.{bits_of_all, bits_of_some, bits_of_odd, least, greatest, has_bit, unsigned_of_bits, number_of_bits}
-use Rattle.grouping_model.specs.MemberLaws.{false_is_not_true, Member, from_contains, to_contains, all_member, member_all, found_member, found_some}
+use Rattle.grouping_model.specs.Aggregates.{bits_of_all, bits_of_some, bits_of_odd, least, greatest, has_bit, unsigned_of_bits}
+use Rattle.grouping_model.specs.Aggregates.{number_of_bits}
+use Rattle.grouping_model.specs.MemberLaws.{false_is_not_true, Member, from_contains, to_contains, all_member, member_all, found_member}
+use Rattle.grouping_model.specs.MemberLaws.{found_some}
 use Rattle.std.proofs.lemmas.Bool.Decides.{nat_tests}
 use Rattle.std.proofs.lemmas.Grind.{common_steps}
 
@@ -53,7 +57,9 @@ le_both : (x y : ℤ) → int_le x y ≡ true → int_le y x ≡ true → x ≡ 
 le_both x y p q = at_most_both x y (untested x y p) (untested y x q)
 
 -- the first member that stands before all, by a test that orders numbers
-module _ (before : ℤ → ℤ → Bool) (itself : (x : ℤ) → before x x ≡ true) (chain : (x y z : ℤ) → before x y ≡ true → before y z ≡ true → before x z ≡ true) (either : (x y : ℤ) → (before x y ≡ true) ⊎ (before y x ≡ true)) (both : (x y : ℤ) → before x y ≡ true → before y x ≡ true → x ≡ y) where
+module _ (before : ℤ → ℤ → Bool) (itself : (x : ℤ) → before x x ≡ true) (chain : (x y z : ℤ) → before x y ≡ true → before y z ≡ true
+    → before x z ≡ true) (either : (x y : ℤ) → (before x y ≡ true) ⊎ (before y x ≡ true)) (both : (x y : ℤ) → before x y ≡ true → before y x
+    ≡ true → x ≡ y) where
   abbrev leads : List ℤ → ℤ → Bool
   leads zs z = list_all (λ y. before z y) zs
 
@@ -62,7 +68,15 @@ module _ (before : ℤ → ℤ → Bool) (itself : (x : ℤ) → before x x ≡ 
   some_leads z (y ∷ ys) =
       let rest = some_leads y ys in
       elim (either z rest.0) as (λ c. (w : ℤ) × Member (z ∷ y ∷ ys) w × ((v : ℤ) → Member (z ∷ y ∷ ys) v → before w v ≡ true)) [
-        | inl first ↦ (z, inl refl, λ v m. elim m [ inl e ↦ ap (before z) (sym e) ∙ itself z | inr n ↦ chain z rest.0 v first (rest.2 v n) ])
+        | inl first ↦ (
+          z,
+          inl refl,
+          λ v m. elim m [
+            | inl e ↦ ap (before z) (sym e)
+                ∙ itself z
+            | inr n ↦ chain z rest.0 v first (rest.2 v n)
+          ],
+        )
         | inr later ↦ (rest.0, inr rest.1, λ v m. elim m [ inl e ↦ ap (before rest.0) (sym e) ∙ later | inr n ↦ rest.2 v n ])
       ]
 
@@ -75,7 +89,8 @@ module _ (before : ℤ → ℤ → Bool) (itself : (x : ℤ) → before x x ≡ 
         let own : Member zs z = from_contains zs z c in
         let found = found_some (leads zs) zs z own (member_all (λ y. before z y) zs (λ y m. all y (to_contains zs y m))) in
         let first = found_member (leads zs) zs found.0 found.1 in
-        let same : found.0 ≡ z = both found.0 z (all_member (λ y. before found.0 y) zs z first.1 own) (all found.0 (to_contains zs found.0 first.0)) in
+        let same : found.0 ≡ z = both found.0 z (all_member (λ y. before found.0 y) zs z first.1 own)
+        (all found.0 (to_contains zs found.0 first.0)) in
         found.1 ∙ ap Some same,
   )
 
@@ -88,7 +103,9 @@ module _ (before : ℤ → ℤ → Bool) (itself : (x : ℤ) → before x x ≡ 
   leader_of_some z zs = ap is_some (leader_some z zs).1
 
   -- the leader of two lists on end: the one that pick takes of both leaders
-  leader_append : (pick : ℤ → ℤ → ℤ) → ((x y : ℤ) → before (pick x y) x ≡ true) → ((x y : ℤ) → before (pick x y) y ≡ true) → ((x y : ℤ) → (pick x y ≡ x) ⊎ (pick x y ≡ y)) → (xs ys : List ℤ) → find (leads (xs ++ ys)) (xs ++ ys) ≡ joined pick (find (leads xs) xs) (find (leads ys) ys)
+  leader_append : (pick : ℤ → ℤ → ℤ) → ((x y : ℤ) → before (pick x y) x ≡ true) → ((x y : ℤ) → before (pick x y) y ≡ true)
+      → ((x y : ℤ) → (pick x y ≡ x) ⊎ (pick x y ≡ y)) → (xs ys : List ℤ) → find (leads (xs ++ ys)) (xs ++ ys)
+      ≡ joined pick (find (leads xs) xs) (find (leads ys) ys)
   leader_append pick left right one [] ys = refl
   leader_append pick left right one (x ∷ xs) [] =
       let first = leader_some x xs in
@@ -120,14 +137,16 @@ least_is zs z =
 
 pub greatest_is : (zs : List ℤ) (z : ℤ) → greatest zs ≡ Some z ↔ (Contains zs z × ((y : ℤ) → Contains zs y → y ≤ℤ z))
 greatest_is zs z =
-    let law = leader_is (λ x y. int_le y x) (λ x. tested x x (≤ℤ_refl x)) (λ x y w p q. le_chain w y x q p) (λ x y. le_either y x) (λ x y p q. le_both x y q p) zs z in
+    let law = leader_is (λ x y. int_le y x) (λ x. tested x x (≤ℤ_refl x)) (λ x y w p q. le_chain w y x q p) (λ x y. le_either y x)
+    (λ x y p q. le_both x y q p) zs z in
     (λ e. let found = law.0 e in (found.0, λ y c. untested y z (found.1 y c)), λ (c, all). law.1 (c, λ y d. tested y z (all y d)))
 
 pub least_of_some : (z : ℤ) (zs : List ℤ) → IsSome (least (z ∷ zs))
 least_of_some = leader_of_some int_le (λ x. tested x x (≤ℤ_refl x)) le_chain le_either le_both
 
 pub greatest_of_some : (z : ℤ) (zs : List ℤ) → IsSome (greatest (z ∷ zs))
-greatest_of_some = leader_of_some (λ x y. int_le y x) (λ x. tested x x (≤ℤ_refl x)) (λ x y w p q. le_chain w y x q p) (λ x y. le_either y x) (λ x y p q. le_both x y q p)
+greatest_of_some = leader_of_some (λ x y. int_le y x) (λ x. tested x x (≤ℤ_refl x)) (λ x y w p q. le_chain w y x q p) (λ x y. le_either y x)
+    (λ x y p q. le_both x y q p)
 
 -- the lesser and the greater of two numbers: one of them, and before both
 lesser_left : (x y : ℤ) → int_le (int_min x y) x ≡ true
@@ -153,7 +172,8 @@ least_append = leader_append int_le (λ x. tested x x (≤ℤ_refl x)) le_chain 
 
 pub greatest_append : (xs ys : List ℤ) → greatest (xs ++ ys) ≡ joined int_max (greatest xs) (greatest ys)
 greatest_append =
-    leader_append (λ x y. int_le y x) (λ x. tested x x (≤ℤ_refl x)) (λ x y w p q. le_chain w y x q p) (λ x y. le_either y x) (λ x y p q. le_both x y q p) int_max greater_left greater_right greater_one
+    leader_append (λ x y. int_le y x) (λ x. tested x x (≤ℤ_refl x)) (λ x y w p q. le_chain w y x q p) (λ x y. le_either y x)
+    (λ x y p q. le_both x y q p) int_max greater_left greater_right greater_one
 
 -- ---- bits
 
@@ -179,7 +199,10 @@ unsigned_bit_is is_set (suc n) i l =
     last_or_below zero zero l = inl refl
     last_or_below zero (suc n) l = inr (omega arith)
     last_or_below (suc i) zero l = absurd (omega arith)
-    last_or_below (suc i) (suc n) l = elim (last_or_below i n (omega arith)) [ inl same ↦ inl (ap suc same) | inr below ↦ inr (omega arith) ]
+    last_or_below (suc i) (suc n) l = elim (last_or_below i n (omega arith)) [
+      | inl same ↦ inl (ap suc same)
+      | inr below ↦ inr (omega arith)
+    ]
 
     no_more : (n : ℕ) → n - n ≡ 0
     no_more n = omega arith
@@ -218,7 +241,8 @@ same_from_64_bits x y fits_x fits_y same =
     sym (to_z-of_z w64 x fits_x)
     ∙ ap (cast_signed w64)
     (same_from_bits_below 64 (cast_unsigned w64 x) (cast_unsigned w64 y) (unsigned_below x fits_x) (unsigned_below y fits_y)
-    (λ i l. digit_is (bit_at (cast_unsigned w64 x) i) (bit_at (cast_unsigned w64 y) i) (bit_at-lt (cast_unsigned w64 x) i) (bit_at-lt (cast_unsigned w64 y) i) (same i l)))
+    (λ i l. digit_is (bit_at (cast_unsigned w64 x) i) (bit_at (cast_unsigned w64 y) i) (bit_at-lt (cast_unsigned w64 x) i)
+    (bit_at-lt (cast_unsigned w64 y) i) (same i l)))
     ∙ to_z-of_z w64 y fits_y
 
 -- a number is made of its own bits

@@ -17,7 +17,9 @@ counted_within first (suc n) m (inl e) = (omega arith, omega arith)
 counted_within first (suc n) m (inr listed) = let rest = counted_within (first + 1) n m listed in (omega arith, omega arith)
 
 -- what is not known of a world has no part in an answer
-pub known_alone : (query : Query) (world other : World) (knowledge : Knowledge) → ((origin number : ℕ) → IsTrue (knows knowledge (origin, number)) → world origin number ≡ other origin number) → answer query world knowledge ≡ answer query other knowledge
+pub known_alone : (query : Query) (world other : World) (knowledge : Knowledge)
+    → ((origin number : ℕ) → IsTrue (knows knowledge (origin, number)) → world origin number ≡ other origin number)
+    → answer query world knowledge ≡ answer query other knowledge
 known_alone query world other knowledge same =
     ap (answer_over query)
     (flat_map_members (origin_rows world knowledge) (origin_rows other knowledge) (origins knowledge) (λ origin listed.

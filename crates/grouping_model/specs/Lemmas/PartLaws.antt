@@ -47,20 +47,24 @@ keys-append query xs ys =
     ∙ ap (distinct row_cmp) (map-append (key_of query) (selected query xs) (selected query ys))
     ∙ distinct-append (map (key_of query) (selected query xs)) (map (key_of query) (selected query ys))
 
-pub partials-append : (query : Query) (xs ys : List Row) → partials query (xs ++ ys) ≡ combine_all (functions query) (partials query xs) (partials query ys)
+pub partials-append : (query : Query) (xs ys : List Row) → partials query (xs ++ ys)
+    ≡ combine_all (functions query) (partials query xs) (partials query ys)
 partials-append query xs ys = each query.aggregates
   where
     of_rows : List Row → Aggregate → Partial
     of_rows = λ rows aggregate. partial aggregate.function (arguments aggregate rows)
 
-    each : (aggregates : List Aggregate) → map (of_rows (xs ++ ys)) aggregates ≡ combine_all (map (λ (aggregate : Aggregate). aggregate.function) aggregates) (map (of_rows xs) aggregates) (map (of_rows ys) aggregates)
+    each : (aggregates : List Aggregate) → map (of_rows (xs ++ ys)) aggregates
+        ≡ combine_all (map (λ (aggregate : Aggregate). aggregate.function) aggregates) (map (of_rows xs) aggregates)
+        (map (of_rows ys) aggregates)
     each [] = refl
     each (aggregate ∷ aggregates) = λ i. rows_append aggregate xs ys i ∷ each aggregates i
 
 pub part-append : (query : Query) (xs ys : List Row) → part query (xs ++ ys) ≡ combine_parts query (part query xs) (part query ys)
 part-append query xs ys = λ i. map (λ key. (key, results key i)) (both_keys i)
   where
-    results : (key : Row) → partials query (group query (xs ++ ys) key) ≡ combine_all (functions query) (partials_or_none query key (part query xs)) (partials_or_none query key (part query ys))
+    results : (key : Row) → partials query (group query (xs ++ ys) key)
+        ≡ combine_all (functions query) (partials_or_none query key (part query xs)) (partials_or_none query key (part query ys))
     results key =
         ap (partials query) (group_append query xs ys key)
         ∙ partials-append query (group query xs key) (group query ys key)
@@ -70,13 +74,16 @@ part-append query xs ys = λ i. map (λ key. (key, results key i)) (both_keys i)
     both_keys = keys-append query xs ys ∙ (λ i. distinct row_cmp (sym (keys_of-part query xs) i ++ sym (keys_of-part query ys) i))
 
 -- one more row, where WHERE keeps it and where not
-pub selected-one : (query : Query) (row : Row) (b : Bool) → is_met (column_of row) query.condition ≡ b → selected query (row ∷ []) ≡ cond b (row ∷ []) []
+pub selected-one : (query : Query) (row : Row) (b : Bool) → is_met (column_of row) query.condition ≡ b → selected query (row ∷ [])
+    ≡ cond b (row ∷ []) []
 selected-one query row b e = ap (λ b. cond b (row ∷ []) []) e
 
-pub part_passes : (query : Query) (rows : List Row) (row : Row) → is_met (column_of row) query.condition ≡ false → part query (rows ++ row ∷ []) ≡ part query rows
+pub part_passes : (query : Query) (rows : List Row) (row : Row) → is_met (column_of row) query.condition ≡ false
+    → part query (rows ++ row ∷ []) ≡ part query rows
 part_passes query rows row e = grind (arith, nat_tests, common_steps)
 
-pub keys_one_more : (query : Query) (rows : List Row) (row : Row) → is_met (column_of row) query.condition ≡ true → keys query (rows ++ row ∷ []) ≡ put row_cmp (key_of query row) (keys query rows)
+pub keys_one_more : (query : Query) (rows : List Row) (row : Row) → is_met (column_of row) query.condition ≡ true
+    → keys query (rows ++ row ∷ []) ≡ put row_cmp (key_of query row) (keys query rows)
 keys_one_more query rows row e =
     keys-append query rows (row ∷ [])
     ∙ ap (λ more. distinct row_cmp (keys query rows ++ distinct row_cmp (map (key_of query) more))) (selected-one query row true e)

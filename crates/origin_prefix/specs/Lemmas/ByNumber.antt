@@ -47,7 +47,8 @@ module _ {X : Type 0} where
       ] refl
 
   -- those behind the first of some rising entries are above it
-  pub above_first : (n : ℕ) (x : X) (es : List (ℕ × X)) → IsStrictlySortedBy nat_cmp (numbers ((n, x) ∷ es)) → AllByRecursion (λ (e : ℕ × X). n < e.0) es
+  pub above_first : (n : ℕ) (x : X) (es : List (ℕ × X)) → IsStrictlySortedBy nat_cmp (numbers ((n, x) ∷ es))
+      → AllByRecursion (λ (e : ℕ × X). n < e.0) es
   unfolding IsStrictlySortedBy
   above_first n x es rising = go es rising.0
     where
@@ -58,7 +59,8 @@ module _ {X : Type 0} where
       go [] all = tt
       go (e ∷ es) all = (less e.0 all.0, go es all.1)
 
-  pub rising_rest : (e : ℕ × X) (es : List (ℕ × X)) → IsStrictlySortedBy nat_cmp (numbers (e ∷ es)) → IsStrictlySortedBy nat_cmp (numbers es)
+  pub rising_rest : (e : ℕ × X) (es : List (ℕ × X)) → IsStrictlySortedBy nat_cmp (numbers (e ∷ es))
+      → IsStrictlySortedBy nat_cmp (numbers es)
   unfolding IsStrictlySortedBy
   rising_rest e es rising = rising.1
 
@@ -67,7 +69,8 @@ module _ {X : Type 0} where
   first_alone n x es rising = none_found (λ (e : ℕ × X). n < e.0) es n (above_first n x es rising) (λ y low. omega (arith, low))
 
   -- what holds of each that is found holds of each
-  pub all_found : (P : ℕ × X → Type 0) (es : List (ℕ × X)) → IsStrictlySortedBy nat_cmp (numbers es) → ((n : ℕ) (x : X) → at es n ≡ Some x → P (n, x)) → AllByRecursion P es
+  pub all_found : (P : ℕ × X → Type 0) (es : List (ℕ × X)) → IsStrictlySortedBy nat_cmp (numbers es)
+      → ((n : ℕ) (x : X) → at es n ≡ Some x → P (n, x)) → AllByRecursion P es
   all_found P [] rising each = tt
   all_found P (e ∷ es) rising each = (
     each e.0 e.1 (at_head e.0 e.1 es),
@@ -80,7 +83,8 @@ module _ {X : Type 0} where
   pub put_same : (es : List (ℕ × X)) (n : ℕ) (x : X) → at (insert_entry nat_cmp es n x) n ≡ Some x
   put_same [] n x = at_head n x []
   put_same (e ∷ es) n x =
-      elim (nat_cmp n e.0) as (λ o. nat_cmp n e.0 ≡ o → at (match_ordering o ((n, x) ∷ e ∷ es) ((e.0, x) ∷ es) (e ∷ insert_entry nat_cmp es n x)) n ≡ Some x) [
+      elim (nat_cmp n e.0) as (λ o. nat_cmp n e.0 ≡ o
+      → at (match_ordering o ((n, x) ∷ e ∷ es) ((e.0, x) ∷ es) (e ∷ insert_entry nat_cmp es n x)) n ≡ Some x) [
         | Less ↦ λ is. at_head n x (e ∷ es)
         | Equal ↦ λ is. ap (λ o. cond (is_eq o) (Some x) (at es n)) is
         | Greater ↦ λ is. ap (λ o. cond (is_eq o) (Some e.1) (at (insert_entry nat_cmp es n x) n)) is ∙ put_same es n x
@@ -89,7 +93,8 @@ module _ {X : Type 0} where
   pub put_else : (es : List (ℕ × X)) (n : ℕ) (x : X) (m : ℕ) → m ≢ n → at (insert_entry nat_cmp es n x) m ≡ at es m
   put_else [] n x m other = behind_head m n x [] other
   put_else (e ∷ es) n x m other =
-      elim (nat_cmp n e.0) as (λ o. nat_cmp n e.0 ≡ o → at (match_ordering o ((n, x) ∷ e ∷ es) ((e.0, x) ∷ es) (e ∷ insert_entry nat_cmp es n x)) m ≡ at (e ∷ es) m) [
+      elim (nat_cmp n e.0) as (λ o. nat_cmp n e.0 ≡ o
+      → at (match_ordering o ((n, x) ∷ e ∷ es) ((e.0, x) ∷ es) (e ∷ insert_entry nat_cmp es n x)) m ≡ at (e ∷ es) m) [
         | Less ↦ λ is. behind_head m n x (e ∷ es) other
         | Equal ↦ λ is.
             let apart : m ≢ e.0 = λ same. other (same ∙ sym (is_same n e.0 (ap is_eq is))) in
@@ -98,10 +103,12 @@ module _ {X : Type 0} where
       ] refl
 
   -- what holds of each holds after one entry more
-  pub all_put : (P : ℕ × X → Type 0) (n : ℕ) (x : X) (es : List (ℕ × X)) → P (n, x) → AllByRecursion P es → AllByRecursion P (insert_entry nat_cmp es n x)
+  pub all_put : (P : ℕ × X → Type 0) (n : ℕ) (x : X) (es : List (ℕ × X)) → P (n, x) → AllByRecursion P es
+      → AllByRecursion P (insert_entry nat_cmp es n x)
   all_put P n x [] new all = (new, tt)
   all_put P n x (e ∷ es) new all =
-      elim (nat_cmp n e.0) as (λ o. nat_cmp n e.0 ≡ o → AllByRecursion P (match_ordering o ((n, x) ∷ e ∷ es) ((e.0, x) ∷ es) (e ∷ insert_entry nat_cmp es n x))) [
+      elim (nat_cmp n e.0) as (λ o. nat_cmp n e.0 ≡ o
+      → AllByRecursion P (match_ordering o ((n, x) ∷ e ∷ es) ((e.0, x) ∷ es) (e ∷ insert_entry nat_cmp es n x))) [
         | Less ↦ λ is. (new, all)
         | Equal ↦ λ is. (subst (λ m. P (m, x)) (is_same n e.0 (ap is_eq is)) new, all.1)
         | Greater ↦ λ is. (all.0, all_put P n x es new all.1)

@@ -11,10 +11,12 @@ use Rattle.query_checks.specs.Checks.{Checked}
 use Rattle.origin_prefix.specs.Parts.{Batches, Part, IsEarly, IsPartOf}
 use Rattle.origin_prefix.specs.Lemmas.ByNumber.{numbers}
 
-above_next : (ks : List Kind) (prefix : ℕ) (batches : Batches) → AllByRecursion (IsEarly ks prefix) batches → AllByRecursion (λ m. nat_cmp (prefix + 1) m ≡ Less) (numbers batches)
+above_next : (ks : List Kind) (prefix : ℕ) (batches : Batches) → AllByRecursion (IsEarly ks prefix) batches
+    → AllByRecursion (λ m. nat_cmp (prefix + 1) m ≡ Less) (numbers batches)
 above_next ks prefix [] all = tt
 above_next ks prefix (b ∷ batches) all = (less (prefix + 1) b.0 all.0.behind, above_next ks prefix batches all.1)
 
-pub next_rising : (query : Checked) (part : Part) (rows : List (List ℕ)) → IsPartOf query part → IsStrictlySortedBy nat_cmp (numbers ((part.prefix + 1, rows) ∷ part.early))
+pub next_rising : (query : Checked) (part : Part) (rows : List (List ℕ)) → IsPartOf query part
+    → IsStrictlySortedBy nat_cmp (numbers ((part.prefix + 1, rows) ∷ part.early))
 unfolding IsStrictlySortedBy
 next_rising query part rows is = (above_next (kinds query.columns) part.prefix part.early is.early, is.rising)

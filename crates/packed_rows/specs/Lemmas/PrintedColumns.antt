@@ -9,19 +9,22 @@ use Rattle.grouping_model.specs.Datum.{Kind, Bigint_kind, Boolean_kind, Text_kin
 use Rattle.std.specs.List.{AllByRecursion}
 use Rattle.query_tokens.specs.declared.word.Symbol.TheVariants.{Comma}
 use Rattle.query_tokens.specs.Words.{Name, Sign}
-use Rattle.packed_rows.specs.Columns.{Column, names, IsColumnName, AreColumns, kind_text, Describes, IsSchemaText, column_text, printed, kind_named}
+use Rattle.packed_rows.specs.Columns.{Column, names, IsColumnName, AreColumns, kind_text, Describes, IsSchemaText, column_text, printed}
+use Rattle.packed_rows.specs.Columns.{kind_named}
 use Rattle.packed_rows.specs.PrintedLaws.{read_ok}
 
 -- a schema's text in pieces
 pieces_of : List Column → List Piece
 pieces_of [] = []
 pieces_of (c ∷ []) = Spelled (Name c.name) ∷ Space ∷ Spelled (Name (kind_text c.kind)) ∷ []
-pieces_of (c ∷ d ∷ cs) = Spelled (Name c.name) ∷ Space ∷ Spelled (Name (kind_text c.kind)) ∷ Spelled (Sign Comma) ∷ Space ∷ pieces_of (d ∷ cs)
+pieces_of (c ∷ d ∷ cs) = Spelled (Name c.name) ∷ Space ∷ Spelled (Name (kind_text c.kind)) ∷ Spelled (Sign Comma) ∷ Space
+    ∷ pieces_of (d ∷ cs)
 
 printed-is : (cs : List Column) → printed cs ≡ text_of (pieces_of cs)
 unfolding pieces_of
 printed-is [] = refl
-printed-is (c ∷ []) = append_assoc c.name (codes " ") (kind_text c.kind) ∙ ap (λ (w : List ℕ). c.name ++ (32 ∷ w)) (sym (append-nil (kind_text c.kind)))
+printed-is (c ∷ []) = append_assoc c.name (codes " ") (kind_text c.kind)
+    ∙ ap (λ (w : List ℕ). c.name ++ (32 ∷ w)) (sym (append-nil (kind_text c.kind)))
 printed-is (c ∷ d ∷ cs) =
     append_assoc (column_text c) (codes ", ") (printed (d ∷ cs))
     ∙ append_assoc (c.name ++ codes " ") (kind_text c.kind) (44 ∷ 32 ∷ printed (d ∷ cs))
@@ -56,7 +59,8 @@ described_all (c ∷ cs) are = described c cs
 
 pub printed_again : (cs : List Column) → AreColumns cs → IsSchemaText (printed cs) cs
 printed_again cs are =
-    let read = read_ok (tokens_in (text_of (pieces_of cs))) (lexemes_in (pieces_of cs)) (pieces_again 0 (pieces_of cs) (apart cs are.named)) in
+    let read = read_ok (tokens_in (text_of (pieces_of cs))) (lexemes_in (pieces_of cs)) (pieces_again 0 (pieces_of cs) (apart cs are.named))
+    in
     record {
       tokens = read.0;
       read = ap tokens_in (printed-is cs) ∙ read.1;

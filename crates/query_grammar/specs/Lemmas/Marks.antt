@@ -18,7 +18,8 @@ the_word w t h = absurd (false≢true h)
 numbered : ℕ → Symbol
 numbered number =
     slice_index_or
-    (symbols.Open ∷ symbols.Close ∷ symbols.Comma ∷ symbols.Star ∷ symbols.Semicolon ∷ symbols.Equal ∷ symbols.Unequal ∷ symbols.Less ∷ symbols.AtMost ∷ symbols.More ∷ symbols.AtLeast ∷ [])
+    (symbols.Open ∷ symbols.Close ∷ symbols.Comma ∷ symbols.Star ∷ symbols.Semicolon ∷ symbols.Equal ∷ symbols.Unequal ∷ symbols.Less
+    ∷ symbols.AtMost ∷ symbols.More ∷ symbols.AtLeast ∷ [])
     number symbols.Open
 
 numbered_back : (s : Symbol) → numbered (symbol_number s) ≡ s
@@ -27,5 +28,6 @@ numbered_back symbols.Open = refl
 numbered_back s = refl
 
 pub the_sign : (s : Symbol) (t : Lexeme) → is_sign s t ≡ true → t ≡ Sign s
-the_sign s (Sign u) h = ap (λ (x : Symbol). Sign x) (sym (numbered_back u) ∙ ap numbered (eqb-true (symbol_number u) (symbol_number s) h) ∙ numbered_back s)
+the_sign s (Sign u) h = ap (λ (x : Symbol). Sign x) (sym (numbered_back u) ∙ ap numbered (eqb-true (symbol_number u) (symbol_number s) h)
+    ∙ numbered_back s)
 the_sign s t h = absurd (false≢true h)

@@ -31,7 +31,12 @@ spelled q is =
     let first = passes_first q.columns w q is.passed in
     let fits = subst (λ (a : Asked). AllByRecursion IsTerm a.terms) (sym (is_canonical q is.passed)) is.writable.terms in
     let says = text_says w is.writable.written first.shallow fits in
-    record { tokens = says.tokens; read = says.read; is_query = subst (IsQuery most_open (lexemes_of says.tokens)) (is_canonical q is.passed) says.is_query }
+    record {
+      tokens = says.tokens;
+      read = says.read;
+      is_query = subst (IsQuery most_open (lexemes_of says.tokens))
+          (is_canonical q is.passed) says.is_query;
+    }
 
 ok_is : {T E : Type 0} (x y : T) → ◌≡◌ {A = Result T E} (Ok x) (Ok y) → x ≡ y
 ok_is {T} {E} x y e = ap taken e
@@ -40,12 +45,15 @@ ok_is {T} {E} x y e = ap taken e
     taken (Ok z) = z
     taken (Err z) = x
 
-pub one_text : (q r : Checked) → kept.IsCheckedQuery q → kept.IsCheckedQuery r → printed q.columns ≡ printed r.columns → spelling (by_names q) ≡ spelling (by_names r) → q ≡ r
+pub one_text : (q r : Checked) → kept.IsCheckedQuery q → kept.IsCheckedQuery r → printed q.columns ≡ printed r.columns
+    → spelling (by_names q) ≡ spelling (by_names r) → q ≡ r
 one_text q r is_q is_r schemas texts =
     let one = spelled q is_q in
     let two = spelled r is_r in
-    let columns : q.columns ≡ r.columns = one_schema (printed q.columns) q.columns r.columns (printed_again q.columns is_q.columns_are) (subst (λ t. IsSchemaText t r.columns) (sym schemas) (printed_again r.columns is_r.columns_are)) in
+    let columns : q.columns ≡ r.columns = one_schema (printed q.columns) q.columns r.columns (printed_again q.columns is_q.columns_are)
+    (subst (λ t. IsSchemaText t r.columns) (sym schemas) (printed_again r.columns is_r.columns_are)) in
     let tokens : one.tokens ≡ two.tokens = ok_is one.tokens two.tokens (sym one.read ∙ ap tokens_in texts ∙ two.read) in
     let written : by_names q ≡ by_names r =
-    one_query most_open (lexemes_of two.tokens) (by_names q) (by_names r) (subst (λ ts. IsQuery most_open (lexemes_of ts) (by_names q)) tokens one.is_query) two.is_query in
+    one_query most_open (lexemes_of two.tokens) (by_names q) (by_names r) (subst (λ ts. IsQuery most_open (lexemes_of ts) (by_names q))
+    tokens one.is_query) two.is_query in
     ok_is q r (sym is_q.passed ∙ (λ i. checked (columns i) (written i)) ∙ is_r.passed)

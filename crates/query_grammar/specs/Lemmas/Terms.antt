@@ -1,7 +1,9 @@
 -- What is read as a term of ORDER BY is in the grammar and the other way round, and it is read alike before two tails.
 use Rattle.std.proofs.Common.{◌≡◌, ℕ, Bool, true, false, cond, List, [], ◌∷◌, ◌++◌, Option, Some, None, Ok, refl, append_assoc, arith}
 use Rattle.std.specs.Prelude.{codes}
-use Rattle.query_grammar.specs.Lemmas.Words.{Lexeme, Name, Integer, Text, Sign, is_reserved, Target, By_name, By_place, Term, is_word, word, IsTarget, IsDirection, IsNulls, Read, unexpected, after, choose, target_at, direction_at, first_or_last, nulls_at, term_at}
+use Rattle.query_grammar.specs.Lemmas.Words.{Lexeme, Name, Integer, Text, Sign, is_reserved, Target, By_name, By_place, Term, is_word, word}
+use Rattle.query_grammar.specs.Lemmas.Words.{IsTarget, IsDirection, IsNulls, Read, unexpected, after, choose, target_at, direction_at}
+use Rattle.query_grammar.specs.Lemmas.Words.{first_or_last, nulls_at, term_at}
 use Rattle.query_grammar.specs.Queries as grammar
 use Rattle.query_grammar.specs.Queries.{IsTerm}
 use Rattle.query_grammar.specs.Reading.{◌>>=◌}
@@ -29,24 +31,29 @@ Term_part = λ b ts x. IsTerm ts x
 a_target : (b : Bool) → CanBecome (Target_part b) []
 a_target b = (Name (codes "a") ∷ [], By_name (codes "a"), grammar.by_name a_name)
 
-free_target : (b : Bool) (w : List ℕ) (ts : List Lexeme) → is_reserved w ≡ b → Means Target_part (Name w ∷ ts) (cond b (unexpected (Name w ∷ ts)) (Ok (By_name w, ts)))
+free_target : (b : Bool) (w : List ℕ) (ts : List Lexeme) → is_reserved w ≡ b
+    → Means Target_part (Name w ∷ ts) (cond b (unexpected (Name w ∷ ts)) (Ok (By_name w, ts)))
 free_target true w ts e = refused Target_part (Name w ∷ ts) a_target
-free_target false w ts e = widen Target_part (Name w ∷ []) ts (Name w ∷ ts) (Ok (By_name w, ts)) refl (done (λ b u x. IsTarget (Name w ∷ u) x) ts (By_name w) (λ b. grammar.by_name e))
+free_target false w ts e = widen Target_part (Name w ∷ []) ts (Name w ∷ ts) (Ok (By_name w, ts)) refl
+    (done (λ b u x. IsTarget (Name w ∷ u) x) ts (By_name w) (λ b. grammar.by_name e))
 
 target_means : (ts : List Lexeme) → Means Target_part ts (target_at ts)
 unfolding target_at
 target_means [] = refused Target_part [] a_target
 target_means (Name w ∷ ts) = free_target (is_reserved w) w ts refl
-target_means (Integer z ∷ ts) = widen Target_part (Integer z ∷ []) ts (Integer z ∷ ts) (Ok (By_place z, ts)) refl (done (λ b u x. IsTarget (Integer z ∷ u) x) ts (By_place z) (λ b. grammar.by_place))
+target_means (Integer z ∷ ts) = widen Target_part (Integer z ∷ []) ts (Integer z ∷ ts) (Ok (By_place z, ts)) refl
+    (done (λ b u x. IsTarget (Integer z ∷ u) x) ts (By_place z) (λ b. grammar.by_place))
 target_means (Text s ∷ ts) = refused Target_part (Text s ∷ ts) a_target
 target_means (Sign s ∷ ts) = refused Target_part (Sign s ∷ ts) a_target
 
 direction_means : (ts : List Lexeme) → Means Direction_part ts (direction_at ts)
 unfolding direction_at
 direction_means ts =
-    chosen Direction_part (word (codes "desc")) (is_word (codes "desc")) (word_law (codes "desc")) ts (λ rest. Ok (true, rest)) (choose (after (is_word (codes "asc")) ts) (λ rest. Ok (false, rest)) (Ok (false, ts)))
+    chosen Direction_part (word (codes "desc")) (is_word (codes "desc")) (word_law (codes "desc")) ts (λ rest. Ok (true, rest))
+    (choose (after (is_word (codes "asc")) ts) (λ rest. Ok (false, rest)) (Ok (false, ts)))
     (λ rest. done (λ b u x. IsDirection (word (codes "desc") ∷ u) x) rest true (λ b. grammar.descending))
-    (chosen Direction_part (word (codes "asc")) (is_word (codes "asc")) (word_law (codes "asc")) ts (λ rest. Ok (false, rest)) (Ok (false, ts))
+    (chosen Direction_part (word (codes "asc")) (is_word (codes "asc")) (word_law (codes "asc")) ts (λ rest. Ok (false, rest))
+    (Ok (false, ts))
     (λ rest. done (λ b u x. IsDirection (word (codes "asc") ∷ u) x) rest false (λ b. grammar.ascending))
     (done Direction_part ts false (λ b. grammar.no_direction)))
 
@@ -56,15 +63,18 @@ Behind_nulls = λ b u x. IsNulls (word (codes "nulls") ∷ u) x
 first_means : (ts : List Lexeme) → Means Behind_nulls ts (first_or_last ts)
 unfolding first_or_last
 first_means ts =
-    chosen Behind_nulls (word (codes "first")) (is_word (codes "first")) (word_law (codes "first")) ts (λ rest. Ok (Some true, rest)) (choose (after (is_word (codes "last")) ts) (λ rest. Ok (Some false, rest)) (unexpected ts))
+    chosen Behind_nulls (word (codes "first")) (is_word (codes "first")) (word_law (codes "first")) ts (λ rest. Ok (Some true, rest))
+    (choose (after (is_word (codes "last")) ts) (λ rest. Ok (Some false, rest)) (unexpected ts))
     (λ rest. done (λ b u x. IsNulls (word (codes "nulls") ∷ word (codes "first") ∷ u) x) rest (Some true) (λ b. grammar.first))
-    (chosen Behind_nulls (word (codes "last")) (is_word (codes "last")) (word_law (codes "last")) ts (λ rest. Ok (Some false, rest)) (unexpected ts)
+    (chosen Behind_nulls (word (codes "last")) (is_word (codes "last")) (word_law (codes "last")) ts (λ rest. Ok (Some false, rest))
+    (unexpected ts)
     (λ rest. done (λ b u x. IsNulls (word (codes "nulls") ∷ word (codes "last") ∷ u) x) rest (Some false) (λ b. grammar.last_))
     (refused Behind_nulls ts (λ b. (word (codes "first") ∷ [], Some true, grammar.first))))
 
 nulls_means : (ts : List Lexeme) → Means Nulls_part ts (nulls_at ts)
 unfolding nulls_at
-nulls_means ts = chosen Nulls_part (word (codes "nulls")) (is_word (codes "nulls")) (word_law (codes "nulls")) ts first_or_last (Ok (None, ts)) first_means (done Nulls_part ts None (λ b. grammar.no_nulls))
+nulls_means ts = chosen Nulls_part (word (codes "nulls")) (is_word (codes "nulls")) (word_law (codes "nulls")) ts first_or_last
+    (Ok (None, ts)) first_means (done Nulls_part ts None (λ b. grammar.no_nulls))
 
 abbrev made : Target → Bool → Option Bool → Term
 made target descending nulls_first = record { target = target; descending = descending; nulls_first = nulls_first }
@@ -72,9 +82,12 @@ made target descending nulls_first = record { target = target; descending = desc
 pub term_means : (ts : List Lexeme) → Means Term_part ts (term_at ts)
 unfolding term_at
 term_means ts =
-    bind Target_part Term_part ts (target_at ts) (λ target. direction_at target.1 >>= λ direction. nulls_at direction.1 >>= λ nulls. Ok (made target.0 direction.0 nulls.0, nulls.1)) (target_means ts)
-    (λ us rest target p. bind Direction_part (behind us Term_part) rest (direction_at rest) (λ direction. nulls_at direction.1 >>= λ nulls. Ok (made target direction.0 nulls.0, nulls.1)) (direction_means rest)
-    (λ ds rest2 direction q. mapped Nulls_part (λ b u x. IsTerm (us ++ (ds ++ u)) x) rest2 (nulls_at rest2) (λ nulls. made target direction nulls) (nulls_means rest2) (λ b ns nulls r. grammar.term us ds ns (p b) (q b) r))
+    bind Target_part Term_part ts (target_at ts) (λ target. direction_at target.1 >>= λ direction. nulls_at direction.1 >>= λ nulls. Ok
+    (made target.0 direction.0 nulls.0, nulls.1)) (target_means ts)
+    (λ us rest target p. bind Direction_part (behind us Term_part) rest (direction_at rest)
+    (λ direction. nulls_at direction.1 >>= λ nulls. Ok (made target direction.0 nulls.0, nulls.1)) (direction_means rest)
+    (λ ds rest2 direction q. mapped Nulls_part (λ b u x. IsTerm (us ++ (ds ++ u)) x) rest2 (nulls_at rest2)
+    (λ nulls. made target direction nulls) (nulls_means rest2) (λ b ns nulls r. grammar.term us ds ns (p b) (q b) r))
     (λ b ds direction q. ([], made target direction None, grammar.term us ds [] (p b) q grammar.no_nulls)))
     (λ b us target p. ([], made target false None, grammar.term us [] [] p grammar.no_direction grammar.no_nulls))
 
@@ -91,7 +104,8 @@ pub record Closes (rest : List Lexeme) : Type 0 where
   pub no_asc : after (is_word (codes "asc")) rest ≡ None
   pub no_nulls : after (is_word (codes "nulls")) rest ≡ None
 
-direction_reads : (ds : List Lexeme) (x : Bool) → IsDirection ds x → (rest : List Lexeme) → after (is_word (codes "desc")) rest ≡ None → after (is_word (codes "asc")) rest ≡ None → direction_at (ds ++ rest) ≡ Ok (x, rest)
+direction_reads : (ds : List Lexeme) (x : Bool) → IsDirection ds x → (rest : List Lexeme) → after (is_word (codes "desc")) rest ≡ None
+    → after (is_word (codes "asc")) rest ≡ None → direction_at (ds ++ rest) ≡ Ok (x, rest)
 unfolding direction_at
 direction_reads _ _ grammar.no_direction rest no_desc no_asc = rw (no_desc, no_asc) refl
 direction_reads _ _ grammar.ascending rest no_desc no_asc = refl
@@ -103,7 +117,8 @@ nulls_read _ _ grammar.no_nulls rest h = rw h.no_nulls refl
 nulls_read _ _ grammar.first rest h = refl
 nulls_read _ _ grammar.last_ rest h = refl
 
-before_nulls : (ns : List Lexeme) (x : Option Bool) → IsNulls ns x → (rest : List Lexeme) → Closes rest → (after (is_word (codes "desc")) (ns ++ rest) ≡ None) × (after (is_word (codes "asc")) (ns ++ rest) ≡ None)
+before_nulls : (ns : List Lexeme) (x : Option Bool) → IsNulls ns x → (rest : List Lexeme) → Closes rest
+    → (after (is_word (codes "desc")) (ns ++ rest) ≡ None) × (after (is_word (codes "asc")) (ns ++ rest) ≡ None)
 before_nulls _ _ grammar.no_nulls rest h = (h.no_desc, h.no_asc)
 before_nulls _ _ grammar.first rest h = (refl, refl)
 before_nulls _ _ grammar.last_ rest h = (refl, refl)
@@ -112,20 +127,31 @@ pub term_reads : (ts : List Lexeme) (x : Term) → IsTerm ts x → (rest : List 
 unfolding term_at
 term_reads _ _ (grammar.term {target = target} {descending = descending} {nulls_first = nulls} ts ds ns p q r) rest h =
     let apart = before_nulls ns nulls r rest h in
-    rw (append_assoc ts (ds ++ ns) rest, target_reads ts target p ((ds ++ ns) ++ rest), append_assoc ds ns rest, direction_reads ds descending q (ns ++ rest) apart.0 apart.1, nulls_read ns nulls r rest h) refl
+    rw (
+      append_assoc ts (ds ++ ns) rest,
+      target_reads ts target p ((ds ++ ns) ++ rest),
+      append_assoc ds ns rest,
+      direction_reads ds
+          descending q (ns ++ rest) apart.0 apart.1,
+      nulls_read ns nulls r rest h,
+    ) refl
 
 -- ---- a term is read alike before two tails
 
-target_in : (d : Bool) (one two us : List Lexeme) (b : Bool) (w : List ℕ) → Alike d one two (cond b (unexpected (Name w ∷ (us ++ one))) (Ok (By_name w, us ++ one))) (cond b (unexpected (Name w ∷ (us ++ two))) (Ok (By_name w, us ++ two)))
+target_in : (d : Bool) (one two us : List Lexeme) (b : Bool) (w : List ℕ)
+    → Alike d one two (cond b (unexpected (Name w ∷ (us ++ one))) (Ok (By_name w, us ++ one)))
+    (cond b (unexpected (Name w ∷ (us ++ two))) (Ok (By_name w, us ++ two)))
 target_in d one two us true w = alike.refused (Name w ∷ us)
 target_in d one two us false w = same (By_name w) us
 
 target_past : (d : Bool) (rest more : List Lexeme) (b : Bool) (w : List ℕ)
-    → Alike d (Name w ∷ rest) (Name w ∷ more) (cond b (unexpected (Name w ∷ rest)) (Ok (By_name w, rest))) (cond b (unexpected (Name w ∷ more)) (Ok (By_name w, more)))
+    → Alike d (Name w ∷ rest) (Name w ∷ more) (cond b (unexpected (Name w ∷ rest)) (Ok (By_name w, rest)))
+    (cond b (unexpected (Name w ∷ more)) (Ok (By_name w, more)))
 target_past d rest more true w = alike.refused []
 target_past d rest more false w = past (Ok (By_name w, rest)) (Ok (By_name w, more)) (omega arith)
 
-target_alike : (d : Bool) (one two : List Lexeme) → Tails one two → (u : List Lexeme) → Alike d one two (target_at (u ++ one)) (target_at (u ++ two))
+target_alike : (d : Bool) (one two : List Lexeme) → Tails one two → (u : List Lexeme)
+    → Alike d one two (target_at (u ++ one)) (target_at (u ++ two))
 unfolding target_at
 target_alike d one two tails (Name w ∷ us) = target_in d one two us (is_reserved w) w
 target_alike d one two tails (Integer z ∷ us) = same (By_place z) us
@@ -147,27 +173,37 @@ targets_agree d one two tails most = record {
 directions_agree : (d : Bool) (one two : List Lexeme) (tails : Tails one two) (most : ℕ) → Agree d one two most direction_at direction_at
 unfolding direction_at
 directions_agree d one two tails most =
-    let behind_desc : List Lexeme → Read Bool = λ ts. choose (after (is_word (codes "asc")) ts) (λ rest. Ok (false, rest)) (Ok (false, ts)) in
-    chooses d one two tails most (is_word (codes "desc")) (λ rest. Ok (true, rest)) (λ rest. Ok (true, rest)) behind_desc behind_desc (alike.done d one two most true)
-    (chooses d one two tails most (is_word (codes "asc")) (λ rest. Ok (false, rest)) (λ rest. Ok (false, rest)) (λ ts. Ok (false, ts)) (λ ts. Ok (false, ts)) (alike.done d one two most false) (alike.done d one two most false))
+    let behind_desc : List Lexeme → Read Bool = λ ts. choose (after (is_word (codes "asc")) ts) (λ rest. Ok (false, rest)) (Ok (false, ts))
+    in
+    chooses d one two tails most (is_word (codes "desc")) (λ rest. Ok (true, rest)) (λ rest. Ok (true, rest)) behind_desc behind_desc
+    (alike.done d one two most true)
+    (chooses d one two tails most (is_word (codes "asc")) (λ rest. Ok (false, rest)) (λ rest. Ok (false, rest)) (λ ts. Ok (false, ts))
+    (λ ts. Ok (false, ts)) (alike.done d one two most false) (alike.done d one two most false))
 
 firsts_agree : (d : Bool) (one two : List Lexeme) (tails : Tails one two) (most : ℕ) → Agree d one two most first_or_last first_or_last
 unfolding first_or_last
 firsts_agree d one two tails most =
-    let behind_first : List Lexeme → Read (Option Bool) = λ ts. choose (after (is_word (codes "last")) ts) (λ rest. Ok (Some false, rest)) (unexpected ts) in
-    chooses d one two tails most (is_word (codes "first")) (λ rest. Ok (Some true, rest)) (λ rest. Ok (Some true, rest)) behind_first behind_first (alike.done d one two most (Some true))
-    (chooses d one two tails most (is_word (codes "last")) (λ rest. Ok (Some false, rest)) (λ rest. Ok (Some false, rest)) unexpected unexpected (alike.done d one two most (Some false)) (refuses d one two most))
+    let behind_first : List Lexeme → Read (Option Bool) = λ ts. choose (after (is_word (codes "last")) ts) (λ rest. Ok (Some false, rest))
+    (unexpected ts) in
+    chooses d one two tails most (is_word (codes "first")) (λ rest. Ok (Some true, rest)) (λ rest. Ok (Some true, rest)) behind_first
+    behind_first (alike.done d one two most (Some true))
+    (chooses d one two tails most (is_word (codes "last")) (λ rest. Ok (Some false, rest)) (λ rest. Ok (Some false, rest)) unexpected
+    unexpected (alike.done d one two most (Some false)) (refuses d one two most))
 
 nulls_agree : (d : Bool) (one two : List Lexeme) (tails : Tails one two) (most : ℕ) → Agree d one two most nulls_at nulls_at
 unfolding nulls_at
 nulls_agree d one two tails most =
-    chooses d one two tails most (is_word (codes "nulls")) first_or_last first_or_last (λ ts. Ok (None, ts)) (λ ts. Ok (None, ts)) (firsts_agree d one two tails most) (alike.done d one two most None)
+    chooses d one two tails most (is_word (codes "nulls")) first_or_last first_or_last (λ ts. Ok (None, ts)) (λ ts. Ok (None, ts))
+    (firsts_agree d one two tails most) (alike.done d one two most None)
 
 pub terms_agree : (d : Bool) (one two : List Lexeme) (tails : Tails one two) (most : ℕ) → Agree d one two most term_at term_at
 unfolding term_at
 terms_agree d one two tails most =
-    let with_direction : Target → Bool → List Lexeme → Read Term = λ target direction ts. nulls_at ts >>= λ nulls. Ok (made target direction nulls.0, nulls.1) in
-    let with_target : Target → List Lexeme → Read Term = λ target ts. direction_at ts >>= λ direction. with_direction target direction.0 direction.1 in
+    let with_direction : Target → Bool → List Lexeme → Read Term = λ target direction ts. nulls_at ts >>= λ nulls. Ok
+    (made target direction nulls.0, nulls.1) in
+    let with_target : Target → List Lexeme → Read Term = λ target ts. direction_at ts >>= λ direction. with_direction target direction.0
+    direction.1 in
     binds d one two most target_at target_at with_target with_target (targets_agree d one two tails most)
-    (λ target. binds d one two most direction_at direction_at (with_direction target) (with_direction target) (directions_agree d one two tails most)
+    (λ target. binds d one two most direction_at direction_at (with_direction target) (with_direction target)
+    (directions_agree d one two tails most)
     (λ direction. maps d one two most nulls_at nulls_at (made target direction) (nulls_agree d one two tails most)))

@@ -1,5 +1,6 @@
 -- A spelled lexeme is read again.
-use Rattle.std.proofs.Common.{◌≡◌, ℕ, suc, ◌+◌, ◌<◌, ◌^◌, Bool, true, false, cond, List, [], ◌∷◌, ◌++◌, length, Some, Ok, refl, ◌∙◌, append_assoc, arith}
+use Rattle.std.proofs.Common.{◌≡◌, ℕ, suc, ◌+◌, ◌<◌, ◌^◌, Bool, true, false, cond, List, [], ◌∷◌, ◌++◌, length, Some, Ok, refl, ◌∙◌}
+use Rattle.std.proofs.Common.{append_assoc, arith}
 use Rattle.std.specs.Prelude.{ℤ, pos, negsuc, FitsSigned, Contains, ◌==◌, ◌&&◌, ◌||◌}
 use Rattle.std.specs.Int.{w64}
 use Rattle.std.specs.Char.{is_ascii_digit}
@@ -9,7 +10,7 @@ use Rattle.std.specs.Fmt.{decimal}
 use Rattle.std.proofs.Math.Seq.{take-append_seam, drop-append_seam}
 use Rattle.std.proofs.lemmas.Bool.{le-ltb, le-leb, lt-ltb, eqb-true, or_parts}
 use Rattle.std.proofs.lemmas.Fmt.{digits_decimal, digits_value-decimal, decimal_nonempty}
-use Rattle.grouping_model.specs.declared.limits.TheConstants.{LONGEST_NAME}
+use Rattle.grouping_model.specs.declared.limits.TheConstants.{MAX_NAME_LEN}
 use Rattle.query_tokens.specs.declared.word.Symbol.{Symbol}
 use Rattle.query_tokens.specs.declared.word.Symbol.TheVariants as symbols
 use Rattle.query_tokens.specs.Words.{Lexeme, Name, Integer, Text, Sign}
@@ -32,14 +33,23 @@ run_step false u m n h k = absurd cc
 
 pub run_length : (p : ℕ → Bool) (xs rest : List ℕ) → list_all p xs ≡ true → first_is p rest ≡ false → prefix_len p (xs ++ rest) ≡ length xs
 run_length p [] rest passes stops = run_first p rest stops
-run_length p (x ∷ xs) rest passes stops = run_step (p x) (list_all p xs) (prefix_len p (xs ++ rest)) (length xs) passes (λ h. run_length p xs rest h stops)
+run_length p (x ∷ xs) rest passes stops = run_step (p x) (list_all p xs) (prefix_len p (xs ++ rest)) (length xs) passes
+    (λ h. run_length p xs rest h stops)
 
-name_read : (at : ℕ) (name rest : List ℕ) → IsName name → first_is is_in_name rest ≡ false → name_at at (name ++ rest) ≡ Ok (Name name, rest)
+name_read : (at : ℕ) (name rest : List ℕ) → IsName name → first_is is_in_name rest ≡ false → name_at at (name ++ rest)
+    ≡ Ok (Name name, rest)
 unfolding name_at
 name_read at name rest legal ends =
-    rw (run_length is_in_name name rest legal.continues ends, le-ltb LONGEST_NAME (length name) legal.within, take-append_seam name rest, drop-append_seam name rest, legal.lower) refl
+    rw (
+      run_length is_in_name name rest legal.continues ends,
+      le-ltb MAX_NAME_LEN (length name) legal.within,
+      take-append_seam name rest,
+      drop-append_seam name rest,
+      legal.lower,
+    ) refl
 
-name_again : (at : ℕ) (name rest : List ℕ) → IsName name → first_is is_in_name rest ≡ false → word_at at (name ++ rest) ≡ Ok (Name name, rest)
+name_again : (at : ℕ) (name rest : List ℕ) → IsName name → first_is is_in_name rest ≡ false → word_at at (name ++ rest)
+    ≡ Ok (Name name, rest)
 unfolding word_at
 name_again at [] rest legal ends = let clash : false ≡ true = legal.begins in absurd cc
 name_again at (b ∷ bs) rest legal ends = rw legal.begins (name_read at (b ∷ bs) rest legal ends)
@@ -57,11 +67,21 @@ not_beginning : (rest : List ℕ) → first_is is_in_name rest ≡ false → fir
 not_beginning [] h = refl
 not_beginning (b ∷ bs) h = grind (arith, h)
 
-digits_read : (at : ℕ) (negative : Bool) (n : ℕ) (z : ℤ) (rest : List ℕ) → n < 2 ^ 64 → integer_of negative n ≡ Some z → first_is is_in_name rest ≡ false → integer_at at negative (decimal n ++ rest) ≡ Ok (Integer z, rest)
+digits_read : (at : ℕ) (negative : Bool) (n : ℕ) (z : ℤ) (rest : List ℕ) → n < 2 ^ 64 → integer_of negative n ≡ Some z
+    → first_is is_in_name rest ≡ false → integer_at at negative (decimal n ++ rest) ≡ Ok (Integer z, rest)
 unfolding integer_at
 digits_read at negative n z rest small is ends =
-    let run : prefix_len is_ascii_digit (decimal n ++ rest) ≡ length (decimal n) = run_length is_ascii_digit (decimal n) rest (digits_all (decimal n) (digits_decimal own n small)) (not_digit rest ends) in
-    rw (run, drop-append_seam (decimal n) rest, not_beginning rest ends, take-append_seam (decimal n) rest, digits_value-decimal own n small, is) refl
+    let run : prefix_len is_ascii_digit (decimal n ++ rest) ≡ length (decimal n) = run_length is_ascii_digit (decimal n) rest
+    (digits_all (decimal n) (digits_decimal own n small)) (not_digit rest ends) in
+    rw (
+      run,
+      drop-append_seam (decimal n) rest,
+      not_beginning rest ends,
+      take-append_seam (decimal n) rest,
+      digits_value-decimal own n
+          small,
+      is,
+    ) refl
 
 -- digits begin with a digit
 pub record IsDigits (ds : List ℕ) : Type 0 where
@@ -88,33 +108,40 @@ unfolding word_at
 signed_word at [] rest h = absurd (omega (arith, h.some))
 signed_word at (d ∷ ds) rest h = rw (first_digit d ds h) refl
 
-integer_again : (at : ℕ) (z : ℤ) (rest : List ℕ) → FitsSigned w64 z → first_is is_in_name rest ≡ false → word_at at (spell (Integer z) ++ rest) ≡ Ok (Integer z, rest)
+integer_again : (at : ℕ) (z : ℤ) (rest : List ℕ) → FitsSigned w64 z → first_is is_in_name rest ≡ false
+    → word_at at (spell (Integer z) ++ rest) ≡ Ok (Integer z, rest)
 integer_again at (pos n) rest fits ends =
     let small : n < 2 ^ 63 = fits.sfits in
     let is : integer_of false n ≡ Some (pos n) = rw (lt-ltb n (2 ^ 63) small) refl in
-    unsigned_word at (decimal n) rest (decimal_digits n (omega (arith, small))) ∙ digits_read at false n (pos n) rest (omega (arith, small)) is ends
+    unsigned_word at (decimal n) rest (decimal_digits n (omega (arith, small))) ∙ digits_read at false n (pos n) rest (omega (arith, small))
+    is ends
 integer_again at (negsuc n) rest fits ends =
     let small : n < 2 ^ 63 = fits.sfits in
     let is : integer_of true (suc n) ≡ Some (negsuc n) = rw (le-leb (suc n) (2 ^ 63) (omega (arith, small))) refl in
-    signed_word at (decimal (suc n)) rest (decimal_digits (suc n) (omega (arith, small))) ∙ digits_read at true (suc n) (negsuc n) rest (omega (arith, small)) is ends
+    signed_word at (decimal (suc n)) rest (decimal_digits (suc n) (omega (arith, small)))
+    ∙ digits_read at true (suc n) (negsuc n) rest (omega (arith, small)) is ends
 
 closes : (rest : List ℕ) → first_is (λ b. b == 39) rest ≡ false → string_content true rest ≡ Some ([], rest)
 unfolding string_content
 closes [] h = refl
 closes (b ∷ bs) h = rw h refl
 
-quoted_step : (t : Bool) (b : ℕ) (text spelled rest : List ℕ) → (b == 39) ≡ t → string_content false spelled ≡ Some (text, rest) → string_content false (cond t (39 ∷ 39 ∷ []) (b ∷ []) ++ spelled) ≡ Some (b ∷ text, rest)
+quoted_step : (t : Bool) (b : ℕ) (text spelled rest : List ℕ) → (b == 39) ≡ t → string_content false spelled ≡ Some (text, rest)
+    → string_content false (cond t (39 ∷ 39 ∷ []) (b ∷ []) ++ spelled) ≡ Some (b ∷ text, rest)
 unfolding string_content
 quoted_step true b text spelled rest is h = let same : b ≡ 39 = eqb-true b 39 is in rw (h, same) refl
 quoted_step false b text spelled rest is h = rw (is, h) refl
 
-quoted_again : (text rest : List ℕ) → first_is (λ b. b == 39) rest ≡ false → string_content false (flat_map spell_byte text ++ 39 ∷ rest) ≡ Some (text, rest)
+quoted_again : (text rest : List ℕ) → first_is (λ b. b == 39) rest ≡ false → string_content false (flat_map spell_byte text ++ 39 ∷ rest)
+    ≡ Some (text, rest)
 unfolding string_content
 quoted_again [] rest ends = closes rest ends
 quoted_again (b ∷ text) rest ends =
-    rw (append_assoc (spell_byte b) (flat_map spell_byte text) (39 ∷ rest)) (quoted_step (b == 39) b text (flat_map spell_byte text ++ 39 ∷ rest) rest refl (quoted_again text rest ends))
+    rw (append_assoc (spell_byte b) (flat_map spell_byte text) (39 ∷ rest)) (quoted_step (b == 39) b text (flat_map spell_byte text ++ 39
+    ∷ rest) rest refl (quoted_again text rest ends))
 
-no_zero_step : (t : Bool) (b : ℕ) (text : List ℕ) → (b == 0) ≡ t → (Contains (b ∷ text) 0 → ⊥) → ((Contains text 0 → ⊥) → list_any (λ b. b == 0) text ≡ false) → (t || list_any (λ b. b == 0) text) ≡ false
+no_zero_step : (t : Bool) (b : ℕ) (text : List ℕ) → (b == 0) ≡ t → (Contains (b ∷ text) 0 → ⊥)
+    → ((Contains text 0 → ⊥) → list_any (λ b. b == 0) text ≡ false) → (t || list_any (λ b. b == 0) text) ≡ false
 no_zero_step true b text is h more = absurd (h (0, omega arith, eqb-true b 0 is))
 no_zero_step false b text is h more = more (λ c. h (suc c.0, omega (arith, c.1), c.2))
 
@@ -122,15 +149,23 @@ no_zero : (text : List ℕ) → (Contains text 0 → ⊥) → list_any (λ b. b 
 no_zero [] h = refl
 no_zero (b ∷ text) h = no_zero_step (b == 0) b text refl h (no_zero text)
 
-text_read : (at : ℕ) (text rest : List ℕ) → (Contains text 0 → ⊥) → first_is (λ b. b == 39) rest ≡ false → text_at at ((flat_map spell_byte text ++ 39 ∷ []) ++ rest) ≡ Ok (Text text, rest)
+text_read : (at : ℕ) (text rest : List ℕ) → (Contains text 0 → ⊥) → first_is (λ b. b == 39) rest ≡ false
+    → text_at at ((flat_map spell_byte text ++ 39 ∷ []) ++ rest) ≡ Ok (Text text, rest)
 unfolding text_at
-text_read at text rest legal ends = rw (append_assoc (flat_map spell_byte text) (39 ∷ []) rest, quoted_again text rest ends, no_zero text legal) refl
+text_read at text rest legal ends = rw (
+  append_assoc (flat_map spell_byte text) (39 ∷ []) rest,
+  quoted_again text rest ends,
+  no_zero text
+      legal,
+) refl
 
-text_again : (at : ℕ) (text rest : List ℕ) → (Contains text 0 → ⊥) → first_is (λ b. b == 39) rest ≡ false → word_at at (spell (Text text) ++ rest) ≡ Ok (Text text, rest)
+text_again : (at : ℕ) (text rest : List ℕ) → (Contains text 0 → ⊥) → first_is (λ b. b == 39) rest ≡ false
+    → word_at at (spell (Text text) ++ rest) ≡ Ok (Text text, rest)
 unfolding word_at
 text_again at text rest legal ends = text_read at text rest legal ends
 
-symbol_again : (at : ℕ) (symbol : Symbol) (rest : List ℕ) → EndsBefore (Sign symbol) rest → word_at at (spell_symbol symbol ++ rest) ≡ Ok (Sign symbol, rest)
+symbol_again : (at : ℕ) (symbol : Symbol) (rest : List ℕ) → EndsBefore (Sign symbol) rest → word_at at (spell_symbol symbol ++ rest)
+    ≡ Ok (Sign symbol, rest)
 unfolding word_at symbol_at symbol_of_one symbol_of_two
 symbol_again at symbols.Less [] ends = refl
 symbol_again at symbols.Less (b ∷ bs) ends = let no = or_parts (b == 61) (b == 62) ends in rw (no.0, no.1) refl

@@ -1,5 +1,6 @@
 -- The bytes of a token that was read are passed over, and what a reader leaves is an end of the bytes.
-use Rattle.std.proofs.Common.{◌≡◌, ℕ, zero, suc, ◌+◌, ◌-◌, ◌≤◌, Bool, true, false, cond, ltb, List, [], ◌∷◌, length, drop, take, map, Option, Some, None, Result, Ok, Err, refl, ap, ◌∙◌, arith}
+use Rattle.std.proofs.Common.{◌≡◌, ℕ, zero, suc, ◌+◌, ◌-◌, ◌≤◌, Bool, true, false, cond, ltb, List, [], ◌∷◌, length, drop, take, map}
+use Rattle.std.proofs.Common.{Option, Some, None, Result, Ok, Err, refl, ap, ◌∙◌, arith}
 use Rattle.query_tokens.specs.declared.fault.Fault.{Fault}
 use Rattle.query_tokens.specs.declared.fault.Fault.TheVariants.{Syntax}
 use Rattle.query_tokens.specs.Words.{Lexeme, Name}
@@ -7,10 +8,11 @@ use Rattle.std.specs.Prelude.{ℤ, ◌==◌, ◌&&◌}
 use Rattle.std.specs.Char.{is_ascii_digit, to_ascii_lowercase}
 use Rattle.std.specs.List.{prefix_len}
 use Rattle.std.proofs.lemmas.List.Sums.{prefix_len-le-length}
-use Rattle.grouping_model.specs.declared.limits.TheConstants.{LONGEST_NAME}
+use Rattle.grouping_model.specs.declared.limits.TheConstants.{MAX_NAME_LEN}
 use Rattle.query_tokens.specs.declared.word.Symbol.{Symbol}
 use Rattle.query_tokens.specs.Bytes.{begins_name, is_in_name, first_is, symbol_of_one, symbol_of_two}
-use Rattle.query_tokens.specs.Tokens.{number_after, integer_of, name_at, integer_at, integer_or_fault, and_before, string_content, text_or_fault, text_at, symbol_or_fault, longest_symbol, symbol_at, word_at, tokens_at}
+use Rattle.query_tokens.specs.Tokens.{number_after, integer_of, name_at, integer_at, integer_or_fault, and_before, string_content}
+use Rattle.query_tokens.specs.Tokens.{text_or_fault, text_at, symbol_or_fault, longest_symbol, symbol_at, word_at, tokens_at}
 
 -- the bytes of a token that has been read are passed over
 pub passes : (within at : ℕ) (bytes : List ℕ) → tokens_at within at bytes ≡ tokens_at 0 (at + within) (drop within bytes)
@@ -41,7 +43,8 @@ fails f bytes = record { end = tt {0} }
 reads : (w : Lexeme) (rest bytes : List ℕ) → IsEnd bytes rest → Leaves (Ok (w, rest)) bytes
 reads w rest bytes h = record { end = h }
 
-either : (t : Bool) (x y : Result (Lexeme × List ℕ) Fault) (bytes : List ℕ) → (t ≡ true → Leaves x bytes) → (t ≡ false → Leaves y bytes) → Leaves (cond t x y) bytes
+either : (t : Bool) (x y : Result (Lexeme × List ℕ) Fault) (bytes : List ℕ) → (t ≡ true → Leaves x bytes) → (t ≡ false → Leaves y bytes)
+    → Leaves (cond t x y) bytes
 either true x y bytes h k = h refl
 either false x y bytes h k = k refl
 
@@ -58,7 +61,9 @@ name_leaves : (at b : ℕ) (bs : List ℕ) → begins_name b ≡ true → Leaves
 unfolding name_at
 name_leaves at b bs h =
     let len = prefix_len is_in_name (b ∷ bs) in
-    either (ltb LONGEST_NAME len) (Err (Syntax at)) (Ok (Name (map to_ascii_lowercase (take len (b ∷ bs))), drop len (b ∷ bs))) bs (λ _. fails (Syntax at) bs) (λ _. reads (Name (map to_ascii_lowercase (take len (b ∷ bs)))) (drop len (b ∷ bs)) bs (run_end is_in_name b bs (in_name b h)))
+    either (ltb MAX_NAME_LEN len) (Err (Syntax at)) (Ok (Name (map to_ascii_lowercase (take len (b ∷ bs))), drop len (b ∷ bs))) bs
+    (λ _. fails (Syntax at) bs) (λ _. reads (Name (map to_ascii_lowercase (take len (b ∷ bs)))) (drop len (b ∷ bs)) bs
+    (run_end is_in_name b bs (in_name b h)))
 
 integer_or_leaves : (o : Option ℤ) (rest bs : List ℕ) → IsEnd bs rest → Leaves (integer_or_fault o rest) bs
 integer_or_leaves None rest bs h = fails _ _
@@ -69,7 +74,8 @@ unfolding integer_at
 integer_leaves at negative b bs h =
     let len = prefix_len is_ascii_digit (b ∷ bs) in
     let o = integer_of negative (number_after 0 (take len (b ∷ bs))) in
-    either (first_is begins_name (drop len (b ∷ bs))) (Err (Syntax at)) (integer_or_fault o (drop len (b ∷ bs))) bs (λ _. fails (Syntax at) bs) (λ _. integer_or_leaves o (drop len (b ∷ bs)) bs (run_end is_ascii_digit b bs h))
+    either (first_is begins_name (drop len (b ∷ bs))) (Err (Syntax at)) (integer_or_fault o (drop len (b ∷ bs))) bs
+    (λ _. fails (Syntax at) bs) (λ _. integer_or_leaves o (drop len (b ∷ bs)) bs (run_end is_ascii_digit b bs h))
 
 abbrev LeavesQuotedEnd : Option (List ℕ × List ℕ) → List ℕ → Type 0
 LeavesQuotedEnd None bytes = Unit {0}
@@ -78,7 +84,8 @@ LeavesQuotedEnd (Some x) bytes = IsEnd bytes x.1
 record LeavesQuoted (read : Option (List ℕ × List ℕ)) (bytes : List ℕ) : Type 0 where
   end : LeavesQuotedEnd read bytes
 
-either_quoted : (t : Bool) (x y : Option (List ℕ × List ℕ)) (bytes : List ℕ) → LeavesQuoted x bytes → LeavesQuoted y bytes → LeavesQuoted (cond t x y) bytes
+either_quoted : (t : Bool) (x y : Option (List ℕ × List ℕ)) (bytes : List ℕ) → LeavesQuoted x bytes → LeavesQuoted y bytes
+    → LeavesQuoted (cond t x y) bytes
 either_quoted true x y bytes h k = h
 either_quoted false x y bytes h k = k
 
@@ -97,8 +104,10 @@ quoted_leaves : (closing : Bool) (bytes : List ℕ) → LeavesQuoted (string_con
 unfolding string_content
 quoted_leaves false [] = record { end = tt {0} }
 quoted_leaves true [] = record { end = whole [] }
-quoted_leaves false (b ∷ bs) = either_quoted (b == 39) _ _ (b ∷ bs) (wider b bs (string_content true bs) (quoted_leaves true bs)) (before_wider b b bs (string_content false bs) (quoted_leaves false bs))
-quoted_leaves true (b ∷ bs) = either_quoted (b == 39) _ _ (b ∷ bs) (before_wider 39 b bs (string_content false bs) (quoted_leaves false bs)) (record { end = whole (b ∷ bs) })
+quoted_leaves false (b ∷ bs) = either_quoted (b == 39) _ _ (b ∷ bs) (wider b bs (string_content true bs) (quoted_leaves true bs))
+    (before_wider b b bs (string_content false bs) (quoted_leaves false bs))
+quoted_leaves true (b ∷ bs) = either_quoted (b == 39) _ _ (b ∷ bs) (before_wider 39 b bs (string_content false bs) (quoted_leaves false bs))
+    (record { end = whole (b ∷ bs) })
 
 text_or_leaves : (at : ℕ) (q : Option (List ℕ × List ℕ)) (bs : List ℕ) → LeavesQuoted q bs → Leaves (text_or_fault at q) bs
 text_or_leaves at None bs h = fails _ _

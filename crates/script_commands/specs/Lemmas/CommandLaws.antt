@@ -4,7 +4,8 @@ use Rattle.std.specs.Option.{option_map_or}
 use Rattle.std.specs.Str.{bytes_eq, is_utf8}
 use Rattle.script_io.specs.Records.{Record}
 use Rattle.script_io.specs.Digits.{row_count, limit_told}
-use Rattle.script_commands.specs.Commands.{Request, Limit, Feed, Unknown, is_name, name_request, names_request, one_field, owned_by, request_of, two_fields}
+use Rattle.script_commands.specs.Commands.{Request, Limit, Feed, Unknown, is_name, name_request, names_request, one_field, owned_by}
+use Rattle.script_commands.specs.Commands.{request_of, two_fields}
 
 abbrev pub IsNoFeed : Request → Type 0
 IsNoFeed request = (name origin number : List ℕ) (told : ℕ) → request ≢ Feed name origin number told
@@ -43,14 +44,16 @@ two_no_feed : (word name other : List ℕ) → IsNoFeed (two_fields word name ot
 two_no_feed word name other = either_no_feed (is_name name && is_name other) _ _ (names_no_feed word name other) unknown_no_feed
 
 feed_owns : (is_feed named : Bool) (count : Option ℕ) (name origin number other other_origin other_number : List ℕ) (told : ℕ)
-    → (if is_feed && named then option_map_or (Feed name origin number) count Unknown else Unknown) ≡ Feed other other_origin other_number told
+    → (if is_feed && named then option_map_or (Feed name origin number) count Unknown else Unknown)
+    ≡ Feed other other_origin other_number told
     → (if is_feed then unwrap_or count 0 else 0) ≡ told
 feed_owns true true (Some n) name origin number other other_origin other_number told e = cc
 feed_owns true true None name origin number other other_origin other_number told e = absurd cc
 feed_owns true false count name origin number other other_origin other_number told e = absurd cc
 feed_owns false named count name origin number other other_origin other_number told e = absurd cc
 
-pub owned_told : (fields : Record) (name origin number : List ℕ) (told : ℕ) → request_of fields ≡ Feed name origin number told → owned_by fields ≡ told
+pub owned_told : (fields : Record) (name origin number : List ℕ) (told : ℕ) → request_of fields ≡ Feed name origin number told
+    → owned_by fields ≡ told
 unfolding request_of owned_by
 owned_told [] name origin number told e = absurd cc
 owned_told (a ∷ []) name origin number told e = absurd cc

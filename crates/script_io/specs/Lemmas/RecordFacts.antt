@@ -25,4 +25,5 @@ strip-short (a ∷ b ∷ []) = omega arith
 strip-short (a ∷ b ∷ c ∷ rest) = grind arith
 
 pub length-records_of : (script : List ℕ) → length (records_of script) ≤ length script + 1
-length-records_of script = let few = records-few (length (strip_bom script) + 1) st.StartRecord (strip_bom script) in let short = strip-short script in omega arith
+length-records_of script = let few = records-few (length (strip_bom script) + 1) st.StartRecord (strip_bom script) in let short =
+    strip-short script in omega arith

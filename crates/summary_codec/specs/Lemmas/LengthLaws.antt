@@ -7,7 +7,11 @@ use Rattle.std.specs.List.{AllByRecursion}
 use Rattle.std.specs.List.Sorted.{IsStrictlySortedBy}
 use Rattle.std.specs.Ordering.{nat_cmp}
 use Rattle.std.specs.declared.cmp.Ordering.TheVariants.{Less}
-use Rattle.summary_codec.specs.Lemmas.Words.{each_weaker, Datum, Kind, Row, HasKind, HasKinds, Null, Bigint, Boolean, Text, Bigint_kind, Boolean_kind, Text_kind, Group, Query, LAST_NUMBER, LAST_ORIGIN, MOST_ROWS, MOST_COLUMNS, Column, kinds, names, printed, column_text, kind_text, AreColumns, IsColumnName, packing, value_packing, packings, IsCheckedQuery, key_kinds, Checked, meaning, Entry, AreGroups, Part, IsEarly, IsPartOf, Parts, IsHeldPart, AreHeldParts}
+use Rattle.summary_codec.specs.Lemmas.Words.{each_weaker, Datum, Kind, Row, HasKind, HasKinds, Null, Bigint, Boolean, Text, Bigint_kind}
+use Rattle.summary_codec.specs.Lemmas.Words.{Boolean_kind, Text_kind, Group, Query, LAST_NUMBER, LAST_ORIGIN, MAX_ROWS, MAX_COLUMNS, Column}
+use Rattle.summary_codec.specs.Lemmas.Words.{kinds, names, printed, column_text, kind_text, AreColumns, IsColumnName, packing}
+use Rattle.summary_codec.specs.Lemmas.Words.{value_packing, packings, IsCheckedQuery, key_kinds, Checked, meaning, Entry, AreGroups, Part}
+use Rattle.summary_codec.specs.Lemmas.Words.{IsEarly, IsPartOf, Parts, IsHeldPart, AreHeldParts}
 use Rattle.summary_codec.specs.Short.{IsShort, HaveShortKeys, IsShortBatch, IsShortPart}
 
 -- ---- packed values and rows
@@ -34,18 +38,19 @@ short_values (k ∷ ks) (d ∷ row) has =
     let both = length-append (value_packing d) (packing row) in
     omega (arith, one, more, both)
 
-pub short_packing : (kinds : List Kind) (row : Row) → length kinds ≤ MOST_COLUMNS → HasKinds kinds row → IsShort (packing row)
+pub short_packing : (kinds : List Kind) (row : Row) → length kinds ≤ MAX_COLUMNS → HasKinds kinds row → IsShort (packing row)
 short_packing kinds row few has = let all = short_values kinds row has in omega (arith, few, all)
 
 -- ---- groups
 
-short_keys : (q : Query) (most : ℕ) (run : List Entry) (groups : List Group) → length (key_kinds q) ≤ MOST_COLUMNS → AreGroups q most run groups → HaveShortKeys run
+short_keys : (q : Query) (most : ℕ) (run : List Entry) (groups : List Group) → length (key_kinds q) ≤ MAX_COLUMNS
+    → AreGroups q most run groups → HaveShortKeys run
 short_keys q most [] groups few are = tt
 short_keys q most (e ∷ run) [] few are = absurd are
 short_keys q most (e ∷ run) (g ∷ groups) few are =
     (subst IsShort (sym are.0.key) (short_packing (key_kinds q) g.0 few are.0.of_kinds), short_keys q most run groups few are.1)
 
-pub few_key_kinds : (q : Checked) → IsCheckedQuery q → length (key_kinds (meaning q)) ≤ MOST_COLUMNS
+pub few_key_kinds : (q : Checked) → IsCheckedQuery q → length (key_kinds (meaning q)) ≤ MAX_COLUMNS
 few_key_kinds q is =
     let few = is.well_formed.few_keys in
     let same = length-map (meaning q).keys (λ place. slice_index_or (meaning q).kinds place Bigint_kind) in
@@ -53,22 +58,29 @@ few_key_kinds q is =
 
 -- ---- early batches
 
-short_rows : (kinds : List Kind) (rows : List Row) → length kinds ≤ MOST_COLUMNS → AllByRecursion (HasKinds kinds) rows → AllByRecursion IsShort (packings rows)
+short_rows : (kinds : List Kind) (rows : List Row) → length kinds ≤ MAX_COLUMNS → AllByRecursion (HasKinds kinds) rows
+    → AllByRecursion IsShort (packings rows)
 short_rows kinds [] few has = tt
 short_rows kinds (row ∷ rows) few has = (short_packing kinds row few has.0, short_rows kinds rows few has.1)
 
-short_batch : (kinds : List Kind) (prefix : ℕ) (batch : ℕ × List (List ℕ)) → length kinds ≤ MOST_COLUMNS → IsEarly kinds prefix batch → IsShortBatch batch
+short_batch : (kinds : List Kind) (prefix : ℕ) (batch : ℕ × List (List ℕ)) → length kinds ≤ MAX_COLUMNS → IsEarly kinds prefix batch
+    → IsShortBatch batch
 short_batch kinds prefix batch few is =
-    let low = is.rows.few in
-    (omega (arith, low), subst (AllByRecursion IsShort) (sym is.rows.packings_are) (short_rows kinds is.rows.rows few (recursion_from_All (HasKinds kinds) is.rows.rows is.rows.of_kinds)))
+    let low = is.rows.few in (
+      omega (arith, low),
+      subst (AllByRecursion IsShort) (sym is.rows.packings_are)
+          (short_rows kinds is.rows.rows few (recursion_from_All (HasKinds kinds) is.rows.rows is.rows.of_kinds)),
+    )
 
-short_batches : (kinds : List Kind) (prefix : ℕ) (early : List (ℕ × List (List ℕ))) → length kinds ≤ MOST_COLUMNS → AllByRecursion (IsEarly kinds prefix) early → AllByRecursion IsShortBatch early
+short_batches : (kinds : List Kind) (prefix : ℕ) (early : List (ℕ × List (List ℕ))) → length kinds ≤ MAX_COLUMNS
+    → AllByRecursion (IsEarly kinds prefix) early → AllByRecursion IsShortBatch early
 short_batches kinds prefix [] few all = tt
 short_batches kinds prefix (batch ∷ early) few all = (short_batch kinds prefix batch few all.0, short_batches kinds prefix early few all.1)
 
 -- ---- numbers that rise are few
 
-few_rising : {X : Type 0} (low high : ℕ) (es : List (ℕ × X)) → IsStrictlySortedBy nat_cmp (map (λ (e : ℕ × X). e.0) es) → AllByRecursion (λ (e : ℕ × X). low ≤ e.0) es → AllByRecursion (λ (e : ℕ × X). e.0 ≤ high) es → low ≤ high + 1
+few_rising : {X : Type 0} (low high : ℕ) (es : List (ℕ × X)) → IsStrictlySortedBy nat_cmp (map (λ (e : ℕ × X). e.0) es)
+    → AllByRecursion (λ (e : ℕ × X). low ≤ e.0) es → AllByRecursion (λ (e : ℕ × X). e.0 ≤ high) es → low ≤ high + 1
     → length es + low ≤ high + 1
 unfolding IsStrictlySortedBy
 few_rising low high [] rising above within most = omega (arith, most)
@@ -81,7 +93,8 @@ few_rising {X} low high (e ∷ es) rising above within most =
     less : (m : ℕ) → nat_cmp e.0 m ≡ Less → e.0 + 1 ≤ m
     less m is = let low : e.0 < m = grind arith in omega (arith, low)
 
-    behind : (fs : List (ℕ × X)) → AllByRecursion (λ m. nat_cmp e.0 m ≡ Less) (map (λ (f : ℕ × X). f.0) fs) → AllByRecursion (λ (f : ℕ × X). e.0 + 1 ≤ f.0) fs
+    behind : (fs : List (ℕ × X)) → AllByRecursion (λ m. nat_cmp e.0 m ≡ Less) (map (λ (f : ℕ × X). f.0) fs)
+        → AllByRecursion (λ (f : ℕ × X). e.0 + 1 ≤ f.0) fs
     behind [] all = tt
     behind (f ∷ fs) all = (less f.0 all.0, behind fs all.1)
 
@@ -100,21 +113,26 @@ short_part q part is of_query =
     let few = of_query.few in
     let columns = is.columns_are.most in
     let same = length-map q.columns (λ (c : Column). c.kind) in
-    let some = each_weaker (IsEarly (kinds q.columns) part.prefix) (λ (b : ℕ × List (List ℕ)). 1 ≤ b.0) (λ b e. from_one part.prefix b.0 e.behind) part.early of_query.early in
-    let early = few_rising 1 LAST_NUMBER part.early of_query.rising some (each_weaker (IsEarly (kinds q.columns) part.prefix) (λ (b : ℕ × List (List ℕ)). b.0 ≤ LAST_NUMBER) (λ b e. e.within) part.early of_query.early) (omega arith) in
+    let some = each_weaker (IsEarly (kinds q.columns) part.prefix) (λ (b : ℕ × List (List ℕ)). 1 ≤ b.0)
+    (λ b e. from_one part.prefix b.0 e.behind) part.early of_query.early in
+    let early = few_rising 1 LAST_NUMBER part.early of_query.rising some (each_weaker (IsEarly (kinds q.columns) part.prefix)
+    (λ (b : ℕ × List (List ℕ)). b.0 ≤ LAST_NUMBER) (λ b e. e.within) part.early of_query.early) (omega arith) in
     record {
       few_groups = omega (arith, within, few);
-      groups = short_keys (meaning q) (part.prefix * MOST_ROWS) part.run of_query.run.groups (few_key_kinds q is) of_query.run.are;
+      groups = short_keys (meaning q) (part.prefix * MAX_ROWS) part.run of_query.run.groups (few_key_kinds q is) of_query.run.are;
       few_batches = omega (arith, early);
       batches = short_batches (kinds q.columns) part.prefix part.early (omega (arith, columns, same)) of_query.early;
     }
 
-pub short_parts : (q : Checked) (parts : Parts) → IsCheckedQuery q → AreHeldParts q parts → AllByRecursion (λ (held : ℕ × Part). IsShortPart held.1) parts
-short_parts q parts is held = each_weaker (IsHeldPart q) (λ (p : ℕ × Part). IsShortPart p.1) (λ p h. short_part q p.1 is h.part) parts held.each
+pub short_parts : (q : Checked) (parts : Parts) → IsCheckedQuery q → AreHeldParts q parts
+    → AllByRecursion (λ (held : ℕ × Part). IsShortPart held.1) parts
+short_parts q parts is held = each_weaker (IsHeldPart q) (λ (p : ℕ × Part). IsShortPart p.1) (λ p h. short_part q p.1 is h.part) parts
+    held.each
 
 pub few_parts : (q : Checked) (parts : Parts) → AreHeldParts q parts → length parts ≤ LAST_ORIGIN + 1
 few_parts q parts held =
-    let all = few_rising 0 LAST_ORIGIN parts held.rising (none_below parts) (each_weaker (IsHeldPart q) (λ (p : ℕ × Part). p.0 ≤ LAST_ORIGIN) (λ p h. h.within) parts held.each) (omega arith) in
+    let all = few_rising 0 LAST_ORIGIN parts held.rising (none_below parts)
+    (each_weaker (IsHeldPart q) (λ (p : ℕ × Part). p.0 ≤ LAST_ORIGIN) (λ p h. h.within) parts held.each) (omega arith) in
     omega (arith, all)
 
 -- ---- the text of a schema

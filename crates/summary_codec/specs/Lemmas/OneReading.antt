@@ -4,13 +4,20 @@ use Rattle.std.proofs.lemmas.List.{length-append}
 use Rattle.std.specs.Prelude.{IsUtf8}
 use Rattle.std.specs.Ordering.{nat_cmp}
 use Rattle.std.specs.Cmp.Lexicographic.{slice_cmp}
-use Rattle.summary_codec.specs.Lemmas.Words.{Kind, Query, LAST_ORIGIN, Column, kinds, printed, by_names, key_kinds, Checked, meaning, spelling, Entry, packed_keys, Part, Parts, opening, last_number, most_batch_rows, Version, IsSummaryIn, IsSummary, HasFault, Outcome, Reader, done, both, must, taken, number, number_within, sized, each, IsNext, IsPacking, AreStateBytes, states_width, MayFollow, IsCutShort, row, batch, batches, contents, columns_in, query_in, text, schema, query, opened, ended, parts, heading, rest, body, summary, SummaryError}
+use Rattle.summary_codec.specs.Lemmas.Words.{Kind, Query, LAST_ORIGIN, Column, kinds, printed, by_names, key_kinds, Checked, meaning}
+use Rattle.summary_codec.specs.Lemmas.Words.{spelling, Entry, packed_keys, Part, Parts, opening, last_number, most_batch_rows, Version}
+use Rattle.summary_codec.specs.Lemmas.Words.{IsSummaryIn, IsSummary, HasFault, Outcome, Reader, done, both, must, taken, number}
+use Rattle.summary_codec.specs.Lemmas.Words.{number_within, sized, each, IsNext, IsPacking, AreStateBytes, states_width, MayFollow}
+use Rattle.summary_codec.specs.Lemmas.Words.{IsCutShort, row, batch, batches, contents, columns_in, query_in, text, schema, query, opened}
+use Rattle.summary_codec.specs.Lemmas.Words.{ended, parts, heading, rest, body, summary, SummaryError}
 use Rattle.packed_rows.specs.PrintedLaws.{one_schema}
 use Rattle.group_parser.specs.Lemmas.ParseLaws.{one_accepted, one_refused, not_both}
 use Rattle.summary_codec.specs.Reading.{group, part}
 use Rattle.summary_codec.specs.declared.error.SummaryError.TheVariants as fault
-use Rattle.summary_codec.specs.declared.error.SummaryError.TheVariants.{NotASummary, Truncated, NotCanonical, OutOfRange, BadPacked, BadState}
-use Rattle.summary_codec.specs.Lemmas.TotalLaws.{AreBytes, LeavesBytes, HasOutcome, some_done, some_both, some_must, some_taken, some_number, some_each, some_columns, some_query_in, some_opened, some_ended}
+use Rattle.summary_codec.specs.declared.error.SummaryError.TheVariants.{NotASummary, Truncated, NotCanonical, OutOfRange, BadPacked}
+use Rattle.summary_codec.specs.declared.error.SummaryError.TheVariants.{BadState}
+use Rattle.summary_codec.specs.Lemmas.TotalLaws.{AreBytes, LeavesBytes, HasOutcome, some_done, some_both, some_must, some_taken}
+use Rattle.summary_codec.specs.Lemmas.TotalLaws.{some_number, some_each, some_columns, some_query_in, some_opened, some_ended}
 use Rattle.summary_codec.specs.Lemmas.VersionLaws.{opening_length, one_version, one_body}
 use Rattle.summary_codec.specs.Lemmas.ReaderLaws.{IsOne, error_of, is_ok, one_both, one_done, one_must, one_taken, one_number, one_each}
 
@@ -41,10 +48,15 @@ one_columns said bytes (Err e) (Ok b) left right = absurd (left.0 b.0 right.0)
 one_columns said bytes (Err e) (Err f) left right = ap Err (left.1 ∙ sym right.1)
 
 one_query_in : (columns : List Column) (said : List ℕ) → IsOne (query_in columns said)
-one_query_in columns said bytes (Ok a) (Ok b) left right = λ i. Ok (one_accepted columns said a.0 b.0 left.0 right.0 i, (left.1 ∙ sym right.1) i)
+one_query_in columns said bytes (Ok a) (Ok b) left right = λ i. Ok (
+  one_accepted columns said a.0 b.0 left.0 right.0 i,
+  (left.1
+      ∙ sym right.1) i,
+)
 one_query_in columns said bytes (Ok a) (Err f) left right = absurd (not_both columns said a.0 right.0 left.0 right.1)
 one_query_in columns said bytes (Err e) (Ok b) left right = absurd (not_both columns said b.0 left.0 right.0 left.1)
-one_query_in columns said bytes (Err e) (Err f) left right = ap Err (left.2 ∙ ap fault.Query (one_refused columns said left.0 right.0 left.1 right.1) ∙ sym right.2)
+one_query_in columns said bytes (Err e) (Err f) left right = ap Err (left.2
+    ∙ ap fault.Query (one_refused columns said left.0 right.0 left.1 right.1) ∙ sym right.2)
 
 one_opened : IsOne opened
 unfolding opened
@@ -89,13 +101,15 @@ sure_number width = (one_number width, some_number width)
 
 sure_within : (width most : ℕ) → IsSure (number_within width most)
 unfolding number_within
-sure_within width most = sure_both (number width) (λ n. must (n ≤ most) OutOfRange (done n)) (sure_number width) (λ n. sure_must (n ≤ most) OutOfRange (done n) (sure_done n))
+sure_within width most = sure_both (number width) (λ n. must (n ≤ most) OutOfRange (done n)) (sure_number width)
+    (λ n. sure_must (n ≤ most) OutOfRange (done n) (sure_done n))
 
 sure_sized : IsSure sized
 unfolding sized
 sure_sized = sure_both (number 2) taken (sure_number 2) sure_taken
 
-sure_each : {A : Type 0} (item : List A → Reader A) → ((before : List A) → IsSure (item before)) → (n : ℕ) (before : List A) → IsSure (each item n before)
+sure_each : {A : Type 0} (item : List A → Reader A) → ((before : List A) → IsSure (item before)) → (n : ℕ) (before : List A)
+    → IsSure (each item n before)
 sure_each item sure n before = (one_each item (λ b. (sure b).0) n before, some_each item (λ b. (sure b).1) n before)
 
 sure_columns : (said : List ℕ) → IsSure (columns_in said)
@@ -116,13 +130,15 @@ sure_group q most before =
     sure_both sized _ sure_sized (λ key.
     sure_must (IsPacking (key_kinds q) key) BadPacked _
     (sure_must (IsNext (slice_cmp nat_cmp) (packed_keys before) key) NotCanonical _
-    (sure_both (taken (states_width q)) _ (sure_taken (states_width q)) (λ states. sure_must (AreStateBytes q most states) BadState _ (sure_done (key, states))))))
+    (sure_both (taken (states_width q)) _ (sure_taken (states_width q)) (λ states. sure_must (AreStateBytes q most states) BadState _
+    (sure_done (key, states))))))
 
 sure_row : (kinds : List Kind) (before : List (List ℕ)) → IsSure (row kinds before)
 unfolding row
 sure_row kinds before = sure_both sized _ sure_sized (λ packed. sure_must (IsPacking kinds packed) BadPacked _ (sure_done packed))
 
-sure_batch : (version : Version) (kinds : List Kind) (prefix : ℕ) (before : List (ℕ × List (List ℕ))) → IsSure (batch version kinds prefix before)
+sure_batch : (version : Version) (kinds : List Kind) (prefix : ℕ) (before : List (ℕ × List (List ℕ)))
+    → IsSure (batch version kinds prefix before)
 unfolding batch
 sure_batch version kinds prefix before =
     sure_both (number_within 4 (last_number version)) _ (sure_within 4 (last_number version)) (λ n.
@@ -133,15 +149,18 @@ sure_batch version kinds prefix before =
 sure_batches : (version : Version) (kinds : List Kind) (prefix : ℕ) → IsSure (batches version kinds prefix)
 unfolding batches
 sure_batches version kinds prefix =
-    sure_both (number 4) _ (sure_number 4) (λ count. sure_must ((0 < prefix) ⊎ (0 < count)) NotCanonical _ (sure_each (batch version kinds prefix) (sure_batch version kinds prefix) count []))
+    sure_both (number 4) _ (sure_number 4) (λ count. sure_must ((0 < prefix) ⊎ (0 < count)) NotCanonical _
+    (sure_each (batch version kinds prefix) (sure_batch version kinds prefix) count []))
 
 sure_contents : (version : Version) (q : Checked) (prefix : ℕ) → IsSure (contents version q prefix)
 unfolding contents
 sure_contents version q prefix =
     let most : ℕ = prefix * most_batch_rows version in
     sure_both (number_within 8 most) _ (sure_within 8 most) (λ groups.
-    sure_both (each (group (meaning q) most) groups []) _ (sure_each (group (meaning q) most) (sure_group (meaning q) most) groups []) (λ run.
-    sure_both (batches version (kinds q.columns) prefix) _ (sure_batches version (kinds q.columns) prefix) (λ early. sure_done (record { prefix = prefix; run = run; early = early }))))
+    sure_both (each (group (meaning q) most) groups []) _ (sure_each (group (meaning q) most) (sure_group (meaning q) most) groups [])
+    (λ run.
+    sure_both (batches version (kinds q.columns) prefix) _ (sure_batches version (kinds q.columns) prefix)
+    (λ early. sure_done (record { prefix = prefix; run = run; early = early }))))
 
 sure_part : (version : Version) (q : Checked) (before : Parts) → IsSure (part version q before)
 unfolding part
@@ -158,16 +177,19 @@ sure_text = sure_both sized _ sure_sized (λ bytes. sure_must (IsUtf8 bytes) Not
 sure_schema : IsSure schema
 unfolding schema
 sure_schema =
-    sure_both text _ sure_text (λ bytes. sure_both (columns_in bytes) _ (sure_columns bytes) (λ columns. sure_must (printed columns ≡ bytes) NotCanonical _ (sure_done columns)))
+    sure_both text _ sure_text (λ bytes. sure_both (columns_in bytes) _ (sure_columns bytes)
+    (λ columns. sure_must (printed columns ≡ bytes) NotCanonical _ (sure_done columns)))
 
 sure_query : (columns : List Column) → IsSure (query columns)
 unfolding query
 sure_query columns =
-    sure_both text _ sure_text (λ bytes. sure_both (query_in columns bytes) _ (sure_query_in columns bytes) (λ found. sure_must (spelling (by_names found) ≡ bytes) NotCanonical _ (sure_done found)))
+    sure_both text _ sure_text (λ bytes. sure_both (query_in columns bytes) _ (sure_query_in columns bytes)
+    (λ found. sure_must (spelling (by_names found) ≡ bytes) NotCanonical _ (sure_done found)))
 
 sure_parts : (version : Version) (q : Checked) → IsSure (parts version q)
 unfolding parts
-sure_parts version q = sure_both (number_within 2 (LAST_ORIGIN + 1)) _ (sure_within 2 (LAST_ORIGIN + 1)) (λ origins. sure_each (part version q) (sure_part version q) origins [])
+sure_parts version q = sure_both (number_within 2 (LAST_ORIGIN + 1)) _ (sure_within 2 (LAST_ORIGIN + 1))
+    (λ origins. sure_each (part version q) (sure_part version q) origins [])
 
 sure_heading : IsSure heading
 unfolding heading
@@ -199,13 +221,15 @@ found_or : Checked × Parts → Outcome (Checked × Parts) → Checked × Parts
 found_or d (Ok found) = found.0
 found_or d (Err e) = d
 
-pub one_reading : (bytes : List ℕ) (q r : Checked) (held those : Parts) → IsSummary bytes q held → IsSummary bytes r those → (q ≡ r) × (held ≡ those)
+pub one_reading : (bytes : List ℕ) (q r : Checked) (held those : Parts) → IsSummary bytes q held → IsSummary bytes r those → (q ≡ r)
+    × (held ≡ those)
 unfolding found_or
 one_reading bytes q r held those left right =
     let same = sure_summary.0 bytes (Ok ((q, held), [])) (Ok ((r, those), [])) (read_so bytes q held left) (read_so bytes r those right) in
     (ap (λ o. (found_or (q, held) o).0) same, ap (λ o. (found_or (q, held) o).1) same)
 
-pub one_file_version : (bytes : List ℕ) (version other : Version) (q r : Checked) (held those : Parts) → IsSummaryIn version bytes q held → IsSummaryIn other bytes r those → version ≡ other
+pub one_file_version : (bytes : List ℕ) (version other : Version) (q r : Checked) (held those : Parts) → IsSummaryIn version bytes q held
+    → IsSummaryIn other bytes r those → version ≡ other
 unfolding opened
 one_file_version bytes version other q r held those left right = one_version version other left.0 right.0 (sym left.1 ∙ right.1)
 
@@ -213,16 +237,21 @@ pub one_first_fault : (bytes : List ℕ) (e f : SummaryError) → HasFault bytes
 one_first_fault bytes e f left right = ap (error_of e) (sure_summary.0 bytes (Err e) (Err f) left right)
 
 pub read_or_refused : (bytes : List ℕ) (q : Checked) (held : Parts) (e : SummaryError) → IsSummary bytes q held → HasFault bytes e → ⊥
-read_or_refused bytes q held e read fault = subst is_ok (sure_summary.0 bytes (Ok ((q, held), [])) (Err e) (read_so bytes q held read) fault) tt
+read_or_refused bytes q held e read fault = subst is_ok (sure_summary.0 bytes (Ok ((q, held), [])) (Err e) (read_so bytes q held read)
+    fault) tt
 
 -- nothing is left of what is read as a file
 nothing_left : (bytes : List ℕ) (found : (Checked × Parts) × List ℕ) → summary bytes (Ok found) → found.1 ≡ []
 unfolding summary body rest
-nothing_left bytes found (version, behind, begins, (q, r, head, (held, u, (kept, v, counted, (y, w, (end, last), (is, rests))), (same, none)))) = none ∙ rests ∙ last
+nothing_left bytes found
+    (version, behind, begins, (q, r, head, (held, u, (kept, v, counted, (y, w, (end, last), (is, rests))), (same, none)))) = none ∙ rests
+    ∙ last
 
-pub read_or_fault : (bytes : List ℕ) → AreBytes bytes → ((q : Checked) (held : Parts) → ¬ (IsSummary bytes q held)) → ((e : SummaryError) → ¬ (HasFault bytes e)) → ⊥
+pub read_or_fault : (bytes : List ℕ) → AreBytes bytes → ((q : Checked) (held : Parts) → ¬ (IsSummary bytes q held))
+    → ((e : SummaryError) → ¬ (HasFault bytes e)) → ⊥
 read_or_fault bytes are unread faultless = sure_summary.1 bytes are go
   where
     go : (out : Outcome (Checked × Parts)) → summary bytes out → LeavesBytes out → ⊥
-    go (Ok found) there left = unread found.0.0 found.0.1 (so_read bytes found.0.0 found.0.1 (subst (λ l. summary bytes (Ok (found.0, l))) (nothing_left bytes found there) there))
+    go (Ok found) there left = unread found.0.0 found.0.1
+        (so_read bytes found.0.0 found.0.1 (subst (λ l. summary bytes (Ok (found.0, l))) (nothing_left bytes found there) there))
     go (Err e) there left = faultless e there

@@ -1,11 +1,13 @@
 -- What readers have in common: bytes have one reading or one fault, and what is read in turn spells the bytes.
-use Rattle.std.proofs.Common.{◌≡◌, refl, ℕ, zero, suc, ◌^◌, ◌<◌, ◌≤◌, ◌⊎◌, List, [], ◌∷◌, ◌++◌, take, drop, length, flat_map, Ok, Err, inl, inr, sym, ap, subst, ◌∙◌, append-nil, append_assoc, arith}
+use Rattle.std.proofs.Common.{◌≡◌, refl, ℕ, zero, suc, ◌^◌, ◌<◌, ◌≤◌, ◌⊎◌, List, [], ◌∷◌, ◌++◌, take, drop, length, flat_map, Ok, Err, inl}
+use Rattle.std.proofs.Common.{inr, sym, ap, subst, ◌∙◌, append-nil, append_assoc, arith}
 use Rattle.std.proofs.lemmas.List.{length-append}
 use Rattle.std.proofs.Math.Seq.{take-append_seam, drop-append_seam}
 use Rattle.std.specs.Int.{bytes_high_first}
 use Rattle.byteorder.specs.Numbers.{length-bytes_high_first}
 use Rattle.agg_protocol.specs.ByteLaws.{reads}
-use Rattle.summary_codec.specs.Lemmas.Words.{sized_bytes, Outcome, Reader, done, both, must, taken, number, number_within, sized, each, SummaryError}
+use Rattle.summary_codec.specs.Lemmas.Words.{sized_bytes, Outcome, Reader, done, both, must, taken, number, number_within, sized, each}
+use Rattle.summary_codec.specs.Lemmas.Words.{SummaryError}
 
 -- ---- one outcome
 
@@ -31,7 +33,8 @@ data Steps {A B : Type 0} (first : Reader A) (next : A → Reader B) (bytes : Li
   fails : (e : SummaryError) → first bytes (Err e) → out ≡ Err e → Steps first next bytes out
   goes_on : (x : A) (rest : List ℕ) → first bytes (Ok (x, rest)) → next x rest out → Steps first next bytes out
 
-steps : {A B : Type 0} (first : Reader A) (next : A → Reader B) (bytes : List ℕ) (out : Outcome B) → both first next bytes out → Steps first next bytes out
+steps : {A B : Type 0} (first : Reader A) (next : A → Reader B) (bytes : List ℕ) (out : Outcome B) → both first next bytes out
+    → Steps first next bytes out
 steps first next bytes (Ok found) (x, rest, there, more) = goes_on x rest there more
 steps first next bytes (Err e) (inl fault) = fails e fault refl
 steps first next bytes (Err e) (inr (x, rest, there, more)) = goes_on x rest there more
@@ -79,7 +82,10 @@ long_enough count bytes front rest is l short =
 
 pub one_taken : (count : ℕ) → IsOne (taken count)
 one_taken count bytes (Ok a) (Ok b) left right =
-    λ i. Ok ((front_is count bytes a.0 a.1 left.0 left.1 ∙ sym (front_is count bytes b.0 b.1 right.0 right.1)) i, (rest_is count bytes a.0 a.1 left.0 left.1 ∙ sym (rest_is count bytes b.0 b.1 right.0 right.1)) i)
+    λ i. Ok (
+      (front_is count bytes a.0 a.1 left.0 left.1 ∙ sym (front_is count bytes b.0 b.1 right.0 right.1)) i,
+      (rest_is count bytes a.0 a.1 left.0 left.1 ∙ sym (rest_is count bytes b.0 b.1 right.0 right.1)) i,
+    )
 one_taken count bytes (Ok a) (Err f) left right = absurd (long_enough count bytes a.0 a.1 left.0 left.1 right.0)
 one_taken count bytes (Err e) (Ok b) left right = absurd (long_enough count bytes b.0 b.1 right.0 right.1 left.0)
 one_taken count bytes (Err e) (Err f) left right = ap Err (left.1 ∙ sym right.1)
@@ -90,15 +96,20 @@ one_number width bytes (Ok a) (Ok b) left right =
     let n = length-bytes_high_first width a.0 in
     let m = length-bytes_high_first width b.0 in
     let same : a.0 ≡ b.0 = sym (reads width a.0 bytes a.1 left.1 left.0) ∙ reads width b.0 bytes b.1 right.1 right.0 in
-    let rests : a.1 ≡ b.1 = rest_is width bytes (bytes_high_first width a.0) a.1 left.0 n ∙ sym (rest_is width bytes (bytes_high_first width b.0) b.1 right.0 m) in
+    let rests : a.1 ≡ b.1 = rest_is width bytes (bytes_high_first width a.0) a.1 left.0 n
+    ∙ sym (rest_is width bytes (bytes_high_first width b.0) b.1 right.0 m) in
     λ i. Ok (same i, rests i)
-one_number width bytes (Ok a) (Err f) left right = absurd (long_enough width bytes (bytes_high_first width a.0) a.1 left.0 (length-bytes_high_first width a.0) right.0)
-one_number width bytes (Err e) (Ok b) left right = absurd (long_enough width bytes (bytes_high_first width b.0) b.1 right.0 (length-bytes_high_first width b.0) left.0)
+one_number width bytes (Ok a) (Err f) left right = absurd (long_enough width bytes (bytes_high_first width a.0) a.1 left.0
+    (length-bytes_high_first width a.0) right.0)
+one_number width bytes (Err e) (Ok b) left right = absurd (long_enough width bytes (bytes_high_first width b.0) b.1 right.0
+    (length-bytes_high_first width b.0) left.0)
 one_number width bytes (Err e) (Err f) left right = ap Err (left.1 ∙ sym right.1)
 
-pub one_each : {A : Type 0} (item : List A → Reader A) → ((before : List A) → IsOne (item before)) → (n : ℕ) (before : List A) → IsOne (each item n before)
+pub one_each : {A : Type 0} (item : List A → Reader A) → ((before : List A) → IsOne (item before)) → (n : ℕ) (before : List A)
+    → IsOne (each item n before)
 one_each item one zero before = one_done before
-one_each item one (suc n) before = one_both (item before) (λ x. each item n (before ++ x ∷ [])) (one before) (λ x. one_each item one n (before ++ x ∷ []))
+one_each item one (suc n) before = one_both (item before) (λ x. each item n (before ++ x ∷ [])) (one before)
+    (λ x. one_each item one n (before ++ x ∷ []))
 
 -- ---- what is read is what was written
 
@@ -106,7 +117,8 @@ pub read_number : (width n : ℕ) (rest : List ℕ) → n < 256 ^ width → numb
 unfolding number
 read_number width n rest low = (refl, low)
 
-pub read_within : (width most n : ℕ) (rest : List ℕ) → n < 256 ^ width → n ≤ most → number_within width most (bytes_high_first width n ++ rest) (Ok (n, rest))
+pub read_within : (width most n : ℕ) (rest : List ℕ) → n < 256 ^ width → n ≤ most → number_within width most (bytes_high_first width n
+    ++ rest) (Ok (n, rest))
 unfolding number_within
 read_within width most n rest low within = (n, rest, read_number width n rest low, (within, (refl, refl)))
 
@@ -123,14 +135,17 @@ AreRight right before (x ∷ xs) = right before x × AreRight right (before ++ x
 
 pub read_each : {A : Type 0} (item : List A → Reader A) (write : A → List ℕ) (right : List A → A → Type 0)
     → ((before : List A) (x : A) (rest : List ℕ) → right before x → item before (write x ++ rest) (Ok (x, rest)))
-    → (xs before : List A) (rest : List ℕ) → AreRight right before xs → each item (length xs) before (flat_map write xs ++ rest) (Ok (before ++ xs, rest))
+    → (xs before : List A) (rest : List ℕ) → AreRight right before xs
+    → each item (length xs) before (flat_map write xs ++ rest) (Ok (before ++ xs, rest))
 read_each item write right reads_one [] before rest are = (append-nil before, refl)
 read_each item write right reads_one (x ∷ xs) before rest (is, are) =
-    subst (λ all. each item (suc (length xs)) before all (Ok (before ++ x ∷ xs, rest))) (sym (append_assoc (write x) (flat_map write xs) rest)) (
+    subst (λ all. each item (suc (length xs)) before all (Ok (before ++ x ∷ xs, rest)))
+    (sym (append_assoc (write x) (flat_map write xs) rest)) (
       x,
       flat_map write xs ++ rest,
       reads_one before x (flat_map write xs ++ rest) is,
-      subst (λ all. each item (length xs) (before ++ x ∷ []) (flat_map write xs ++ rest) (Ok (all, rest))) (append_assoc before (x ∷ []) xs) (read_each item write right reads_one xs (before ++ x ∷ []) rest are),
+      subst (λ all. each item (length xs) (before ++ x ∷ []) (flat_map write xs ++ rest) (Ok (all, rest))) (append_assoc before (x ∷ []) xs)
+          (read_each item write right reads_one xs (before ++ x ∷ []) rest are),
     )
 
 -- ---- what is read spells the bytes
@@ -139,7 +154,8 @@ pub record Spells {A : Type 0} (write : A → List ℕ) (allowed : A → Type 0)
   pub is : bytes ≡ write found.0 ++ found.1
   pub right : allowed found.0
 
-pub spells_within : (width most : ℕ) (bytes : List ℕ) (found : ℕ × List ℕ) → number_within width most bytes (Ok found) → Spells (bytes_high_first width) (λ n. (n < 256 ^ width) × (n ≤ most)) bytes found
+pub spells_within : (width most : ℕ) (bytes : List ℕ) (found : ℕ × List ℕ) → number_within width most bytes (Ok found)
+    → Spells (bytes_high_first width) (λ n. (n < 256 ^ width) × (n ≤ most)) bytes found
 unfolding number_within number
 spells_within width most bytes found (n, rest, there, (within, (same, rests))) =
     record {
@@ -147,16 +163,19 @@ spells_within width most bytes found (n, rest, there, (within, (same, rests))) =
       right = (subst (λ m. m < 256 ^ width) (sym same) there.1, subst (λ m. m ≤ most) (sym same) within);
     }
 
-pub spells_sized : (bytes : List ℕ) (found : List ℕ × List ℕ) → sized bytes (Ok found) → Spells sized_bytes (λ b. length b < 256 ^ 2) bytes found
+pub spells_sized : (bytes : List ℕ) (found : List ℕ × List ℕ) → sized bytes (Ok found)
+    → Spells sized_bytes (λ b. length b < 256 ^ 2) bytes found
 unfolding sized number
 spells_sized bytes found (n, rest, there, (is, same)) =
     record {
-      is = there.0 ∙ (λ i. bytes_high_first 2 (sym same i) ++ is i) ∙ sym (append_assoc (bytes_high_first 2 (length found.0)) found.0 found.1);
+      is = there.0 ∙ (λ i. bytes_high_first 2 (sym same i) ++ is i)
+          ∙ sym (append_assoc (bytes_high_first 2 (length found.0)) found.0 found.1);
       right = subst (λ m. m < 256 ^ 2) (sym same) there.1;
     }
 
 -- what is read one after the other
-pub record SpellsEach {A : Type 0} (write : A → List ℕ) (allowed : List A → A → Type 0) (n : ℕ) (before : List A) (bytes : List ℕ) (found : List A × List ℕ) : Type 0 where
+pub record SpellsEach {A : Type 0} (write : A → List ℕ) (allowed : List A → A → Type 0) (n : ℕ) (before : List A) (bytes : List ℕ)
+    (found : List A × List ℕ) : Type 0 where
   pub more : List A
   pub all : found.0 ≡ before ++ more
   pub count : length more ≡ n
@@ -165,7 +184,8 @@ pub record SpellsEach {A : Type 0} (write : A → List ℕ) (allowed : List A �
 
 pub spells_each : {A : Type 0} (item : List A → Reader A) (write : A → List ℕ) (right : List A → A → Type 0)
     → ((before : List A) (bytes : List ℕ) (found : A × List ℕ) → item before bytes (Ok found) → Spells write (right before) bytes found)
-    → (n : ℕ) (before : List A) (bytes : List ℕ) (found : List A × List ℕ) → each item n before bytes (Ok found) → SpellsEach write right n before bytes found
+    → (n : ℕ) (before : List A) (bytes : List ℕ) (found : List A × List ℕ) → each item n before bytes (Ok found)
+    → SpellsEach write right n before bytes found
 spells_each item write right spells zero before bytes found (same, rest) =
     record { more = []; all = same ∙ sym (append-nil before); count = refl; is = sym rest; are = tt }
 spells_each item write right spells (suc n) before bytes found (x, rest, there, others) =

@@ -1,11 +1,13 @@
 -- The text of a schema is UTF-8, since names and kinds are ASCII.
-use Rattle.std.specs.Prelude.{◌≡◌, refl, ℕ, zero, suc, ◌<◌, ◌||◌, ◌==◌, ◌&&◌, nat_lt, Bool, true, false, List, [], ◌∷◌, ◌++◌, slice_index, codes, IsUtf8}
+use Rattle.std.specs.Prelude.{◌≡◌, refl, ℕ, zero, suc, ◌<◌, ◌||◌, ◌==◌, ◌&&◌, nat_lt, Bool, true, false, List, [], ◌∷◌, ◌++◌, slice_index}
+use Rattle.std.specs.Prelude.{codes, IsUtf8}
 use Rattle.std.proofs.Common.{arith}
 use Rattle.std.proofs.lemmas.Bool.{ltb-true}
 use Rattle.std.proofs.lemmas.Str.{IsUtf8-from_ascii}
 use Rattle.std.specs.Char.{is_ascii_alphanumeric}
 use Rattle.std.specs.List.{AllByRecursion, list_all}
-use Rattle.summary_codec.specs.Lemmas.Words.{each_append, Kind, Bigint_kind, Boolean_kind, Text_kind, Column, names, printed, column_text, kind_text, AreColumns, IsColumnName}
+use Rattle.summary_codec.specs.Lemmas.Words.{each_append, Kind, Bigint_kind, Boolean_kind, Text_kind, Column, names, printed, column_text}
+use Rattle.summary_codec.specs.Lemmas.Words.{kind_text, AreColumns, IsColumnName}
 use Rattle.grouping_model.specs.MemberLaws.{false_is_not_true}
 
 abbrev AreLow : List ℕ → Type 0
@@ -33,7 +35,8 @@ kind_low Text_kind = tested_low (codes "text") refl
 column_low : (column : Column) → IsColumnName column.name → AreLow (column_text column)
 column_low column named =
     each_append (λ b. b < 128) (column.name ++ codes " ") (kind_text column.kind)
-    (each_append (λ b. b < 128) column.name (codes " ") (all_passing (λ b. is_ascii_alphanumeric b || b == 95) name_low column.name named.legal.continues) (tested_low (codes " ") refl))
+    (each_append (λ b. b < 128) column.name (codes " ") (all_passing (λ b. is_ascii_alphanumeric b || b == 95) name_low column.name
+    named.legal.continues) (tested_low (codes " ") refl))
     (kind_low column.kind)
 
 columns_low : (columns : List Column) → AllByRecursion IsColumnName (names columns) → AreLow (printed columns)

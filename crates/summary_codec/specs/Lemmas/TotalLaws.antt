@@ -1,12 +1,14 @@
 -- No bytes are without an outcome. Whether bytes are a packing, or a state, or a schema's text, is stated and not computed, so this is said
 -- of what would follow if there were none.
-use Rattle.std.proofs.Common.{◌≡◌, ◌≢◌, refl, ℕ, zero, suc, ◌<◌, List, [], ◌∷◌, ◌++◌, take, drop, length, slice_index, Result, Ok, Err, inl, inr, sym, ap, subst, ◌∙◌, arith}
+use Rattle.std.proofs.Common.{◌≡◌, ◌≢◌, refl, ℕ, zero, suc, ◌<◌, List, [], ◌∷◌, ◌++◌, take, drop, length, slice_index, Result, Ok, Err, inl}
+use Rattle.std.proofs.Common.{inr, sym, ap, subst, ◌∙◌, arith}
 use Rattle.std.proofs.lemmas.List.{length-take, take-append-drop}
 use Rattle.std.proofs.lemmas.Bool.{cases_lt}
 use Rattle.byteorder.specs.Endian.{big_from}
 use Rattle.byteorder.specs.Numbers.{big_from-lt}
 use Rattle.agg_protocol.specs.Lemmas.Bytes.{own_bytes}
-use Rattle.summary_codec.specs.Lemmas.Words.{Column, Checked, parsing, opening, Outcome, Reader, done, both, must, taken, number, each, columns_in, query_in, opened, ended, SummaryError}
+use Rattle.summary_codec.specs.Lemmas.Words.{Column, Checked, parsing, opening, Outcome, Reader, done, both, must, taken, number, each}
+use Rattle.summary_codec.specs.Lemmas.Words.{columns_in, query_in, opened, ended, SummaryError}
 use Rattle.group_parser.specs.declared.error.ParseError.{ParseError}
 use Rattle.group_parser.specs.Lemmas.ParseLaws.{parses_accepts, parses_refuses}
 use Rattle.summary_codec.specs.declared.error.SummaryError.TheVariants as fault
@@ -38,14 +40,17 @@ HasOutcome {A = A} r = (bytes : List ℕ) → AreBytes bytes → ((out : Outcome
 pub some_done : {A : Type 0} (x : A) → HasOutcome (done x)
 some_done x bytes are never = never (Ok (x, bytes)) (refl, refl) are
 
-pub some_both : {A B : Type 0} (first : Reader A) (next : A → Reader B) → HasOutcome first → ((x : A) → HasOutcome (next x)) → HasOutcome (both first next)
+pub some_both : {A B : Type 0} (first : Reader A) (next : A → Reader B) → HasOutcome first → ((x : A) → HasOutcome (next x))
+    → HasOutcome (both first next)
 some_both {A} {B} first next some more bytes are never = some bytes are one
   where
     one : (out : Outcome A) → first bytes out → LeavesBytes out → ⊥
-    one (Ok found) there left = more found.0 found.1 left (λ out behind leaves. never out (goes_on first next bytes found.1 found.0 out there behind) leaves)
+    one (Ok found) there left = more found.0 found.1 left
+        (λ out behind leaves. never out (goes_on first next bytes found.1 found.0 out there behind) leaves)
     one (Err e) there left = never (Err e) (inl there) tt
 
-pub some_must : {A : Type 0} (right : Type 0) (error : SummaryError) (next : Reader A) → HasOutcome next → HasOutcome (must right error next)
+pub some_must : {A : Type 0} (right : Type 0) (error : SummaryError) (next : Reader A) → HasOutcome next
+    → HasOutcome (must right error next)
 some_must {A} right error next some bytes are never = never (Err error) (inr (wrong, refl)) tt
   where
     with_it : (is : right) (out : Outcome A) → next bytes out → LeavesBytes out → ⊥
@@ -64,7 +69,8 @@ some_taken count bytes are never = elim (cases_lt (length bytes) count) [
   | inl low ↦ never (Err Truncated) (low, refl) tt
   | inr high ↦
       let wide = length-take count bytes in
-      never (Ok (take count bytes, drop count bytes)) (in_two count bytes, omega (arith, wide, high)) (rest_of (take count bytes) (drop count bytes) (subst AreBytes (in_two count bytes) are))
+      never (Ok (take count bytes, drop count bytes)) (in_two count bytes, omega (arith, wide, high))
+      (rest_of (take count bytes) (drop count bytes) (subst AreBytes (in_two count bytes) are))
 ]
 
 pub some_number : (width : ℕ) → HasOutcome (number width)
@@ -75,14 +81,18 @@ some_number width bytes are never = elim (cases_lt (length bytes) width) [
       let wide = length-take width bytes in
       let whole = subst AreBytes (in_two width bytes) are in
       let front = front_of (take width bytes) (drop width bytes) whole in
-      never (Ok (big_from 0 width (take width bytes), drop width bytes))
-      (in_two width bytes ∙ ap (λ f. f ++ drop width bytes) (own_bytes width (take width bytes) front (omega (arith, wide, high))), big_from-lt 0 width (take width bytes) front)
+      never (Ok (big_from 0 width (take width bytes), drop width bytes)) (
+        in_two width bytes ∙ ap (λ f. f ++ drop width bytes) (own_bytes width (take width bytes) front (omega (arith, wide, high))),
+        big_from-lt 0 width (take width bytes) front,
+      )
       (rest_of (take width bytes) (drop width bytes) whole)
 ]
 
-pub some_each : {A : Type 0} (item : List A → Reader A) → ((before : List A) → HasOutcome (item before)) → (n : ℕ) (before : List A) → HasOutcome (each item n before)
+pub some_each : {A : Type 0} (item : List A → Reader A) → ((before : List A) → HasOutcome (item before)) → (n : ℕ) (before : List A)
+    → HasOutcome (each item n before)
 some_each item some zero before = some_done before
-some_each item some (suc n) before = some_both (item before) (λ x. each item n (before ++ x ∷ [])) (some before) (λ x. some_each item some n (before ++ x ∷ []))
+some_each item some (suc n) before = some_both (item before) (λ x. each item n (before ++ x ∷ [])) (some before)
+    (λ x. some_each item some n (before ++ x ∷ []))
 
 pub some_columns : (said : List ℕ) → HasOutcome (columns_in said)
 some_columns said bytes are never = never (Err BadSchema) ((λ columns is. never (Ok (columns, bytes)) (is, refl) are), refl) tt
@@ -97,8 +107,10 @@ some_query_in columns said bytes are never = go (parsing columns said) refl
 pub some_opened : HasOutcome opened
 unfolding opened
 some_opened bytes are never =
-    never (Err NotASummary)
-    ((λ version rest is. never (Ok (version, rest)) is (rest_of (opening version) rest (subst AreBytes is are))), (λ short. never (Err Truncated) short tt)) tt
+    never (Err NotASummary) (
+      (λ version rest is. never (Ok (version, rest)) is (rest_of (opening version) rest (subst AreBytes is are))),
+      (λ short. never (Err Truncated) short tt),
+    ) tt
 
 pub some_ended : HasOutcome ended
 some_ended [] are never = never (Ok (tt, [])) (refl, refl) are

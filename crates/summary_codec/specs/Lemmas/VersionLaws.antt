@@ -1,7 +1,9 @@
 -- What the versions of a file have in common, and how they differ.
 use Rattle.std.proofs.Common.{◌≡◌, refl, ℕ, ◌*◌, ◌^◌, ◌<◌, ◌≤◌, List, ◌++◌, length, slice_index, ap, sym, ◌∙◌, arith}
 use Rattle.std.proofs.lemmas.List.{append_cancel_left}
-use Rattle.summary_codec.specs.Lemmas.Words.{each_weaker, LAST_NUMBER, MOST_ROWS, kinds, Checked, Part, IsEarly, IsPartOf, Parts, IsHeldPart, AreHeldParts, opening, last_number, most_batch_rows, IsBatchWithin, IsWithin, AreWithin, Version, First, Second}
+use Rattle.summary_codec.specs.Lemmas.Words.{each_weaker, LAST_NUMBER, MAX_ROWS, kinds, Checked, Part, IsEarly, IsPartOf, Parts, IsHeldPart}
+use Rattle.summary_codec.specs.Lemmas.Words.{AreHeldParts, opening, last_number, most_batch_rows, IsBatchWithin, IsWithin, AreWithin}
+use Rattle.summary_codec.specs.Lemmas.Words.{Version, First, Second}
 
 -- ---- openings
 
@@ -27,11 +29,11 @@ pub number_low : (version : Version) → last_number version ≤ LAST_NUMBER
 number_low First = omega arith
 number_low Second = omega arith
 
-pub rows_low : (version : Version) → most_batch_rows version ≤ MOST_ROWS
+pub rows_low : (version : Version) → most_batch_rows version ≤ MAX_ROWS
 rows_low First = omega arith
 rows_low Second = omega arith
 
-pub product_low : (version : Version) (number : ℕ) → number * most_batch_rows version ≤ number * MOST_ROWS
+pub product_low : (version : Version) (number : ℕ) → number * most_batch_rows version ≤ number * MAX_ROWS
 product_low First number = omega arith
 product_low Second number = omega arith
 
@@ -50,8 +52,10 @@ part_within query part is =
       prefix = is.within;
       run = is.run;
       few = is.few;
-      early = each_weaker (IsEarly (kinds query.columns) part.prefix) (IsBatchWithin Second) (λ batch early. record { number = early.within; rows = early.rows.few }) part.early is.early;
+      early = each_weaker (IsEarly (kinds query.columns) part.prefix) (IsBatchWithin Second)
+          (λ batch early. record { number = early.within; rows = early.rows.few }) part.early is.early;
     }
 
 pub held_within : (query : Checked) (held : Parts) → AreHeldParts query held → AreWithin Second query held
-held_within query held are = each_weaker (IsHeldPart query) (λ (h : ℕ × Part). IsWithin Second query h.1) (λ h is. part_within query h.1 is.part) held are.each
+held_within query held are = each_weaker (IsHeldPart query) (λ (h : ℕ × Part). IsWithin Second query h.1)
+    (λ h is. part_within query h.1 is.part) held are.each

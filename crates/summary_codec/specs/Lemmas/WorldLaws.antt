@@ -1,5 +1,6 @@
 -- The file of a world: what it is of fits the world, and may be held.
-use Rattle.std.specs.Prelude.{◌≡◌, ◌≢◌, refl, ℕ, zero, suc, ◌+◌, ◌*◌, ◌<◌, ◌≤◌, ◌⊎◌, true, List, [], ◌∷◌, ◌++◌, map, flat_map, length, Option, Some, None, IsSome, IsTrue, IsUtf8, unwrap_or}
+use Rattle.std.specs.Prelude.{◌≡◌, ◌≢◌, refl, ℕ, zero, suc, ◌+◌, ◌*◌, ◌<◌, ◌≤◌, ◌⊎◌, true, List, [], ◌∷◌, ◌++◌, map, flat_map, length}
+use Rattle.std.specs.Prelude.{Option, Some, None, IsSome, IsTrue, IsUtf8, unwrap_or}
 use Rattle.std.proofs.Common.{sym, ◌∙◌, ap, subst, inl, inr, arith}
 use Rattle.std.proofs.Math.Nat.{suc-mul}
 use Rattle.std.proofs.lemmas.Bool.{cases_lt}
@@ -7,7 +8,10 @@ use Rattle.std.proofs.lemmas.List.{length-append, length-map}
 use Rattle.std.specs.List.{AllByRecursion}
 use Rattle.std.specs.List.Sorted.{IsStrictlySortedBy}
 use Rattle.std.specs.Ordering.{nat_cmp}
-use Rattle.summary_codec.specs.Lemmas.Words.{each_append, Row, Kind, HasKinds, MOST_ROWS, kinds, packing, packings, Checked, spelling, IsCheckedQuery, by_names, meaning, AreGroups, run_bytes, IsHeldPart, AreHeldParts, Part, IsEarly, IsPartOf, IsSummaryIn, last_number, most_batch_rows, IsBatchWithin, IsWithin, AreWithin, Version, Second}
+use Rattle.summary_codec.specs.Lemmas.Words.{each_append, Row, Kind, HasKinds, MAX_ROWS, kinds, packing, packings, Checked, spelling}
+use Rattle.summary_codec.specs.Lemmas.Words.{IsCheckedQuery, by_names, meaning, AreGroups, run_bytes, IsHeldPart, AreHeldParts, Part}
+use Rattle.summary_codec.specs.Lemmas.Words.{IsEarly, IsPartOf, IsSummaryIn, last_number, most_batch_rows, IsBatchWithin, IsWithin}
+use Rattle.summary_codec.specs.Lemmas.Words.{AreWithin, Version, Second}
 use Rattle.grouping_model.specs.EarlyLaws.{early_are, early_rise, origins_are, origins_rise}
 use Rattle.grouping_model.specs.Grouping.{part}
 use Rattle.grouping_model.specs.MemberLaws.{Member, from_contains, to_contains, false_is_not_true}
@@ -29,21 +33,26 @@ there_is : {X : Type 0} (o : Option X) → IsSome o → (x : X) × (o ≡ Some x
 there_is None some = false_is_not_true some
 there_is (Some x) some = (x, refl)
 
-rows_kinds : (ks : List Kind) (world : World) → IsWorld ks world → (origin : ℕ) (ns : List ℕ) → AllByRecursion (HasKinds ks) (flat_map (batch_rows world origin) ns)
+rows_kinds : (ks : List Kind) (world : World) → IsWorld ks world → (origin : ℕ) (ns : List ℕ)
+    → AllByRecursion (HasKinds ks) (flat_map (batch_rows world origin) ns)
 rows_kinds ks world is origin [] = tt
-rows_kinds ks world is origin (n ∷ ns) = each_append (HasKinds ks) (batch_rows world origin n) (flat_map (batch_rows world origin) ns) (batch_kinds ks world is origin n) (rows_kinds ks world is origin ns)
+rows_kinds ks world is origin (n ∷ ns) = each_append (HasKinds ks) (batch_rows world origin n) (flat_map (batch_rows world origin) ns)
+    (batch_kinds ks world is origin n) (rows_kinds ks world is origin ns)
 
 -- batches one behind the other, of each of which so many rows are known at most
-few_counted : (world : World) (origin most first n : ℕ) → ((number : ℕ) → first ≤ number → number < first + n → length (batch_rows world origin number) ≤ most)
+few_counted : (world : World) (origin most first n : ℕ) → ((number : ℕ) → first ≤ number → number < first + n
+    → length (batch_rows world origin number) ≤ most)
     → length (flat_map (batch_rows world origin) (count_up first n)) ≤ length (count_up first n) * most
 few_counted world origin most first zero few = omega arith
 few_counted world origin most first (suc n) few =
     let one : length (batch_rows world origin first) ≤ most = few first (omega arith) (omega arith) in
     let rest : length (flat_map (batch_rows world origin) (count_up (first + 1) n)) ≤ length (count_up (first + 1) n) * most =
     few_counted world origin most (first + 1) n (λ number low high. few number (omega (arith, low)) (omega (arith, high))) in
-    let both : length (batch_rows world origin first ++ flat_map (batch_rows world origin) (count_up (first + 1) n)) ≡ length (batch_rows world origin first) + length (flat_map (batch_rows world origin) (count_up (first + 1) n)) =
+    let both : length (batch_rows world origin first ++ flat_map (batch_rows world origin) (count_up (first + 1) n))
+    ≡ length (batch_rows world origin first) + length (flat_map (batch_rows world origin) (count_up (first + 1) n)) =
     length-append (batch_rows world origin first) (flat_map (batch_rows world origin) (count_up (first + 1) n)) in
-    sum_low (length (batch_rows world origin first)) (length (flat_map (batch_rows world origin) (count_up (first + 1) n))) _ (length (count_up (first + 1) n)) one rest both
+    sum_low (length (batch_rows world origin first)) (length (flat_map (batch_rows world origin) (count_up (first + 1) n))) _
+    (length (count_up (first + 1) n)) one rest both
   where
     sum_low : (a b c k : ℕ) → a ≤ most → b ≤ k * most → c ≡ a + b → c ≤ suc k * most
     sum_low a b c k one rest both = let product = suc-mul k most in omega (arith, one, rest, both, product)
@@ -64,14 +73,16 @@ some_mapped f (y ∷ ys) x m = λ e. let none : length (map f (y ∷ ys)) ≡ 0 
 -- ---- bounds
 
 -- each world's batches keep the bounds of the second version
-pub second_keeps : (query : Checked) (world : World) (known : Knowledge) → IsWorld (kinds query.columns) world → IsKnownWithin Second world known
+pub second_keeps : (query : Checked) (world : World) (known : Knowledge) → IsWorld (kinds query.columns) world
+    → IsKnownWithin Second world known
 second_keeps query world known is_world origin number rows knows_it there =
     let limits = is_world origin number rows there in
     (limits.2, limits.3)
 
 -- ---- what is held of an origin
 
-module _ (query : Checked) (world : World) (known : Knowledge) (is_query : IsCheckedQuery query) (is_world : IsWorld (kinds query.columns) world) (of_world : IsKnownOf world known) where
+module _ (query : Checked) (world : World) (known : Knowledge) (is_query : IsCheckedQuery query)
+    (is_world : IsWorld (kinds query.columns) world) (of_world : IsKnownOf world known) where
   -- a batch that is known is there, and keeps the limits
   known_rows : (origin number : ℕ) → IsTrue (knows known (origin, number)) → (rows : List Row) × (world origin number ≡ Some rows)
   known_rows origin number knows_it = there_is (world origin number) (of_world.there origin number knows_it)
@@ -80,7 +91,8 @@ module _ (query : Checked) (world : World) (known : Knowledge) (is_query : IsChe
   known_from_one origin number knows_it = let found = known_rows origin number knows_it in (is_world origin number found.0 found.1).1
 
   -- an early batch has a gap before it
-  early_behind : (origin number : ℕ) → IsTrue (knows known (origin, number)) → prefix known origin < number → prefix known origin + 1 < number
+  early_behind : (origin number : ℕ) → IsTrue (knows known (origin, number)) → prefix known origin < number → prefix known origin
+      + 1 < number
   early_behind origin number knows_it low =
       elim (cases_lt (prefix known origin + 1) number) [
         | inl far ↦ far
@@ -89,17 +101,20 @@ module _ (query : Checked) (world : World) (known : Knowledge) (is_query : IsChe
             false_is_not_true (sym (next_unknown known origin) ∙ subst (λ n. knows known (origin, n) ≡ true) same knows_it)
       ]
 
-  early_known : (origin number : ℕ) → Member (early known origin) number → IsTrue (knows known (origin, number)) × (prefix known origin < number)
+  early_known : (origin number : ℕ) → Member (early known origin) number → IsTrue (knows known (origin, number))
+      × (prefix known origin < number)
   early_known origin number listed = (early_are known origin number).0 (to_contains (early known origin) number listed)
 
-  is_early : (origin number : ℕ) → Member (early known origin) number → IsEarly (kinds query.columns) (prefix known origin) (numbered world origin number)
+  is_early : (origin number : ℕ) → Member (early known origin) number
+      → IsEarly (kinds query.columns) (prefix known origin) (numbered world origin number)
   is_early origin number listed =
       let told = early_known origin number listed in
       let found = known_rows origin number told.0 in
       let limits = is_world origin number found.0 found.1 in
       let here : batch_rows world origin number ≡ found.0 = ap (λ o. unwrap_or o []) found.1 in
-      let few : length found.0 ≤ MOST_ROWS = limits.3 in
-      let long : length (packings (batch_rows world origin number)) ≡ length (batch_rows world origin number) = length-map (batch_rows world origin number) packing in
+      let few : length found.0 ≤ MAX_ROWS = limits.3 in
+      let long : length (packings (batch_rows world origin number))
+      ≡ length (batch_rows world origin number) = length-map (batch_rows world origin number) packing in
       let same : length (batch_rows world origin number) ≡ length found.0 = ap length here in
       record {
         behind = early_behind origin number told.0 told.1;
@@ -111,7 +126,8 @@ module _ (query : Checked) (world : World) (known : Knowledge) (is_query : IsChe
   rows_of_prefix origin = rows_upto world origin (prefix known origin)
 
   -- within the bounds of a version, if the known batches keep them
-  rows_within : (version : Version) → IsKnownWithin version world known → (origin number : ℕ) → IsTrue (knows known (origin, number)) → (number ≤ last_number version) × (length (batch_rows world origin number) ≤ most_batch_rows version)
+  rows_within : (version : Version) → IsKnownWithin version world known → (origin number : ℕ) → IsTrue (knows known (origin, number))
+      → (number ≤ last_number version) × (length (batch_rows world origin number) ≤ most_batch_rows version)
   rows_within version keeps origin number knows_it =
       let found = known_rows origin number knows_it in
       let here : batch_rows world origin number ≡ found.0 = ap (λ o. unwrap_or o []) found.1 in
@@ -121,19 +137,24 @@ module _ (query : Checked) (world : World) (known : Knowledge) (is_query : IsChe
   number_within : (version : Version) → IsKnownWithin version world known → (origin : ℕ) → prefix known origin ≤ last_number version
   number_within version keeps origin =
       elim (cases_lt 0 (prefix known origin)) [
-        | inl some ↦ (rows_within version keeps origin (prefix known origin) (prefix_unbroken known origin (prefix known origin) (omega (arith, some)) (omega arith))).0
+        | inl some ↦ (rows_within version keeps origin (prefix known origin) (prefix_unbroken known origin (prefix known origin)
+            (omega (arith, some)) (omega arith))).0
         | inr none ↦ omega (arith, none)
       ]
 
-  few_within : (version : Version) → IsKnownWithin version world known → (origin : ℕ) → length (rows_of_prefix origin) ≤ prefix known origin * most_batch_rows version
+  few_within : (version : Version) → IsKnownWithin version world known → (origin : ℕ) → length (rows_of_prefix origin) ≤ prefix known origin
+      * most_batch_rows version
   few_within version keeps origin =
       subst (λ m. length (rows_of_prefix origin) ≤ m * most_batch_rows version) (count_length 1 (prefix known origin))
-      (few_counted world origin (most_batch_rows version) 1 (prefix known origin) (λ number low high. (rows_within version keeps origin number (prefix_unbroken known origin number low (omega (arith, high)))).1))
+      (few_counted world origin (most_batch_rows version) 1 (prefix known origin)
+      (λ number low high. (rows_within version keeps origin number (prefix_unbroken known origin number low (omega (arith, high)))).1))
 
-  part_within : (version : Version) → IsKnownWithin version world known → (origin : ℕ) → IsWithin version query (world_part query world known origin).1
+  part_within : (version : Version) → IsKnownWithin version world known → (origin : ℕ)
+      → IsWithin version query (world_part query world known origin).1
   part_within version keeps origin =
       let most : ℕ = prefix known origin * most_batch_rows version in
-      let have : AllByRecursion (HasKinds (kinds query.columns)) (rows_of_prefix origin) = rows_kinds (kinds query.columns) world is_world origin (count_up 1 (prefix known origin)) in
+      let have : AllByRecursion (HasKinds (kinds query.columns)) (rows_of_prefix origin) = rows_kinds (kinds query.columns) world is_world
+      origin (count_up 1 (prefix known origin)) in
       let few : length (rows_of_prefix origin) ≤ most = few_within version keeps origin in
       record {
         prefix = number_within version keeps origin;
@@ -145,16 +166,21 @@ module _ (query : Checked) (world : World) (known : Knowledge) (is_query : IsChe
         few = groups_few (meaning query) most (rows_of_prefix origin) is_query.well_formed have few;
         early = each_mapped (IsBatchWithin version) (numbered world origin) (early known origin) (λ number listed.
             let bounds = rows_within version keeps origin number (early_known origin number listed).0 in
-            record { number = bounds.0; rows = subst (λ n. n ≤ most_batch_rows version) (sym (length-map (batch_rows world origin number) packing)) bounds.1 });
+            record {
+              number = bounds.0;
+              rows = subst (λ n. n ≤ most_batch_rows version)
+                  (sym (length-map (batch_rows world origin number) packing)) bounds.1;
+            });
       }
 
   -- and so within those of the second
   is_second : IsKnownWithin Second world known
   is_second = second_keeps query world known is_world
 
-  prefix_groups : (origin : ℕ) → AreGroups (meaning query) (prefix known origin * MOST_ROWS) (run_bytes (part (meaning query) (rows_of_prefix origin))) (part (meaning query) (rows_of_prefix origin))
+  prefix_groups : (origin : ℕ) → AreGroups (meaning query) (prefix known origin * MAX_ROWS)
+      (run_bytes (part (meaning query) (rows_of_prefix origin))) (part (meaning query) (rows_of_prefix origin))
   prefix_groups origin =
-      groups_stand (meaning query) (prefix known origin * MOST_ROWS) (rows_of_prefix origin) is_query.well_formed
+      groups_stand (meaning query) (prefix known origin * MAX_ROWS) (rows_of_prefix origin) is_query.well_formed
       (rows_kinds (kinds query.columns) world is_world origin (count_up 1 (prefix known origin))) (few_within Second is_second origin)
 
   is_part : (origin : ℕ) → IsPartOf query (world_part query world known origin).1
@@ -164,8 +190,10 @@ module _ (query : Checked) (world : World) (known : Knowledge) (is_query : IsChe
         within = within.prefix;
         run = within.run;
         few = within.few;
-        rising = subst (IsStrictlySortedBy nat_cmp) (sym (numbers_back (λ n. packings (batch_rows world origin n)) (early known origin))) (early_rise known origin);
-        early = each_mapped (IsEarly (kinds query.columns) (prefix known origin)) (numbered world origin) (early known origin) (is_early origin);
+        rising = subst (IsStrictlySortedBy nat_cmp) (sym (numbers_back (λ n. packings (batch_rows world origin n)) (early known origin)))
+            (early_rise known origin);
+        early = each_mapped (IsEarly (kinds query.columns) (prefix known origin)) (numbered world origin) (early known origin)
+            (is_early origin);
       }
 
   -- it fits the world
@@ -183,14 +211,17 @@ module _ (query : Checked) (world : World) (known : Knowledge) (is_query : IsChe
         there = λ number low high. of_world.there origin number (prefix_unbroken known origin number low high);
         run = prefix_groups origin;
         early = λ number rows found.
-            found_holds (IsOfWorld origin) (map (numbered world origin) (early known origin)) number rows (each_mapped (IsOfWorld origin) (numbered world origin) (early known origin) (of_early origin)) found;
+            found_holds (IsOfWorld origin) (map (numbered world origin) (early known origin)) number rows
+            (each_mapped (IsOfWorld origin) (numbered world origin) (early known origin) (of_early origin)) found;
       }
 
   -- it may be held
-  some_known : (origin number : ℕ) → IsTrue (knows known (origin, number)) → (0 < prefix known origin) ⊎ (map (numbered world origin) (early known origin) ≢ [])
+  some_known : (origin number : ℕ) → IsTrue (knows known (origin, number)) → (0 < prefix known origin)
+      ⊎ (map (numbered world origin) (early known origin) ≢ [])
   some_known origin number knows_it =
       elim (cases_lt (prefix known origin) number) [
-        | inl above ↦ inr (some_mapped (numbered world origin) (early known origin) number (from_contains (early known origin) number ((early_are known origin number).1 (knows_it, above))))
+        | inl above ↦ inr (some_mapped (numbered world origin) (early known origin) number
+            (from_contains (early known origin) number ((early_are known origin number).1 (knows_it, above))))
         | inr below ↦ inl (let low = known_from_one origin number knows_it in omega (arith, low, below))
       ]
 
@@ -203,13 +234,17 @@ module _ (query : Checked) (world : World) (known : Knowledge) (is_query : IsChe
   pub are_held : AreHeldParts query (world_parts query world known)
   are_held =
       record {
-        rising = subst (IsStrictlySortedBy nat_cmp) (sym (numbers_back (λ origin. (world_part query world known origin).1) (origins known))) (origins_rise known);
+        rising = subst (IsStrictlySortedBy nat_cmp) (sym (numbers_back (λ origin. (world_part query world known origin).1) (origins known)))
+            (origins_rise known);
         each = each_mapped (IsHeldPart query) (world_part query world known) (origins known) is_held;
       }
 
   pub parts_within : (version : Version) → IsKnownWithin version world known → AreWithin version query (world_parts query world known)
-  parts_within version keeps = each_mapped (λ (held : ℕ × Part). IsWithin version query held.1) (world_part query world known) (origins known) (λ origin listed. part_within version keeps origin)
+  parts_within version keeps = each_mapped (λ (held : ℕ × Part). IsWithin version query held.1) (world_part query world known)
+      (origins known) (λ origin listed. part_within version keeps origin)
 
   -- the file is read as these parts
-  pub world_read : (version : Version) → IsKnownWithin version world known → IsUtf8 (spelling (by_names query)) → IsSummaryIn version (world_file_in version query world known) query (world_parts query world known)
-  world_read version keeps utf8 = read_again version query (world_parts query world known) is_query (schema_text query.columns is_query.columns_are) utf8 are_held (parts_within version keeps)
+  pub world_read : (version : Version) → IsKnownWithin version world known → IsUtf8 (spelling (by_names query))
+      → IsSummaryIn version (world_file_in version query world known) query (world_parts query world known)
+  world_read version keeps utf8 = read_again version query (world_parts query world known) is_query
+      (schema_text query.columns is_query.columns_are) utf8 are_held (parts_within version keeps)

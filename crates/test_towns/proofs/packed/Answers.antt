@@ -8,6 +8,7 @@ use Rattle.test_towns.proofs.packed.Goals as goal
 pub returns : goal.returns
 returns c =
     let batch = c.in_ok-batch.ensures in
-    let reads = subst (λ columns. ReadsRows (kinds columns) (records_of c.deref.result.now) batch.rows.0) c.schema.ensures.columns batch.rows.1 in
+    let reads = subst (λ columns. ReadsRows (kinds columns) (records_of c.deref.result.now) batch.rows.0) c.schema.ensures.columns
+    batch.rows.1 in
     let input = packed_input c.args.query.now _ (built_rows _ _ batch.rows.0 _ reads batch.rows.2 batch.few) in
     (input.0, input.1, batch.told)

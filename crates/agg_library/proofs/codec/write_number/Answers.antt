@@ -9,4 +9,5 @@ use Rattle.agg_library.proofs.codec.write_number.Goals as goal
 pub returns-in-Some-clause-written : goal.returns-in-Some-clause-written
 returns-in-Some-clause-written c =
     let same : cast_signed w64 (cast_unsigned w64 c.in-Some.number) ≡ c.in-Some.number = search (rules, to_z-of_z) in
-    number_written c.args.bytes.now c.write_i64.new.buf (cast_signed w64 (cast_unsigned w64 c.in-Some.number)) c.requires c.write_i64.ensures ∙ ap (λ o. bytes_of (Number o)) (ap Some same ∙ sym c.in-Some.is)
+    number_written c.args.bytes.now c.write_i64.new.buf (cast_signed w64 (cast_unsigned w64 c.in-Some.number)) c.requires
+    c.write_i64.ensures ∙ ap (λ o. bytes_of (Number o)) (ap Some same ∙ sym c.in-Some.is)

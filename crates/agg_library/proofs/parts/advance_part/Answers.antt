@@ -22,17 +22,20 @@ pub returns-then-rows_after-most-clause-err : goal.returns-then-rows_after-most-
 returns-then-rows_after-most-clause-err g c =
     λ p d.
     let f = g.A.Aggregate.function in let state = g.A.Aggregate.denoted c.in_ok-state.state in
-    subst (λ q. c.args.most < rows_of (partial_after f q c.args.reach)) (once c.args.most (shape_of f) c.args.part.now state p c.requires.most c.in_ok-state.ensures.ok d)
+    subst (λ q. c.args.most < rows_of (partial_after f q c.args.reach)) (once c.args.most (shape_of f) c.args.part.now state p
+    c.requires.most c.in_ok-state.ensures.ok d)
     (subst (λ r. c.args.most < rows_of (partial_after f state r)) (sym c.in-Some.is) (omega (arith, c.rows_after.ensures)))
 
 pub serialize-requires : goal.serialize-requires
 serialize-requires g c =
-    width_known c.args.most (shape_of g.A.Aggregate.function) c.args.part.now (g.A.Aggregate.denoted c.in_ok-state.state) c.in_ok-state.ensures.ok ∙ sym g.met.A.Aggregate.fits
+    width_known c.args.most (shape_of g.A.Aggregate.function) c.args.part.now (g.A.Aggregate.denoted c.in_ok-state.state)
+    c.in_ok-state.ensures.ok ∙ sym g.met.A.Aggregate.fits
 
 pub returns-clause-ok : goal.returns-clause-ok
 returns-clause-ok g c = (
   g.A.Aggregate.denoted c.in_ok-state.state,
   c.in_ok-state.ensures.ok,
-  advanced g.A.Aggregate.function c.args.most (g.A.Aggregate.denoted c.in_ok-state.state) (g.A.Aggregate.denoted c.transition-after.result) c.args.reach c.in-Some.value c.serialize.new.bytes
+  advanced g.A.Aggregate.function c.args.most (g.A.Aggregate.denoted c.in_ok-state.state) (g.A.Aggregate.denoted c.transition-after.result)
+      c.args.reach c.in-Some.value c.serialize.new.bytes
       c.in-Some.is c.transition-after.ensures.moves (omega (arith, c.if-rows_after-most.false, c.rows_after.ensures)) c.serialize.ensures,
 )

@@ -21,6 +21,7 @@ pub returns-then-is_some-clause-refused : goal.returns-then-is_some-clause-refus
 returns-then-is_some-clause-refused c = λ origin number head. (
   head,
   c.requires,
-  one_more c.args.records.now c.pack_next.new.records c.next.new.self c.args.told c.in_ok-next.field-0 (sym c.is_some.ensures ∙ c.if-is_some.true)
+  one_more c.args.records.now c.pack_next.new.records c.next.new.self c.args.told c.in_ok-next.field-0 (sym c.is_some.ensures
+      ∙ c.if-is_some.true)
       c.in_ok-rows.ensures.left c.in_ok-next.ensures,
 )

@@ -2,7 +2,7 @@ use Rattle.std.specs.Prelude.{◌≤◌}
 use Rattle.std.proofs.Common.{◌≡◌, Some, sym, ◌∙◌, subst}
 use Rattle.std.proofs.lemmas.Result.{err_from_is_err_and}
 use Rattle.csv.specs.Records.{fields_of}
-use Rattle.grouping_model.specs.declared.limits.TheConstants.{MOST_ROWS}
+use Rattle.grouping_model.specs.declared.limits.TheConstants.{MAX_ROWS}
 use Rattle.packed_rows.specs.Columns.{kinds}
 use Rattle.batch_reader.specs.File.{read_file}
 use Rattle.batch_reader.specs.Views.{head_view}
@@ -18,7 +18,15 @@ returns-in_err-first c =
 pub returns-in_default : goal.returns-in_default
 returns-in_default c =
     let none = rw c.in_default.is at c.in_ok-first.ensures in
-    record { origin = tt; number = tt; few = tt; told = tt; rows = tt; refused = no_records (kinds c.args.schema.now) _ (sym c.new-records.ensures ∙ none.0) }
+    record {
+      origin = tt;
+      number = tt;
+      few = tt;
+      told = tt;
+      rows = tt;
+      refused = no_records (kinds c.args.schema.now) _
+          (sym c.new-records.ensures ∙ none.0);
+    }
 
 pub returns-in_default-file_head : goal.returns-in_default-file_head
 returns-in_default-file_head c =
@@ -29,14 +37,17 @@ returns-in_default-file_head c =
       few = tt;
       told = tt;
       rows = tt;
-      refused = no_head (kinds c.args.schema.now) _ _ (fields_of c.in-Some.first) (sym c.new-records.ensures ∙ first) c.in_default-file_head.ensures;
+      refused = no_head (kinds c.args.schema.now) _ _ (fields_of c.in-Some.first) (sym c.new-records.ensures
+          ∙ first) c.in_default-file_head.ensures;
     }
 
 -- what the file is read as
-is_file : (c : In-Some-file_head) → read_file c.args.file.now ≡ Some (record { head = head_view c.in-Some-file_head.head; records = c.next.new.self })
+is_file : (c : In-Some-file_head) → read_file c.args.file.now
+    ≡ Some (record { head = head_view c.in-Some-file_head.head; records = c.next.new.self })
 is_file c =
     let first = rw c.in-Some.is at c.in_ok-first.ensures in
-    file_of _ _ (fields_of c.in-Some.first) (head_view c.in-Some-file_head.head) (sym c.new-records.ensures ∙ first) c.in-Some-file_head.ensures
+    file_of _ _ (fields_of c.in-Some.first) (head_view c.in-Some-file_head.head) (sym c.new-records.ensures
+    ∙ first) c.in-Some-file_head.ensures
 
 pub returns-in_err-origin : goal.returns-in_err-origin
 returns-in_err-origin c =
@@ -63,7 +74,13 @@ returns-in_err-rows c =
       told = tt;
       rows = tt;
       refused = rows_refused (kinds c.args.schema.now) _ _ c.in_err-rows.field-0.0 file
-          (record { origin_value = head.origin; number_value = head.number; reads_origin = head.ensures.origin; reads_number = head.ensures.number })
+          (record {
+            origin_value = head.origin;
+            number_value = head.number;
+            reads_origin = head.ensures.origin;
+            reads_number =
+                head.ensures.number;
+          })
           c.in_err-rows.ensures.refused;
     })
 
@@ -74,7 +91,7 @@ returns c =
     rw file (record {
       origin = c.in_ok-origin.ensures.origin;
       number = c.in_ok-origin.ensures.number;
-      few = subst (λ n. n ≤ MOST_ROWS) (sym rows.told) c.in_ok-origin.ensures.few;
+      few = subst (λ n. n ≤ MAX_ROWS) (sym rows.told) c.in_ok-origin.ensures.few;
       told = rows.told;
       rows = rows.packed;
       refused = tt;

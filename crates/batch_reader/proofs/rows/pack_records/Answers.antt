@@ -14,8 +14,11 @@ pub returns-in_err-push_record-clause-refused : goal.returns-in_err-push_record-
 returns-in_err-push_record-clause-refused c =
     let p = err_from_is_err_and c.from_residual.result c.from_residual.ensures.1 in
     let records = c.args.records.now in
-    let within : c.loop-row.row < length (records_of records) = let h = c.loop-row-test.true in let e = records_long records in omega (arith, h, e) in
-    rw (p.1, p.2) (first_fault (kinds c.args.schema.now) (records_of records) c.loop-row.row _ _ _ within (record_at records c.loop-row.row c.index-records-row.result c.loop-row-test.true c.index-records-row.is) c.loop-row.invariant c.in_err-push_record.ensures.refused)
+    let within : c.loop-row.row < length (records_of records) = let h = c.loop-row-test.true in let e = records_long records in omega
+    (arith, h, e) in
+    rw (p.1, p.2) (first_fault (kinds c.args.schema.now) (records_of records) c.loop-row.row _ _ _ within
+    (record_at records c.loop-row.row c.index-records-row.result c.loop-row-test.true c.index-records-row.is) c.loop-row.invariant
+    c.in_err-push_record.ensures.refused)
 
 pub loop-row-preserved : goal.loop-row-preserved
 loop-row-preserved c =
@@ -23,7 +26,8 @@ loop-row-preserved c =
     let i = c.loop-row.row in
     let within : i < length (records_of records) = let h = c.loop-row-test.true in let e = records_long records in omega (arith, h, e) in
     let row = c.in_ok-push_record.ensures.pushed in
-    rw row.2 (rows_more (kinds c.args.schema.now) (records_of records) i c.loop-row.rows _ row.0 _ within (record_at records i c.index-records-row.result c.loop-row-test.true c.index-records-row.is) row.1 refl c.loop-row.invariant)
+    rw row.2 (rows_more (kinds c.args.schema.now) (records_of records) i c.loop-row.rows _ row.0 _ within
+    (record_at records i c.index-records-row.result c.loop-row-test.true c.index-records-row.is) row.1 refl c.loop-row.invariant)
 
 pub returns-clause-packed : goal.returns-clause-packed
 returns-clause-packed c =

@@ -6,21 +6,42 @@ use Rattle.context_tree.proofs.links.cut.Goals as goal
 pub empty-requires-clause-there : goal.empty-requires-clause-there
 empty-requires-clause-there c =
     let old = c.args.links.now in
-    omega (arith, ap length c.prune.ensures.links, length-cleared (is_under old c.args.slot) None 0 old, low-there old c.args.slot c.requires.there)
+    omega (
+      arith,
+      ap length c.prune.ensures.links,
+      length-cleared (is_under old c.args.slot) None 0 old,
+      low-there old c.args.slot
+          c.requires.there,
+    )
 
 pub empty-requires-clause-room : goal.empty-requires-clause-room
 empty-requires-clause-room c =
     let old = c.args.links.now in
-    c.prune.ensures.free.long c.args.slot c.requires.below (omega (arith, ap length c.prune.ensures.links, length-cleared (is_under old c.args.slot) None 0 old, low-there old c.args.slot c.requires.there))
+    c.prune.ensures.free.long c.args.slot c.requires.below
+    (omega (
+      arith,
+      ap length c.prune.ensures.links,
+      length-cleared (is_under old c.args.slot) None 0 old,
+      low-there old c.args.slot
+          c.requires.there,
+    ))
 
 pub returns : goal.returns
 returns c = record {
   links =
       let old = c.args.links.now in
-      c.empty.ensures.links ∙ cut-too old c.requires.forest c.args.slot c.prune.new.links c.prune.ensures.links (low-there old c.args.slot c.requires.there);
+      c.empty.ensures.links ∙ cut-too old c.requires.forest c.args.slot c.prune.new.links c.prune.ensures.links
+      (low-there old c.args.slot c.requires.there);
   free =
       let old = c.args.links.now in
-      let low : c.args.slot < length c.prune.new.links = omega (arith, ap length c.prune.ensures.links, length-cleared (is_under old c.args.slot) None 0 old, low-there old c.args.slot c.requires.there) in
+      let low : c.args.slot < length c.prune.new.links = omega (
+        arith,
+        ap length c.prune.ensures.links,
+        length-cleared
+            (is_under old c.args.slot) None 0 old,
+        low-there old c.args.slot c.requires.there,
+      ) in
       subst (λ (ls : List (Option Link)). AreFree ls c.empty.new.free) (sym c.empty.ensures.links)
-      (free-emptied c.prune.new.links c.prune.new.free c.empty.new.free c.args.slot c.prune.ensures.free low c.empty.ensures.long c.empty.ensures.marked);
+      (free-emptied c.prune.new.links c.prune.new.free c.empty.new.free c.args.slot c.prune.ensures.free low c.empty.ensures.long
+      c.empty.ensures.marked);
 }

@@ -8,7 +8,12 @@ use Rattle.context_tree.proofs.links.is_below.Goals as goal
 pub loop-at-preserved : goal.loop-at-preserved
 loop-at-preserved c =
     let ls = c.args.links.now in let at = c.loop-at.at in let above = c.args.above in
-    let later : stamp_at ls c.requires above < stamp_at ls c.requires at = omega (arith, c.loop-at-test.true, c.stamp-oldest.ensures, c.stamp.ensures) in
+    let later : stamp_at ls c.requires above < stamp_at ls c.requires at = omega (
+      arith,
+      c.loop-at-test.true,
+      c.stamp-oldest.ensures,
+      c.stamp.ensures,
+    ) in
     let up : parent_of (get_or ls at None) ≡ Some c.in-Some.parent = sym c.parent.ensures ∙ c.in-Some.is in
     sym
     (below-other ls c.requires above at (λ e. omega (arith, ap (stamp_at ls c.requires) e, later))
@@ -18,7 +23,12 @@ loop-at-preserved c =
 pub returns-in-None : goal.returns-in-None
 returns-in-None c =
     let ls = c.args.links.now in let at = c.loop-at.at in let above = c.args.above in
-    let later : stamp_at ls c.requires above < stamp_at ls c.requires at = omega (arith, c.loop-at-test.true, c.stamp-oldest.ensures, c.stamp.ensures) in
+    let later : stamp_at ls c.requires above < stamp_at ls c.requires at = omega (
+      arith,
+      c.loop-at-test.true,
+      c.stamp-oldest.ensures,
+      c.stamp.ensures,
+    ) in
     let up : parent_of (get_or ls at None) ≡ None = sym c.parent.ensures ∙ c.in-None.is in
     sym
     (below-other ls c.requires above at (λ e. omega (arith, ap (stamp_at ls c.requires) e, later))
@@ -30,6 +40,7 @@ returns c =
     let ls = c.args.links.now in let at = c.loop-at.at in let above = c.args.above in
     let here : (at == above) ≡ is_below ls above at = elim (cases_eq at above) [
       | inl same ↦ eq-eqb at above same ∙ sym (ap (λ (a : ℕ). is_below ls a at) (sym same) ∙ below-self ls c.requires at)
-      | inr ne ↦ ne_eqb at above ne ∙ sym (not-below ls c.requires above at (omega (arith, c.loop-at-test.false, c.stamp-oldest.ensures, c.stamp.ensures)) ne)
+      | inr ne ↦ ne_eqb at above ne
+          ∙ sym (not-below ls c.requires above at (omega (arith, c.loop-at-test.false, c.stamp-oldest.ensures, c.stamp.ensures)) ne)
     ] in
     here ∙ c.loop-at.invariant

@@ -7,7 +7,8 @@ use Rattle.context_tree.proofs.tree.put_context.Goals as goal
 pub returns-then-slot-len : goal.returns-then-slot-len
 returns-then-slot-len c =
     let cs = c.args.contexts.now.items in let slot = c.args.slot in let it = c.args.context in
-    let items : c.replace.new.contexts ≡ set cs slot it = c.replace.ensures ∙ ap (λ (l : List Context). set l slot it) c.deref_mut.ensures.value in
+    let items : c.replace.new.contexts ≡ set cs slot it = c.replace.ensures
+    ∙ ap (λ (l : List Context). set l slot it) c.deref_mut.ensures.value in
     refill-whole (length cs) cs c.replace.new.contexts refl (ap length items ∙ length-set cs slot it) ∙ items
     ∙ placed-set cs slot it (omega (arith, c.if-slot-len.true, c.len.ensures.value))
 

@@ -14,8 +14,10 @@ loop-slot-preserved c =
     elim c.if-is_below.branch [
       | then-is_below w ↦
           let below : is_below ls above slot ≡ true = sym c.is_below.ensures ∙ w.if-is_below.true in
-          let is : cond (is_below ls above slot) (held_by (get_or cs slot no_context)) 0 ≡ held_by (get_or cs slot no_context) = cond-true (is_below ls above slot) (held_by (get_or cs slot no_context)) 0 below in
-          let at : w.index-contexts-slot.result ≡ get_or cs slot no_context = get_or_read cs slot w.index-contexts-slot.result low w.index-contexts-slot.is no_context in
+          let is : cond (is_below ls above slot) (held_by (get_or cs slot no_context)) 0
+          ≡ held_by (get_or cs slot no_context) = cond-true (is_below ls above slot) (held_by (get_or cs slot no_context)) 0 below in
+          let at : w.index-contexts-slot.result ≡ get_or cs slot no_context = get_or_read cs slot w.index-contexts-slot.result low
+          w.index-contexts-slot.is no_context in
           let held : w.held.result ≡ held_by (get_or cs slot no_context) = w.held.ensures ∙ ap held_by at in
           record {
             sum = omega (arith, w.sum-is, w.from-sum.ensures, held, step, is, c.loop-slot.invariant.sum);
@@ -23,7 +25,8 @@ loop-slot-preserved c =
           }
       | else-is_below w ↦
           let not-below : is_below ls above slot ≡ false = sym c.is_below.ensures ∙ w.if-is_below.false in
-          let is : cond (is_below ls above slot) (held_by (get_or cs slot no_context)) 0 ≡ 0 = cond-false (is_below ls above slot) (held_by (get_or cs slot no_context)) 0 not-below in
+          let is : cond (is_below ls above slot) (held_by (get_or cs slot no_context)) 0
+          ≡ 0 = cond-false (is_below ls above slot) (held_by (get_or cs slot no_context)) 0 not-below in
           record {
             sum = omega (arith, w.sum-is, step, is, c.loop-slot.invariant.sum);
             small = omega (arith, w.sum-is, c.loop-slot.invariant.small);

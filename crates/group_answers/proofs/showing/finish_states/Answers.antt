@@ -17,9 +17,15 @@ pub finish-requires : goal.finish-requires
 finish-requires c =
     let r = c.requires in
     let rest = c.loop-kind.rest.now in
-    let next = next_state r.0 c.args.kinds.now c.loop-kind.kind-index CountRows rest r.1 c.loop-kind-test.true (c.loop-kind.invariant.left r.0 r.1 r.2) in
-    let front : c.split_at.result.0.now ≡ _ = c.split_at.ensures.front ∙ ap (λ n. take n rest) c.width.ensures in
-    (next.partial, raised r.0 most_rows (kind_shape (slice_index_or c.args.kinds.now c.loop-kind.kind-index CountRows)) c.split_at.result.0.now next.partial r.3 (subst (λ b. states.Denotes r.0 (kind_shape (slice_index_or c.args.kinds.now c.loop-kind.kind-index CountRows)) b next.partial) (sym front) next.denotes))
+    let next = next_state r.0 c.args.kinds.now c.loop-kind.kind-index CountRows rest r.1 c.loop-kind-test.true
+    (c.loop-kind.invariant.left r.0 r.1 r.2) in
+    let front : c.split_at.result.0.now ≡ _ = c.split_at.ensures.front ∙ ap (λ n. take n rest) c.width.ensures in (
+      next.partial,
+      raised r.0 most_rows (kind_shape (slice_index_or c.args.kinds.now c.loop-kind.kind-index CountRows))
+          c.split_at.result.0.now next.partial r.3
+          (subst (λ b. states.Denotes r.0 (kind_shape (slice_index_or c.args.kinds.now c.loop-kind.kind-index CountRows)) b next.partial)
+          (sym front) next.denotes),
+    )
 
 pub loop-kind-preserved : goal.loop-kind-preserved
 loop-kind-preserved c =
@@ -34,7 +40,9 @@ loop-kind-preserved c =
           let next = next_state most kinds i CountRows rest ps c.loop-kind-test.true (c.loop-kind.invariant.left most ps denotes) in
           let before = c.loop-kind.invariant.shown most ps low denotes in
           let one : outcome_of c.finish.result ≡ outcome next.partial =
-          c.finish.ensures next.partial (raised most most_rows (kind_shape (slice_index_or kinds i CountRows)) c.split_at.result.0.now next.partial low (subst (λ b. states.Denotes most (kind_shape (slice_index_or kinds i CountRows)) b next.partial) (sym front) next.denotes)) in
+          c.finish.ensures next.partial (raised most most_rows (kind_shape (slice_index_or kinds i CountRows)) c.split_at.result.0.now
+          next.partial low (subst (λ b. states.Denotes most (kind_shape (slice_index_or kinds i CountRows)) b next.partial) (sym front)
+          next.denotes)) in
           ap (map outcome_of) c.in_ok-push.ensures.items
           ∙ map-append outcome_of c.loop-kind.values.items (c.finish.result ∷ [])
           ∙ (λ j. before j ++ one j ∷ [])

@@ -5,4 +5,5 @@ use Rattle.having_filter.specs.Plans.{source_of}
 use Rattle.group_answers.proofs.showing.items_of.Given as goal
 
 abbrev pub invariant-loop-source : goal.invariant-loop-source
-invariant-loop-source l = map outcome_of l.items.items ≡ map (outcome_at (map outcome_of l.key) (map outcome_of l.results)) (map source_of (take l.source-index l.sources))
+invariant-loop-source l = map outcome_of l.items.items ≡ map (outcome_at (map outcome_of l.key) (map outcome_of l.results))
+    (map source_of (take l.source-index l.sources))

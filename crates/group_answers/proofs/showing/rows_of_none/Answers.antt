@@ -13,8 +13,13 @@ use Rattle.group_answers.proofs.showing.rows_of_none.Goals as goal
 pub push_group-requires : goal.push_group-requires
 push_group-requires c =
     let q : Query = meaning c.args.query.now in
-    let none : c.keys.result.now ≡ [] = nil_from_length c.keys.result.now (search (rules, tests)) in
-    (0, ([], partials q []), empty_stands q c.deref.result.now (sym c.keys.ensures.keys ∙ none) (subst (λ b. AreStates (functions q) 0 b (partials q [])) (sym c.deref.ensures.value) c.in_ok-states.ensures), omega arith)
+    let none : c.keys.result.now ≡ [] = nil_from_length c.keys.result.now (search (rules, tests)) in (
+      0,
+      ([], partials q []),
+      empty_stands q c.deref.result.now (sym c.keys.ensures.keys
+          ∙ none) (subst (λ b. AreStates (functions q) 0 b (partials q [])) (sym c.deref.ensures.value) c.in_ok-states.ensures),
+      omega arith,
+    )
 
 pub returns : goal.returns
 returns c =
@@ -22,7 +27,8 @@ returns c =
     let none : c.keys.result.now ≡ [] = nil_from_length c.keys.result.now (search (rules, tests)) in
     let group : Group = ([], partials q []) in
     let pushed =
-    c.in_ok-push_group.ensures 0 group (omega arith) (empty_stands q c.deref.result.now (sym c.keys.ensures.keys ∙ none) (subst (λ b. AreStates (functions q) 0 b (partials q [])) (sym c.deref.ensures.value) c.in_ok-states.ensures)) in
+    c.in_ok-push_group.ensures 0 group (omega arith) (empty_stands q c.deref.result.now (sym c.keys.ensures.keys
+    ∙ none) (subst (λ b. AreStates (functions q) 0 b (partials q [])) (sym c.deref.ensures.value) c.in_ok-states.ensures)) in
     pushed
     ∙ ap (λ rows. rows ++ rows_of q (group ∷ [])) c.new-rows.ensures
     ∙ ap (λ keys. rows_of q (answered_of_none q keys)) (sym (sym c.keys.ensures.keys ∙ none))

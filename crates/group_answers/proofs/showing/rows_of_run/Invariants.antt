@@ -8,4 +8,5 @@ use Rattle.group_answers.proofs.showing.rows_of_run.Given as goal
 
 abbrev pub invariant-loop-place : goal.invariant-loop-place
 invariant-loop-place l =
-    (most : ℕ) (groups : List Group) → most ≤ most_rows → AreGroups (meaning l.query) most l.fn.run groups → LeftOver (meaning l.query) most (drop l.place l.fn.run) l.rows groups
+    (most : ℕ) (groups : List Group) → most ≤ most_rows → AreGroups (meaning l.query) most l.fn.run groups
+    → LeftOver (meaning l.query) most (drop l.place l.fn.run) l.rows groups

@@ -8,7 +8,9 @@ use Rattle.group_parser.proofs.conditions.count_nots.Goals as goal
 
 pub loop-behind-preserved : goal.loop-behind-preserved
 loop-behind-preserved c = record {
-  counted = λ room. one_more_not (conditions most_open) room c.loop-behind.count (not_at (conditions most_open) room (lexemes c.args.tokens.now)) (lexemes c.loop-behind.rest.now) (lexemes c.in-Some.behind.now) (c.loop-behind.invariant.counted room) c.in-Some.ensures.found;
+  counted = λ room. one_more_not (conditions most_open) room c.loop-behind.count
+      (not_at (conditions most_open) room (lexemes c.args.tokens.now)) (lexemes c.loop-behind.rest.now) (lexemes c.in-Some.behind.now)
+      (c.loop-behind.invariant.counted room) c.in-Some.ensures.found;
   within = omega (arith, c.loop-behind.invariant.within, c.in-Some.ensures.shorter);
 }
 

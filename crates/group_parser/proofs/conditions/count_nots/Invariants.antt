@@ -7,7 +7,8 @@ use Rattle.group_parser.proofs.conditions.count_nots.Given as goal
 
 abbrev pub invariant-loop-behind : goal.invariant-loop-behind
 invariant-loop-behind l = record {
-  counted : (room : ℕ) → not_at (conditions most_open) room (lexemes l.tokens) ≡ nots l.count (not_at (conditions most_open) room (lexemes l.rest));
+  counted : (room : ℕ) → not_at (conditions most_open) room (lexemes l.tokens)
+      ≡ nots l.count (not_at (conditions most_open) room (lexemes l.rest));
   within : l.count + length l.rest ≤ length l.tokens;
 }
 

@@ -20,12 +20,16 @@ returns c = record {
           named = named;
           denote =
               subst (λ these. DenotesAll (m + n) kinds c.combine_into.new.into (combine_all these ps qs)) named
-              (combined m n c.args.most kinds c.args.states.now c.args.more.now c.combine_into.new.into ps qs both.0 both.1 low c.requires.most
-              (states_by (functions q) m kinds c.args.states.now ps named are) (states_by (functions q) n kinds c.args.more.now qs named more)
+              (combined m n c.args.most kinds c.args.states.now c.args.more.now c.combine_into.new.into ps qs both.0 both.1 low
+              c.requires.most
+              (states_by (functions q) m kinds c.args.states.now ps named are) (states_by (functions q) n kinds c.args.more.now qs named
+              more)
               both.2 both.3 both.4);
         };
-        held =
-            ((both.0, record { kinds = kinds; named = named; denote = both.2 }), (both.1, record { kinds = kinds; named = named; denote = both.3 }));
+        held = (
+          (both.0, record { kinds = kinds; named = named; denote = both.2 }),
+          (both.1, record { kinds = kinds; named = named; denote = both.3 }),
+        );
         within = (combine_all (functions_of kinds) both.0 both.1, record { kinds = kinds; named = named; denote = both.4 });
       })
       c.combine_into.ensures.ok;

@@ -9,4 +9,5 @@ returns-clause-rewritten c =
     let old = context_at c.args.tree.now c.args.id in
     let written = with_bytes old (place_of c.args.name) c.put.new.array in
     subst (λ (x : Context). IsRewritten old x c.args.name) (sym (at_same c.args.tree.now c.args.id written c.requires.array.within))
-    (rewritten_once old c.requires.array.set c.args.name c.put.new.array c.requires.array.is_set (c.bytes_mut-array.ensures.lives c.put.new.array) (c.bytes_mut-array.ensures.keeps c.put.new.array))
+    (rewritten_once old c.requires.array.set c.args.name c.put.new.array c.requires.array.is_set
+    (c.bytes_mut-array.ensures.lives c.put.new.array) (c.bytes_mut-array.ensures.keeps c.put.new.array))

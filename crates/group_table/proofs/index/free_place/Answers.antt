@@ -8,4 +8,5 @@ some P None none never = absurd (never none)
 some P (Some place) none never = refl
 
 pub unwrap-requires : goal.unwrap-requires
-unwrap-requires c = some _ _ c.first_free-2.ensures.none (not_all c.args.array.now c.args.count c.args.start c.requires.room c.in_default.ensures.none)
+unwrap-requires c = some _ _ c.first_free-2.ensures.none (not_all c.args.array.now c.args.count c.args.start c.requires.room
+    c.in_default.ensures.none)

@@ -5,5 +5,6 @@ use Rattle.group_table.proofs.search.look.Goals as goal
 
 pub loop-place-preserved : goal.loop-place-preserved
 loop-place-preserved c =
-    next_other (context_at c.args.tree.now c.args.keys) c.args.array.now c.args.hash c.args.key.now c.args.from c.loop-place.place c.in-Some.bucket
+    next_other (context_at c.args.tree.now c.args.keys) c.args.array.now c.args.hash c.args.key.now c.args.from c.loop-place.place
+    c.in-Some.bucket
     c.loop-place.invariant (sym c.bucket_at.ensures ∙ c.in-Some.is) c.if-is_of.ensures

@@ -17,10 +17,12 @@ returns-clause-took g c = λ honest.
           let passes = c.in_ok-run.ensures.few honest givens give in
           let groups = run_few q (states_width q) (map brought c.args.inputs.now) givens c.in_ok-run.run' c.in_ok-run.ensures.run give in
           let records = records_few q (states_width q) (map brought c.args.inputs.now) givens give in
-          let spilled = spilled_few (setting_by g.H.KeyHash.hash_of q c.args.means.now) (records_of q (states_width q) (all_pieces (map brought c.args.inputs.now) givens)) in
+          let spilled = spilled_few (setting_by g.H.KeyHash.hash_of q c.args.means.now)
+          (records_of q (states_width q) (all_pieces (map brought c.args.inputs.now) givens)) in
           let rows_low = c.requires.few in
           let groups_low = c.requires.groups in
-          let counts = cost_counts (cost_given q (setting_by g.H.KeyHash.hash_of q c.args.means.now) (map brought c.args.inputs.now) givens) _ (omega (arith, passes, groups)) spilled (omega (arith, records, rows_low, groups_low)) in
+          let counts = cost_counts (cost_given q (setting_by g.H.KeyHash.hash_of q c.args.means.now) (map brought c.args.inputs.now) givens)
+          _ (omega (arith, passes, groups)) spilled (omega (arith, records, rows_low, groups_low)) in
           is_work _ _ _ c.none-work.ensures (counted.work givens give) counts.0 counts.1;
       pages = counted.pages;
     }

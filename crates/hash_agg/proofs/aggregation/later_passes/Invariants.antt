@@ -1,5 +1,5 @@
 use Rattle.std.specs.Prelude.{◌≡◌, ◌+◌, ◌≤◌, ◌∷◌, length}
-use Rattle.hash_agg.proofs.Words.{Leaves, waiting_number, on_end, Continues, CountsWithin, IsOver, query_of, setting_in, AreSafe}
+use Rattle.hash_agg.proofs.Words.{DiskFrame, waiting_number, concatenated, Continues, CountsWithin, IsOver, query_of, setting_in, AreSafe}
 use Rattle.hash_agg.proofs.LaterLaws.{IsWaiting}
 use Rattle.hash_agg.proofs.aggregation.later_passes.Given as goal
 
@@ -10,12 +10,15 @@ invariant-loop-pass g l =
       plan : l.pass.plan ≡ l.fn.pass.plan;
       hash : l.pass.groups.hash ≡ l.fn.pass.groups.hash;
       within : CountsWithin l.fn.pass.plan.limit l.fn.work l.work;
-      safe : AreSafe (query_of l.fn.pass) l.fn.pass.plan.most (on_end (l.fn.run ∷ l.others.items));
-      few : length (on_end (l.fn.run ∷ l.others.items)) + waiting_number l.pass.lists ≤ length l.fn.run + waiting_number l.fn.pass.lists;
+      safe : AreSafe (query_of l.fn.pass) l.fn.pass.plan.most (concatenated (l.fn.run ∷ l.others.items));
+      few : length (concatenated (l.fn.run ∷ l.others.items)) + waiting_number l.pass.lists ≤ length l.fn.run
+          + waiting_number l.fn.pass.lists;
       waits :
           Continues g.H.KeyHash.hash_of g.D.TapeDisk l.fn.pass l.fn.disk l.fn.run l.fn.work
-          (λ pieces start writes. IsWaiting (query_of l.fn.pass) (setting_in g.H.KeyHash.hash_of l.fn.pass) pieces (on_end (l.fn.run ∷ l.others.items)) l.pass.lists (g.D.TapeDisk.last l.disk) start l.work writes (g.D.TapeDisk.writes l.disk));
-      disk : Leaves g.D.TapeDisk 0 l.fn.disk l.disk;
+          (λ pieces start writes. IsWaiting (query_of l.fn.pass) (setting_in g.H.KeyHash.hash_of l.fn.pass) pieces
+          (concatenated (l.fn.run ∷ l.others.items)) l.pass.lists (g.D.TapeDisk.last l.disk) start l.work writes
+          (g.D.TapeDisk.writes l.disk));
+      disk : DiskFrame g.D.TapeDisk 0 l.fn.disk l.disk;
     }
 
 abbrev pub decreases-loop-pass : goal.decreases-loop-pass

@@ -9,9 +9,11 @@ loop-place-preserved c =
     ap kinds_of c.in_ok-push.ensures.items
     ∙ map-append kind_of c.loop-place.found.items (c.kind_at.result ∷ [])
     ∙ (λ i. c.loop-place.invariant i ++ c.kind_at.ensures i ∷ [])
-    ∙ sym (map_more (λ at. slice_index_or (kinds_of c.args.kinds.now) at Bigint_kind) c.args.places.now c.loop-place.place-index 0 c.loop-place-test.true)
+    ∙ sym (map_more (λ at. slice_index_or (kinds_of c.args.kinds.now) at Bigint_kind) c.args.places.now c.loop-place.place-index 0
+    c.loop-place-test.true)
 
 pub returns : goal.returns
 returns c =
     c.loop-place.invariant
-    ∙ ap (map (λ at. slice_index_or (kinds_of c.args.kinds.now) at Bigint_kind)) (take_all c.loop-place.place-index c.args.places.now c.loop-place-test.false)
+    ∙ ap (map (λ at. slice_index_or (kinds_of c.args.kinds.now) at Bigint_kind)) (take_all c.loop-place.place-index c.args.places.now
+    c.loop-place-test.false)

@@ -15,4 +15,5 @@ loop-item-preserved c =
 pub returns : goal.returns
 returns c =
     c.loop-item.invariant
-    ∙ ap (map (λ item. source_of_form c.args.keys.now (map call_form c.args.calls.now) (item_form item.0))) (take_all c.loop-item.item-index c.args.items.now c.loop-item-test.false)
+    ∙ ap (map (λ item. source_of_form c.args.keys.now (map call_form c.args.calls.now) (item_form item.0)))
+    (take_all c.loop-item.item-index c.args.items.now c.loop-item-test.false)

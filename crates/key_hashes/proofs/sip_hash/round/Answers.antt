@@ -3,4 +3,11 @@ use Rattle.key_hashes.proofs.sip_hash.round.Goals as goal
 
 pub returns : goal.returns
 unfolding round
-returns c = simp (c.rotate_left.ensures, c.rotate_left-2.ensures, c.rotate_left-3.ensures, c.rotate_left-4.ensures, c.rotate_left-5.ensures, c.rotate_left-6.ensures)
+returns c = simp (
+  c.rotate_left.ensures,
+  c.rotate_left-2.ensures,
+  c.rotate_left-3.ensures,
+  c.rotate_left-4.ensures,
+  c.rotate_left-5.ensures,
+  c.rotate_left-6.ensures,
+)

@@ -10,4 +10,5 @@ returns-in_err-word-clause-none c =
 
 pub returns-in_err-kind-clause-none : goal.returns-in_err-kind-clause-none
 returns-in_err-kind-clause-none c =
-    rw c.from_residual-in_err-kind.ensures (no_kind _ c.in_ok-name.name.now c.in_ok-word.word.now _ _ c.in_ok-name.ensures.found c.in_ok-word.ensures.found c.in_err-kind.ensures)
+    rw c.from_residual-in_err-kind.ensures (no_kind _ c.in_ok-name.name.now c.in_ok-word.word.now _ _ c.in_ok-name.ensures.found
+    c.in_ok-word.ensures.found c.in_err-kind.ensures)

@@ -5,7 +5,8 @@ use Rattle.query_tokens.specs.Spelling.{lexemes_of}
 use Rattle.packed_rows.specs.Columns.{columns_of, names, Describes, AreColumns}
 use Rattle.std.specs.List.{IsDistinct}
 use Rattle.std.specs.Str.{bytes_eq}
-use Rattle.packed_rows.proofs.DescribedColumns.{nothing_read, no_column, fault_read, last_read, no_comma, column_read, fewer_left, no_lexemes, some_lexemes, ReadSoFar}
+use Rattle.packed_rows.proofs.DescribedColumns.{nothing_read, no_column, fault_read, last_read, no_comma, column_read, fewer_left}
+use Rattle.packed_rows.proofs.DescribedColumns.{no_lexemes, some_lexemes, ReadSoFar}
 use Rattle.packed_rows.proofs.schema_text.read_columns.Goals as goal
 
 pub loop-name-init : goal.loop-name-init
@@ -26,18 +27,21 @@ returns-then-is_empty-clause-described c =
     let all = lexemes_of (all_placed c.args.tokens.now) in
     let added = c.in_ok-add_column.ensures.added in
     subst (Describes all) (sym added)
-    (last_read all _ _ _ _ _ c.loop-name.invariant c.in-Some.ensures.found (no_lexemes c.in-Some.after.now c.if-is_empty.ensures) c.in_ok-add_column.ensures.right (subst (λ w. IsDistinct bytes_eq (names w)) added c.in_ok-add_column.ensures.distinct)).0
+    (last_read all _ _ _ _ _ c.loop-name.invariant c.in-Some.ensures.found (no_lexemes c.in-Some.after.now c.if-is_empty.ensures)
+    c.in_ok-add_column.ensures.right (subst (λ w. IsDistinct bytes_eq (names w)) added c.in_ok-add_column.ensures.distinct)).0
 
 pub returns-then-is_empty-clause-are : goal.returns-then-is_empty-clause-are
 returns-then-is_empty-clause-are c =
     let all = lexemes_of (all_placed c.args.tokens.now) in
     let added = c.in_ok-add_column.ensures.added in
     subst AreColumns (sym added)
-    (last_read all _ _ _ _ _ c.loop-name.invariant c.in-Some.ensures.found (no_lexemes c.in-Some.after.now c.if-is_empty.ensures) c.in_ok-add_column.ensures.right (subst (λ w. IsDistinct bytes_eq (names w)) added c.in_ok-add_column.ensures.distinct)).1
+    (last_read all _ _ _ _ _ c.loop-name.invariant c.in-Some.ensures.found (no_lexemes c.in-Some.after.now c.if-is_empty.ensures)
+    c.in_ok-add_column.ensures.right (subst (λ w. IsDistinct bytes_eq (names w)) added c.in_ok-add_column.ensures.distinct)).1
 
 pub returns-in_default-after_comma-clause-refused : goal.returns-in_default-after_comma-clause-refused
 returns-in_default-after_comma-clause-refused c =
-    no_comma _ _ _ _ _ _ c.loop-name.invariant c.in-Some.ensures.found (some_lexemes c.in-Some.after.now c.if-is_empty.ensures) c.in_default-after_comma.ensures.none
+    no_comma _ _ _ _ _ _ c.loop-name.invariant c.in-Some.ensures.found (some_lexemes c.in-Some.after.now c.if-is_empty.ensures)
+    c.in_default-after_comma.ensures.none
 
 pub loop-name-smaller : goal.loop-name-smaller
 loop-name-smaller c = fewer_left _ _ _ _ _ c.in-Some.ensures.found c.in-Some-after_comma.ensures.found
@@ -47,4 +51,5 @@ loop-name-preserved c =
     let all = lexemes_of (all_placed c.args.tokens.now) in
     let more = lexemes_of (all_placed c.in-Some-after_comma.more.now) in
     subst (ReadSoFar all more) (sym c.in_ok-add_column.ensures.added)
-    (column_read all _ _ more _ _ _ c.loop-name.invariant c.in-Some.ensures.found c.in-Some-after_comma.ensures.found c.in_ok-add_column.ensures.right)
+    (column_read all _ _ more _ _ _ c.loop-name.invariant c.in-Some.ensures.found c.in-Some-after_comma.ensures.found
+    c.in_ok-add_column.ensures.right)

@@ -27,7 +27,8 @@ above_is d h = grind (arith, ints)
 -- the same as the code adds it up
 sum_is : (a b : ℤ) (d : ℕ) → a ≡ pos d → b ≡ least → d < 2 ^ 64 → cast w128 a +ℤ cast w128 b ≡ pos d +ℤ least
 sum_is a b d ea eb h =
-    λ j. ((ap (cast w128) ea ∙ to_z-of_z w128 (pos d) (record { sfits = omega (arith, ints) })) j) +ℤ ((ap (cast w128) eb ∙ to_z-of_z w128 least (record { sfits = omega (arith, ints) })) j)
+    λ j. ((ap (cast w128) ea ∙ to_z-of_z w128 (pos d) (record { sfits = omega (arith, ints) })) j) +ℤ
+    ((ap (cast w128) eb ∙ to_z-of_z w128 least (record { sfits = omega (arith, ints) })) j)
 
 wide_is : (a b : ℤ) (d : ℕ) → a ≡ pos d → b ≡ least → d < 2 ^ 64 → cast w128 (cast w128 a +ℤ cast w128 b) ≡ pos d +ℤ least
 wide_is a b d ea eb h = ap (cast w128) (sum_is a b d ea eb h) ∙ to_z-of_z w128 (pos d +ℤ least) (fits_128 d h)
@@ -46,6 +47,9 @@ pub returns-clause-found : goal.returns-clause-found
 returns-clause-found c =
     let d = c.from_be_bytes-distance.result in let h = c.from_be_bytes-distance.type_inv in
     let far : above_least (cast w64 (cast w128 (cast w128 c.from.result +ℤ cast w128 c.from-2.result))) ≡ d =
-    ap above_least (ap (cast w64) (wide_is c.from.result c.from-2.result d c.from.ensures c.from-2.ensures h) ∙ to_z-of_z w64 (pos d +ℤ least) (fits_64 d h)) ∙ above_is d h in
-    let digits : to_be_bytes w64 d ≡ c.split_at.result.0.now = be_bytes_8 c.split_at.result.0.now d c.split_at.ensures.front_len (λ i. let fits = c.type_inv.bytes i in grind (arith, common_steps)) c.from_be_bytes-distance.ensures in
-    sym (take-append-drop 8 c.args.bytes.now) ∙ (λ j. (sym c.split_at.ensures.front ∙ sym digits ∙ ap (to_be_bytes w64) (sym far)) j ++ sym c.split_at.ensures.back j)
+    ap above_least (ap (cast w64) (wide_is c.from.result c.from-2.result d c.from.ensures c.from-2.ensures h)
+    ∙ to_z-of_z w64 (pos d +ℤ least) (fits_64 d h)) ∙ above_is d h in
+    let digits : to_be_bytes w64 d ≡ c.split_at.result.0.now = be_bytes_8 c.split_at.result.0.now d c.split_at.ensures.front_len
+    (λ i. let fits = c.type_inv.bytes i in grind (arith, common_steps)) c.from_be_bytes-distance.ensures in
+    sym (take-append-drop 8 c.args.bytes.now) ∙ (λ j. (sym c.split_at.ensures.front ∙ sym digits ∙ ap (to_be_bytes w64) (sym far)) j
+    ++ sym c.split_at.ensures.back j)

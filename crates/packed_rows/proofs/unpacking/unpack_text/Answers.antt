@@ -14,4 +14,5 @@ returns-then-eq-clause-none c = λ text rest p.
 pub returns-in_err-text-clause-none : goal.returns-in_err-text-clause-none
 returns-in_err-text-clause-none c =
     let found = c.in_ok-front.ensures.found in
-    rw c.from_residual-in_err-text.ensures (λ text rest p. no_text c.args.bytes.now c.in_ok-front.front.now c.in_ok-front.rest.now text rest found.0 found.1 c.in_err-text.ensures.none p)
+    rw c.from_residual-in_err-text.ensures (λ text rest p. no_text c.args.bytes.now c.in_ok-front.front.now c.in_ok-front.rest.now text rest
+    found.0 found.1 c.in_err-text.ensures.none p)

@@ -10,7 +10,8 @@ returns-in_err-canonical-clause-refused c =
     let q = asked_of c.args.raw.now in
     let e = c.in_err-canonical.field-0.0 in
     refused_as c.args.schema.now q c.from_residual.result e c.from_residual.ensures.1
-    (λ other. gives_too_many c.args.schema.now q (c.in_err-canonical.ensures.too_many other) ∙ ap (λ x. Err x) (sym (c.in_err-canonical.ensures.refused other)))
+    (λ other. gives_too_many c.args.schema.now q (c.in_err-canonical.ensures.too_many other)
+    ∙ ap (λ x. Err x) (sym (c.in_err-canonical.ensures.refused other)))
 
 pub returns-in_err-canonical-clause-known : goal.returns-in_err-canonical-clause-known
 returns-in_err-canonical-clause-known c =

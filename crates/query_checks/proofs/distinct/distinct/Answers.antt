@@ -29,13 +29,19 @@ returns-then-len-most-clause-all g c = λ few. absurd (omega (arith, few))
 
 pub returns-clause-all : goal.returns-clause-all
 returns-clause-all g c =
-    λ few. c.loop-member.invariant ∙ ap (first_of_each g.T.Same.same) (take_all c.loop-member.member-index c.args.members.now c.loop-member-test.false)
+    λ few. c.loop-member.invariant
+    ∙ ap (first_of_each g.T.Same.same) (take_all c.loop-member.member-index c.args.members.now c.loop-member-test.false)
 
 pub returns-clause-more : goal.returns-clause-more
 returns-clause-more g c =
     λ many. subst (λ found. c.args.most < length found)
-    (c.loop-member.invariant ∙ ap (first_of_each g.T.Same.same) (take_all c.loop-member.member-index c.args.members.now c.loop-member-test.false)) many
+    (c.loop-member.invariant
+    ∙ ap (first_of_each g.T.Same.same) (take_all c.loop-member.member-index c.args.members.now c.loop-member-test.false)) many
 
 pub returns-in_err-push_once : goal.returns-in_err-push_once
 returns-in_err-push_once g c =
-    record { all = IfOk-from_err c.from_residual.result _ c.from_residual.ensures.0; more = IfOk-from_err c.from_residual.result _ c.from_residual.ensures.0 }
+    record {
+      all = IfOk-from_err c.from_residual.result _ c.from_residual.ensures.0;
+      more = IfOk-from_err c.from_residual.result _
+          c.from_residual.ensures.0;
+    }

@@ -9,5 +9,6 @@ use Rattle.query_checks.proofs.order.is_ambiguously_ordered.Goals as goal
 pub returns : goal.returns
 returns c =
     let items = items_of c.args.raw.now.items.items in
-    any_from_yields_List (λ term. is_ambiguous items (term_of term).target) _ _ c.any.result c.any.ensures.ran (YieldsList-from_slice c.args.raw.now.order.items cc) (λ x b q k. search (rules, tests))
+    any_from_yields_List (λ term. is_ambiguous items (term_of term).target) _ _ c.any.result c.any.ensures.ran
+    (YieldsList-from_slice c.args.raw.now.order.items cc) (λ x b q k. search (rules, tests))
     ∙ sym (any_term (λ term. is_ambiguous items term.target) c.args.raw.now.order.items)

@@ -10,5 +10,6 @@ use Rattle.query_checks.proofs.order.names_items.Goals as goal
 pub returns : goal.returns
 returns c =
     let items = items_of c.args.raw.now.items.items in
-    all_from_yields_List (λ term. is_some (item_meant items (term_of term).target)) _ _ c.all.result c.all.ensures.ran (YieldsList-from_slice c.args.raw.now.order.items cc) (λ x b q k. search (rules, tests))
+    all_from_yields_List (λ term. is_some (item_meant items (term_of term).target)) _ _ c.all.result c.all.ensures.ran
+    (YieldsList-from_slice c.args.raw.now.order.items cc) (λ x b q k. search (rules, tests))
     ∙ sym (all_terms (λ term. is_some (item_meant items term.target)) c.args.raw.now.order.items)

@@ -16,12 +16,16 @@ loop-term-preserved c =
     let place = c.loop-term.term-index in
     let term = c.term-item.result in
     let meant = λ (term : RawTerm). term_meant items (term_of term) in
-    let low : place < length terms = subst (λ (those : List RawTerm). place < length those) c.deref-term-items.ensures.value c.loop-term-test.true in
-    let is : term ≡ get_or terms place term = subst (λ (those : List RawTerm). term ≡ get_or those place term) c.deref-term-items.ensures.value c.term-item.is in
-    let found : c.term_meant.result ≡ meant term = c.term_meant.ensures ∙ ap (λ items. term_meant (items_of items) (term_of term)) c.deref.ensures.value in
+    let low : place < length terms = subst (λ (those : List RawTerm). place < length those) c.deref-term-items.ensures.value
+    c.loop-term-test.true in
+    let is : term ≡ get_or terms place term = subst (λ (those : List RawTerm). term ≡ get_or those place term)
+    c.deref-term-items.ensures.value c.term-item.is in
+    let found : c.term_meant.result ≡ meant term = c.term_meant.ensures
+    ∙ ap (λ items. term_meant (items_of items) (term_of term)) c.deref.ensures.value in
     elim c.match-term_meant.branch [
       | in-Some+in_ok-push_once w ↦
-          ap (λ order. order.items) w.order-is ∙ w.in_ok-push_once.ensures ∙ ap (λ order. with_one same_item order w.in-Some.found) c.loop-term.invariant
+          ap (λ order. order.items) w.order-is ∙ w.in_ok-push_once.ensures
+          ∙ ap (λ order. with_one same_item order w.in-Some.found) c.loop-term.invariant
           ∙ sym (meant_one meant terms place term w.in-Some.found low is (sym found ∙ w.in-Some.is))
       | in_default w ↦
           ap (λ order. order.items) w.order-is ∙ c.loop-term.invariant
@@ -34,7 +38,8 @@ returns c =
     let terms = c.args.raw.now.order.items in
     let place = c.loop-term.term-index in
     let meant = λ (term : RawTerm). term_meant items (term_of term) in
-    let past : length terms ≤ place = subst (λ (those : List RawTerm). length those ≤ place) c.deref-term-items.ensures.value c.loop-term-test.false in
+    let past : length terms ≤ place = subst (λ (those : List RawTerm). length those ≤ place) c.deref-term-items.ensures.value
+    c.loop-term-test.false in
     c.loop-term.invariant
     ∙ ap (λ terms. first_of_each same_item (filter_map meant terms)) (take_all place terms past)
     ∙ ap (first_of_each same_item) (sym (meant_mapped (term_meant items) terms))

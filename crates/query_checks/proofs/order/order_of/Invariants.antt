@@ -7,4 +7,5 @@ use Rattle.query_checks.proofs.order.order_of.Given as goal
 
 abbrev pub invariant-loop-term : goal.invariant-loop-term
 invariant-loop-term l =
-    l.order.items ≡ first_of_each same_item (filter_map (λ term. term_meant (items_of l.raw.items.items) (term_of term)) (take l.term-index l.raw.order.items))
+    l.order.items ≡ first_of_each same_item (filter_map (λ term. term_meant (items_of l.raw.items.items) (term_of term))
+    (take l.term-index l.raw.order.items))

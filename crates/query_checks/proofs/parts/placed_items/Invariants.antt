@@ -5,4 +5,5 @@ use Rattle.query_checks.specs.Spelling.{own_name, kept_alias}
 use Rattle.query_checks.proofs.parts.placed_items.Given as goal
 
 abbrev pub invariant-loop-item : goal.invariant-loop-item
-invariant-loop-item l = places_of l.done.items ≡ map (λ item. (map_form (place l.schema) item.0, kept_alias (own_name item.0) item.1)) (items_of (take l.item-index l.items))
+invariant-loop-item l = places_of l.done.items ≡ map (λ item. (map_form (place l.schema) item.0, kept_alias (own_name item.0) item.1))
+    (items_of (take l.item-index l.items))

@@ -10,7 +10,8 @@ pub loop-name-preserved : goal.loop-name-preserved
 loop-name-preserved c =
     c.in_ok-push_once.ensures
     ∙ (λ i. with_one ◌==◌ (c.loop-name.invariant i) ((c.place.ensures ∙ ap (place c.args.schema.now) c.as_str.ensures.value) i))
-    ∙ sym (one_step ◌==◌ (λ (name : String Global). place c.args.schema.now (string_bytes name)) c.args.names.now c.loop-name.name-index c.name-item.result (omega arith) c.name-item.is)
+    ∙ sym (one_step ◌==◌ (λ (name : String Global). place c.args.schema.now (string_bytes name)) c.args.names.now c.loop-name.name-index
+    c.name-item.result (omega arith) c.name-item.is)
 
 pub returns : goal.returns
 returns c =

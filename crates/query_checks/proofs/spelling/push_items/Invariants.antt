@@ -6,4 +6,5 @@ use Rattle.query_checks.proofs.spelling.push_items.Given as goal
 
 abbrev pub invariant-loop-item : goal.invariant-loop-item
 invariant-loop-item l =
-    string_bytes l.text ++ followed (map item_text (items_of (drop l.item-index l.rest))) ≡ string_bytes l.fn.text ++ parted (map item_text (items_of l.fn.items))
+    string_bytes l.text ++ followed (map item_text (items_of (drop l.item-index l.rest))) ≡ string_bytes l.fn.text
+    ++ parted (map item_text (items_of l.fn.items))

@@ -6,7 +6,8 @@ use Rattle.query_tokens.specs.Spelling.{spell_byte}
 use Rattle.query_checks.proofs.QuoteLaws.{no_quote, to_quote}
 use Rattle.query_checks.proofs.spelling.push_quoted.Goals as goal
 
-parts : (rest : List ℕ) (piece behind : Bor (List ℕ)) → IsSplitOnceResult 39 rest (Some (piece, behind)) → flat_map spell_byte rest ≡ piece.now ++ 39 ∷ 39 ∷ flat_map spell_byte behind.now
+parts : (rest : List ℕ) (piece behind : Bor (List ℕ)) → IsSplitOnceResult 39 rest (Some (piece, behind)) → flat_map spell_byte rest
+    ≡ piece.now ++ 39 ∷ 39 ∷ flat_map spell_byte behind.now
 parts rest piece behind h =
     let s = split_once_first 39 rest (Some (piece, behind)) h (omega arith) in
     rw (s.1, s.2) (to_quote rest s.0)
@@ -20,11 +21,13 @@ loop-piece-preserved c =
     record {
       text = search rules;
       pushed =
-          rw (c.in_ok-push_str-2.ensures.bytes, c.in_ok-push_str.ensures.bytes) (regroup (string_bytes c.loop-piece.text) c.in-Some.piece.now (flat_map spell_byte c.in-Some.behind.now))
+          rw (c.in_ok-push_str-2.ensures.bytes, c.in_ok-push_str.ensures.bytes)
+          (regroup (string_bytes c.loop-piece.text) c.in-Some.piece.now (flat_map spell_byte c.in-Some.behind.now))
           ∙ ap (λ more. string_bytes c.loop-piece.text ++ more) (sym p) ∙ c.loop-piece.invariant.pushed;
     }
 
 pub returns : goal.returns
 returns c =
     let none = split_once_first 39 c.loop-piece.rest.now None c.in_default.ensures.cases (omega arith) in
-    c.in_ok-push_str-3.ensures.bytes ∙ ap (λ more. string_bytes c.loop-piece.text ++ more) (sym (no_quote c.loop-piece.rest.now none)) ∙ c.loop-piece.invariant.pushed
+    c.in_ok-push_str-3.ensures.bytes ∙ ap (λ more. string_bytes c.loop-piece.text ++ more) (sym (no_quote c.loop-piece.rest.now none))
+    ∙ c.loop-piece.invariant.pushed

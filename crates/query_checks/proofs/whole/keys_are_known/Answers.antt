@@ -8,5 +8,6 @@ use Rattle.query_checks.proofs.whole.keys_are_known.Goals as goal
 
 pub returns : goal.returns
 returns c =
-    all_from_yields_List (λ name. is_column c.args.schema.now (string_bytes name)) _ _ c.all.result c.all.ensures.ran (YieldsList-from_slice c.args.names.now cc) (λ x b q k. search (rules, tests))
+    all_from_yields_List (λ name. is_column c.args.schema.now (string_bytes name)) _ _ c.all.result c.all.ensures.ran
+    (YieldsList-from_slice c.args.names.now cc) (λ x b q k. search (rules, tests))
     ∙ sym (keys_known c.args.schema.now c.args.names.now)

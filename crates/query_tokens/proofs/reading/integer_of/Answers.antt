@@ -9,7 +9,8 @@ use Rattle.query_tokens.proofs.reading.integer_of.Goals as goal
 
 pub returns-in-Ok : goal.returns-in-Ok
 returns-in-Ok c =
-    let value = parse_digits own {E = ParseIntError} 64 c.args.digits.now (Ok c.in-Ok.magnitude) c.in-Ok.ensures.value.0 c.requires.digits in
+    let value = parse_digits own {E = ParseIntError} 64 c.args.digits.now (Ok c.in-Ok.magnitude) c.in-Ok.ensures.value.0 c.requires.digits
+    in
     rw (← value.1) c.signed_integer.ensures
 
 great : (n : ℕ) (ds : List ℕ) → 0 < length ds → ((0 < length ds) × (n < 2 ^ 64) → ⊥) → 2 ^ 64 ≤ n
@@ -18,4 +19,5 @@ great n ds some h = elim (cases_lt n (2 ^ 64)) [ inl lt ↦ absurd (h (some, lt)
 pub returns-in-Err : goal.returns-in-Err
 returns-in-Err c =
     let wrong = parse_digits own 64 c.args.digits.now (Err c.in-Err.field-0) c.in-Err.ensures.value.0 c.requires.digits in
-    sym (too_large c.args.negative (number_after 0 c.args.digits.now) (great (number_after 0 c.args.digits.now) c.args.digits.now c.requires.some wrong))
+    sym (too_large c.args.negative (number_after 0 c.args.digits.now) (great (number_after 0 c.args.digits.now) c.args.digits.now
+    c.requires.some wrong))

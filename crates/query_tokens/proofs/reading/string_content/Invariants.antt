@@ -7,7 +7,11 @@ use Rattle.query_tokens.proofs.Quotes.{with_front}
 use Rattle.query_tokens.proofs.reading.string_content.Given as goal
 
 abbrev pub invariant-loop-piece : goal.invariant-loop-piece
-invariant-loop-piece l = record { text : shadow (Utf8 l.rest); told : with_front (string_bytes l.content) (string_content false l.rest) ≡ string_content false l.text }
+invariant-loop-piece l = record {
+  text : shadow (Utf8 l.rest);
+  told : with_front (string_bytes l.content) (string_content false l.rest)
+      ≡ string_content false l.text;
+}
 
 abbrev pub decreases-loop-piece : goal.decreases-loop-piece
 decreases-loop-piece l = length l.rest

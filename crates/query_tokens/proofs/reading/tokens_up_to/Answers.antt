@@ -18,7 +18,8 @@ loop-rest-preserved-then-is_space c =
     record {
       text = search rules;
       few = rw back (omega (arith, length-drop 1 rest, c.loop-rest.invariant.few, some));
-      told = rw back (passes_space (length c.args.text.now) (all_placed c.loop-rest.found.items) rest (tokens_in c.args.text.now) some (omega (arith, c.loop-rest.invariant.few)) blank c.loop-rest.invariant.told);
+      told = rw back (passes_space (length c.args.text.now) (all_placed c.loop-rest.found.items) rest (tokens_in c.args.text.now) some
+          (omega (arith, c.loop-rest.invariant.few)) blank c.loop-rest.invariant.told);
     }
 
 pub loop-rest-preserved : goal.loop-rest-preserved
@@ -28,11 +29,21 @@ loop-rest-preserved c =
     let solid : is_space (get_or rest 0 0) ≡ false = rw (← c.as_bytes.ensures.value) (sym c.is_space.ensures ∙ c.if-is_space.false) in
     let at = length c.args.text.now - length rest in
     let token : Token = record { at = at; word = c.in_ok-word.word } in
-    let e : all_placed c.push.new.self.items ≡ all_placed c.loop-rest.found.items ++ placed_of token ∷ [] = rw c.in_ok-push.ensures.items (map_push placed_of c.loop-rest.found.items token) in
+    let e : all_placed c.push.new.self.items ≡ all_placed c.loop-rest.found.items ++ placed_of token
+    ∷ [] = rw c.in_ok-push.ensures.items (map_push placed_of c.loop-rest.found.items token) in
     record {
       text = search rules;
-      few = rw c.in_ok-push.ensures.items (omega (arith, length-append c.loop-rest.found.items (token ∷ []), shorter at rest (lexeme_of c.in_ok-word.word) c.in_ok-word.after.now some c.in_ok-word.ensures, c.loop-rest.invariant.few));
-      told = rw e (goes_on (length c.args.text.now) (all_placed c.loop-rest.found.items) rest (lexeme_of c.in_ok-word.word) c.in_ok-word.after.now (tokens_in c.args.text.now) some (omega (arith, c.loop-rest.invariant.few)) solid c.in_ok-word.ensures c.loop-rest.invariant.told);
+      few = rw c.in_ok-push.ensures.items
+          (omega (
+            arith,
+            length-append c.loop-rest.found.items (token ∷ []),
+            shorter at rest (lexeme_of c.in_ok-word.word)
+                c.in_ok-word.after.now some c.in_ok-word.ensures,
+            c.loop-rest.invariant.few,
+          ));
+      told = rw e (goes_on (length c.args.text.now) (all_placed c.loop-rest.found.items) rest (lexeme_of c.in_ok-word.word)
+          c.in_ok-word.after.now (tokens_in c.args.text.now) some (omega (arith, c.loop-rest.invariant.few)) solid c.in_ok-word.ensures
+          c.loop-rest.invariant.told);
     }
 
 pub loop-rest-smaller : goal.loop-rest-smaller
@@ -47,7 +58,8 @@ returns-in_err-word-clause-refused c =
     let some : 0 < length rest = rw (← c.as_bytes.ensures.value) c.in-len1-up.len_at_least in
     let solid : is_space (get_or rest 0 0) ≡ false = rw (← c.as_bytes.ensures.value) (sym c.is_space.ensures ∙ c.if-is_space.false) in
     let p = err_from_is_err_and c.from_residual.result c.from_residual.ensures.1 in
-    rw (p.1, p.2) (ends c.in_err-word.field-0.0 (length c.args.text.now) (all_placed c.loop-rest.found.items) rest (tokens_in c.args.text.now) some solid c.in_err-word.ensures c.loop-rest.invariant.told)
+    rw (p.1, p.2) (ends c.in_err-word.field-0.0 (length c.args.text.now) (all_placed c.loop-rest.found.items) rest
+    (tokens_in c.args.text.now) some solid c.in_err-word.ensures c.loop-rest.invariant.told)
 
 pub returns-then-len-most-clause-more : goal.returns-then-len-most-clause-more
 returns-then-len-most-clause-more c =
@@ -55,7 +67,8 @@ returns-then-len-most-clause-more c =
     let rest = c.loop-rest.rest.now in
     let some : 0 < length rest = rw (← c.as_bytes.ensures.value) c.in-len1-up.len_at_least in
     let solid : is_space (get_or rest 0 0) ≡ false = rw (← c.as_bytes.ensures.value) (sym c.is_space.ensures ∙ c.if-is_space.false) in
-    let more = more_left (length c.args.text.now) (all_placed c.loop-rest.found.items) rest (tokens_in c.args.text.now) ts some solid c.loop-rest.invariant.told told in
+    let more = more_left (length c.args.text.now) (all_placed c.loop-rest.found.items) rest (tokens_in c.args.text.now) ts some solid
+    c.loop-rest.invariant.told told in
     let count = length-map c.loop-rest.found.items placed_of in
     omega (arith, more, count, c.len.ensures, c.if-len-most.true)
 
@@ -67,9 +80,11 @@ returns-then-len-most-clause-longer c =
 
 pub returns-clause-exact : goal.returns-clause-exact
 returns-clause-exact c =
-    is_done (length c.args.text.now) (all_placed c.loop-rest.found.items) c.loop-rest.rest.now (tokens_in c.args.text.now) (rw (← c.as_bytes.ensures.value) c.in_default.len_below) c.loop-rest.invariant.told
+    is_done (length c.args.text.now) (all_placed c.loop-rest.found.items) c.loop-rest.rest.now (tokens_in c.args.text.now)
+    (rw (← c.as_bytes.ensures.value) c.in_default.len_below) c.loop-rest.invariant.told
 
 pub returns-clause-legal : goal.returns-clause-legal
 returns-clause-legal c =
     tokens_legal c.args.text.now c.loop-rest.found.items
-    (is_done (length c.args.text.now) (all_placed c.loop-rest.found.items) c.loop-rest.rest.now (tokens_in c.args.text.now) (rw (← c.as_bytes.ensures.value) c.in_default.len_below) c.loop-rest.invariant.told)
+    (is_done (length c.args.text.now) (all_placed c.loop-rest.found.items) c.loop-rest.rest.now (tokens_in c.args.text.now)
+    (rw (← c.as_bytes.ensures.value) c.in_default.len_below) c.loop-rest.invariant.told)

@@ -14,15 +14,57 @@ no_test false h = refl
 none_of : (name : List ℕ) (words : List (List ℕ)) → AllByRecursion (λ word. name ≢ word) words → list_any (bytes_eq name) words ≡ false
 none_of name [] h = refl
 none_of name (word ∷ words) h =
-    ap (λ b. b || list_any (bytes_eq name) words) (no_test (bytes_eq name word) (λ e. h.0 ((bytes_eq-Decides name word).0 e))) ∙ none_of name words h.1
+    ap (λ b. b || list_any (bytes_eq name) words) (no_test (bytes_eq name word) (λ e. h.0 ((bytes_eq-Decides name word).0 e)))
+    ∙ none_of name words h.1
 
 pub returns-in_default : goal.returns-in_default
 unfolding is_reserved
 returns-in_default c =
     let n = c.in_default in
     sym
-    (none_of c.args.name.now reserved_words
-    (n.not-and, (n.not-as, (n.not-asc, (n.not-by, (n.not-desc, (n.not-false, (n.not-filter, (n.not-from, (n.not-group, (n.not-having, (n.not-is, (n.not-not, (n.not-null, (n.not-nulls, (n.not-or, (n.not-order, (n.not-select, (n.not-true, (n.not-unknown, (n.not-where₀, tt)))))))))))))))))))))
+    (none_of c.args.name.now reserved_words (
+      n.not-and,
+      (
+        n.not-as,
+        (
+          n.not-asc,
+          (
+            n.not-by,
+            (
+              n.not-desc,
+              (
+                n.not-false,
+                (
+                  n.not-filter,
+                  (
+                    n.not-from,
+                    (
+                      n.not-group,
+                      (
+                        n.not-having,
+                        (
+                          n.not-is,
+                          (
+                            n.not-not,
+                            (
+                              n.not-null,
+                              (
+                                n.not-nulls,
+                                (n.not-or, (n.not-order, (n.not-select, (n.not-true, (n.not-unknown, (n.not-where₀, tt)))))),
+                              ),
+                            ),
+                          ),
+                        ),
+                      ),
+                    ),
+                  ),
+                ),
+              ),
+            ),
+          ),
+        ),
+      ),
+    ))
 
 pub returns-in-and : goal.returns-in-and
 unfolding is_reserved

@@ -3,22 +3,24 @@ use Rattle.std.specs.List.{AllByRecursion}
 use Rattle.std.specs.List.Sorted.{IsStrictlySortedBy}
 use Rattle.std.specs.Ordering.{nat_cmp}
 use Rattle.replica_merge.proofs.Words.{meaning, setting_by, Part, MergeIsCounted, Parts, part_at, part_of, IsHeldPart}
-use Rattle.tape_disks.specs.Disk.{Leaves}
+use Rattle.tape_disks.specs.Disk.{DiskFrame}
 use Rattle.replica_merge.proofs.MergedLaws.{JoinedSoFar}
 use Rattle.replica_merge.proofs.merging.join_all.Given as goal
 
 abbrev pub invariant-loop-origin : goal.invariant-loop-origin
 invariant-loop-origin g l =
     record {
-      at : (o : ℕ) → JoinedSoFar (g.D.TapeDisk.honest l.fn.disk) l.query (part_of l.own.entries o) (part_at l.own.entries o) (part_at l.initial.origin-iterator o) (part_at l.origin-iterator o) (part_at l.joined.entries o);
+      at : (o : ℕ) → JoinedSoFar (g.D.TapeDisk.honest l.fn.disk) l.query (part_of l.own.entries o) (part_at l.own.entries o)
+          (part_at l.initial.origin-iterator o) (part_at l.origin-iterator o) (part_at l.joined.entries o);
       rest : IsStrictlySortedBy nat_cmp (map (λ (held : ℕ × Part). held.0) l.origin-iterator);
       held : AllByRecursion (IsHeldPart l.query) l.origin-iterator;
       rising : IsStrictlySortedBy nat_cmp (map (λ (held : ℕ × Part). held.0) l.joined.entries);
-      disk : Leaves g.D.TapeDisk 0 l.fn.disk l.disk;
+      disk : DiskFrame g.D.TapeDisk 0 l.fn.disk l.disk;
       front : Parts;
       parts : l.initial.origin-iterator ≡ front ++ l.origin-iterator;
       counted : IsTrue (g.D.TapeDisk.honest l.fn.disk)
-          → MergeIsCounted (meaning l.query) (setting_by g.H.KeyHash.hash_of (meaning l.query) l.means) l.own.entries front l.fn.work (g.D.TapeDisk.writes l.fn.disk) l.work (g.D.TapeDisk.writes l.disk);
+          → MergeIsCounted (meaning l.query) (setting_by g.H.KeyHash.hash_of (meaning l.query) l.means) l.own.entries front l.fn.work
+          (g.D.TapeDisk.writes l.fn.disk) l.work (g.D.TapeDisk.writes l.disk);
       can : (goal.iterator-loop-origin g).can_next l.origin-iterator;
       finite : (goal.iterator-loop-origin g).is_finite l.origin-iterator;
     }

@@ -7,41 +7,49 @@ pub united-requires : goal.united-requires
 united-requires t c = (
   omega (arith, c.split_at.ensures.front_len, c.if-parts-lt2.false),
   (
-    front_inputs (meaning c.args.query.now) c.args.parts.now c.split_at.result.0.now c.split_at.result.1.now c.split_at.ensures.by_index.0 c.requires.inputs,
+    front_inputs (meaning c.args.query.now) c.args.parts.now c.split_at.result.0.now c.split_at.result.1.now c.split_at.ensures.by_index.0
+        c.requires.inputs,
     front_few c.args.parts.now c.split_at.result.0.now c.split_at.result.1.now c.split_at.ensures.by_index.0 c.requires.few,
   ),
 )
 
 pub absorb-requires : goal.absorb-requires
 absorb-requires t c =
-    halves_room (meaning c.args.query.now) c.args.parts.now c.split_at.result.0.now c.split_at.result.1.now c.in_ok-all.all c.in-Some.run'.now c.split_at.ensures.by_index.0 c.requires.few
+    halves_room (meaning c.args.query.now) c.args.parts.now c.split_at.result.0.now c.split_at.result.1.now c.in_ok-all.all
+    c.in-Some.run'.now c.split_at.ensures.by_index.0 c.requires.few
     c.in_ok-all.ensures
     (one_part (meaning c.args.query.now) c.split_at.result.1.now c.in-Some.run'.now
-    (back_inputs (meaning c.args.query.now) c.args.parts.now c.split_at.result.0.now c.split_at.result.1.now c.split_at.ensures.by_index.0 c.requires.inputs) c.in-Some.ensures.alone)
+    (back_inputs (meaning c.args.query.now) c.args.parts.now c.split_at.result.0.now c.split_at.result.1.now c.split_at.ensures.by_index.0
+    c.requires.inputs) c.in-Some.ensures.alone)
 
 pub returns-in-Some : goal.returns-in-Some
 returns-in-Some t c =
-    halves_united (meaning c.args.query.now) c.args.parts.now c.split_at.result.0.now c.split_at.result.1.now c.in_ok-all.all c.in-Some.run'.now c.absorb.new.self c.split_at.ensures.by_index.0 c.requires.few
+    halves_united (meaning c.args.query.now) c.args.parts.now c.split_at.result.0.now c.split_at.result.1.now c.in_ok-all.all
+    c.in-Some.run'.now c.absorb.new.self c.split_at.ensures.by_index.0 c.requires.few
     c.in_ok-all.ensures
     (one_part (meaning c.args.query.now) c.split_at.result.1.now c.in-Some.run'.now
-    (back_inputs (meaning c.args.query.now) c.args.parts.now c.split_at.result.0.now c.split_at.result.1.now c.split_at.ensures.by_index.0 c.requires.inputs) c.in-Some.ensures.alone)
+    (back_inputs (meaning c.args.query.now) c.args.parts.now c.split_at.result.0.now c.split_at.result.1.now c.split_at.ensures.by_index.0
+    c.requires.inputs) c.in-Some.ensures.alone)
     c.in_ok-absorb.ensures.added
 
 pub united-requires-2 : goal.united-requires-2
 united-requires-2 t c = (
   omega (arith, c.split_at.ensures.front_len, c.split_at.ensures.back_len, c.if-parts-lt2.false),
   (
-    back_inputs (meaning c.args.query.now) c.args.parts.now c.split_at.result.0.now c.split_at.result.1.now c.split_at.ensures.by_index.0 c.requires.inputs,
+    back_inputs (meaning c.args.query.now) c.args.parts.now c.split_at.result.0.now c.split_at.result.1.now c.split_at.ensures.by_index.0
+        c.requires.inputs,
     back_few c.args.parts.now c.split_at.result.0.now c.split_at.result.1.now c.split_at.ensures.by_index.0 c.requires.few,
   ),
 )
 
 pub absorb-requires-2 : goal.absorb-requires-2
 absorb-requires-2 t c =
-    halves_room (meaning c.args.query.now) c.args.parts.now c.split_at.result.0.now c.split_at.result.1.now c.in_ok-all.all c.in_ok-more.more c.split_at.ensures.by_index.0 c.requires.few
+    halves_room (meaning c.args.query.now) c.args.parts.now c.split_at.result.0.now c.split_at.result.1.now c.in_ok-all.all
+    c.in_ok-more.more c.split_at.ensures.by_index.0 c.requires.few
     c.in_ok-all.ensures c.in_ok-more.ensures
 
 pub returns : goal.returns
 returns t c =
-    halves_united (meaning c.args.query.now) c.args.parts.now c.split_at.result.0.now c.split_at.result.1.now c.in_ok-all.all c.in_ok-more.more c.absorb-2.new.self c.split_at.ensures.by_index.0 c.requires.few
+    halves_united (meaning c.args.query.now) c.args.parts.now c.split_at.result.0.now c.split_at.result.1.now c.in_ok-all.all
+    c.in_ok-more.more c.absorb-2.new.self c.split_at.ensures.by_index.0 c.requires.few
     c.in_ok-all.ensures c.in_ok-more.ensures c.in_ok-absorb-2.ensures.added

@@ -1,6 +1,6 @@
 use Rattle.std.specs.Prelude.{refl}
 use Rattle.std.proofs.Common.{◌∙◌, ap, sym, subst}
-use Rattle.tape_disks.specs.Disk.{Leaves}
+use Rattle.tape_disks.specs.Disk.{DiskFrame}
 use Rattle.replies.specs.Joining.{IsApart}
 use Rattle.replies.specs.Refusals.{refusal_faults}
 use Rattle.replies.specs.RefusalLaws.{merge_tells}
@@ -19,7 +19,8 @@ returns-in-Err-clause-why g c =
 
 pub returns-in-Err-clause-agree : goal.returns-in-Err-clause-agree
 returns-in-Err-clause-agree g c =
-    λ of at is world own theirs. c.in-Err.ensures.agree of at (told_disagreement c.in-Err.error of at (sym c.from.ensures ∙ is)) world own theirs
+    λ of at is world own theirs. c.in-Err.ensures.agree of at (told_disagreement c.in-Err.error of at (sym c.from.ensures ∙ is)) world own
+    theirs
 
 pub returns-in-Err-clause-undamaged : goal.returns-in-Err-clause-undamaged
 returns-in-Err-clause-undamaged g c = λ honest is.
@@ -27,4 +28,5 @@ returns-in-Err-clause-undamaged g c = λ honest is.
 
 pub returns-in-Err-clause-disk : goal.returns-in-Err-clause-disk
 returns-in-Err-clause-disk g c =
-    subst (λ n. Leaves g.D.TapeDisk n c.args.disk.now c.join.new.disk) (merge_tells c.in-Err.error ∙ ap refusal_faults (sym c.from.ensures)) c.in-Err.ensures.disk
+    subst (λ n. DiskFrame g.D.TapeDisk n c.args.disk.now c.join.new.disk) (merge_tells c.in-Err.error
+    ∙ ap refusal_faults (sym c.from.ensures)) c.in-Err.ensures.disk

@@ -4,4 +4,5 @@ use Rattle.script_commands.proofs.CommandLaws.{request_other}
 use Rattle.script_commands.proofs.request.ask.Goals as goal
 
 pub returns-in_default : goal.returns-in_default
-returns-in_default c = sym (request_other (fields_of c.args.head.now) (λ e. grind (arith, e)) (λ e. grind (arith, e)) (λ e. grind (arith, e)))
+returns-in_default c = sym (request_other (fields_of c.args.head.now) (λ e. grind (arith, e)) (λ e. grind (arith, e))
+    (λ e. grind (arith, e)))

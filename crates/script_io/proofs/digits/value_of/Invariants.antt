@@ -3,4 +3,5 @@ use Rattle.std.specs.Str.Parse.{digits_value, digits_value_after}
 use Rattle.script_io.proofs.digits.value_of.Given as goal
 
 abbrev pub invariant-loop-digit : goal.invariant-loop-digit
-invariant-loop-digit l = (l.value < 10 ^ l.digit-index) × (digits_value_after 10 l.value (drop l.digit-index l.digits) ≡ digits_value 10 l.digits)
+invariant-loop-digit l = (l.value < 10 ^ l.digit-index) × (digits_value_after 10 l.value (drop l.digit-index l.digits)
+    ≡ digits_value 10 l.digits)

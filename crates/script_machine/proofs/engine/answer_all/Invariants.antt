@@ -1,5 +1,5 @@
 use Rattle.std.proofs.Common.{◌≡◌, ℕ, ◌+◌, ◌≤◌, false, length}
-use Rattle.script_machine.proofs.Words.{Leaves, commands_of}
+use Rattle.script_machine.proofs.Words.{DiskFrame, commands_of}
 use Rattle.script_io.specs.Fused.{has_failed, written}
 use Rattle.script_machine.proofs.RunLaws.{Ran}
 use Rattle.script_machine.proofs.engine.answer_all.Given as goal
@@ -8,10 +8,16 @@ abbrev pub invariant-loop-command : goal.invariant-loop-command
 invariant-loop-command g l =
     record {
       room : l.refused + length l.records ≤ length l.fn.records;
-      ran : Ran (record { honest = g.D.TapeDisk.honest l.fn.disk; failed = g.D.TapeDisk.failures l.fn.disk; failed_now = g.D.TapeDisk.failures l.disk })
-          (commands_of l.fn.records) (written g.W.Write.contents l.fn.writer) (written g.W.Write.contents l.writer) l.refused (commands_of l.records) l.session;
+      ran : Ran (record {
+        honest = g.D.TapeDisk.honest l.fn.disk;
+        failed = g.D.TapeDisk.failures l.fn.disk;
+        failed_now =
+            g.D.TapeDisk.failures l.disk;
+      })
+          (commands_of l.fn.records) (written g.W.Write.contents l.fn.writer) (written g.W.Write.contents l.writer) l.refused
+          (commands_of l.records) l.session;
       sound : has_failed l.fn.writer ≡ false → has_failed l.writer ≡ false;
-      left : (faults : ℕ) × Leaves g.D.TapeDisk faults l.fn.disk l.disk;
+      left : (faults : ℕ) × DiskFrame g.D.TapeDisk faults l.fn.disk l.disk;
     }
 
 abbrev pub decreases-loop-command : goal.decreases-loop-command

@@ -14,7 +14,8 @@ returns-in_err-script-clause-fault g c =
     faults_unread _ c.from_residual.result c.in_err-script.field-0.0 _ c.from_residual.ensures.1 c.in_err-script.ensures.fault
 
 pub returns-in_err-script-clause-write_fault : goal.returns-in_err-script-clause-write_fault
-returns-in_err-script-clause-write_fault g c = fails_unread c.from_residual.result c.in_err-script.field-0.0 c.args.writer.now c.from_residual.ensures.1
+returns-in_err-script-clause-write_fault g c = fails_unread c.from_residual.result c.in_err-script.field-0.0 c.args.writer.now
+    c.from_residual.ensures.1
 
 pub returns-clause-fault : goal.returns-clause-fault
 returns-clause-fault g c = faults_read _ _ c.run_script.result _ _ _ c.run_script.ensures.writes ∙ c.in_ok-script.ensures.fault

@@ -10,12 +10,16 @@ pub take_batch-requires-clause-rows : goal.take_batch-requires-clause-rows
 take_batch-requires-clause-rows g c =
     let batch = c.in_ok-batch.ensures in
     read_are_packed _ _ _ _ _ _
-    (read_of_feed _ _ c.args.origin.now c.args.number.now c.args.told (take c.args.told c.args.records.now) _ c.in-Ok.batch (c.schema-schema.ensures.columns ∙ ap (λ (q : Checked). q.columns) c.query.ensures) c.in-Ok.is batch.origin batch.number batch.few batch.told batch.rows)
+    (read_of_feed _ _ c.args.origin.now c.args.number.now c.args.told (take c.args.told c.args.records.now) _ c.in-Ok.batch
+    (c.schema-schema.ensures.columns ∙ ap (λ (q : Checked). q.columns) c.query.ensures) c.in-Ok.is batch.origin batch.number batch.few
+    batch.told batch.rows)
 
 pub returns-clause-took : goal.returns-clause-took
 returns-clause-took g c =
     let batch = c.in_ok-batch.ensures in
-    let read = read_of_feed _ _ c.args.origin.now c.args.number.now c.args.told (take c.args.told c.args.records.now) _ c.in-Ok.batch (c.schema-schema.ensures.columns ∙ ap (λ (q : Checked). q.columns) c.query.ensures) c.in-Ok.is batch.origin batch.number batch.few batch.told batch.rows in
+    let read = read_of_feed _ _ c.args.origin.now c.args.number.now c.args.told (take c.args.told c.args.records.now) _ c.in-Ok.batch
+    (c.schema-schema.ensures.columns ∙ ap (λ (q : Checked). q.columns) c.query.ensures) c.in-Ok.is batch.origin batch.number batch.few
+    batch.told batch.rows in
     IfOk-weaker c.take_batch.result _ _ (λ delivered takes. takes _ _ _ _ read) c.take_batch.ensures.took
 
 pub returns-clause-why : goal.returns-clause-why
@@ -24,25 +28,35 @@ returns-clause-why g c = IfErr-weaker c.take_batch.result _ _ (λ why never of. 
 pub returns-clause-other : goal.returns-clause-other
 returns-clause-other g c =
     let batch = c.in_ok-batch.ensures in
-    let read = read_of_feed _ _ c.args.origin.now c.args.number.now c.args.told (take c.args.told c.args.records.now) _ c.in-Ok.batch (c.schema-schema.ensures.columns ∙ ap (λ (q : Checked). q.columns) c.query.ensures) c.in-Ok.is batch.origin batch.number batch.few batch.told batch.rows in
+    let read = read_of_feed _ _ c.args.origin.now c.args.number.now c.args.told (take c.args.told c.args.records.now) _ c.in-Ok.batch
+    (c.schema-schema.ensures.columns ∙ ap (λ (q : Checked). q.columns) c.query.ensures) c.in-Ok.is batch.origin batch.number batch.few
+    batch.told batch.rows in
     IfErr-weaker c.take_batch.result _ _ (λ why other of at is. other of at is _ _ _ _ read) c.take_batch.ensures.other
 
 pub returns-clause-limit : goal.returns-clause-limit
 returns-clause-limit g c =
     let batch = c.in_ok-batch.ensures in
-    let read = read_of_feed _ _ c.args.origin.now c.args.number.now c.args.told (take c.args.told c.args.records.now) _ c.in-Ok.batch (c.schema-schema.ensures.columns ∙ ap (λ (q : Checked). q.columns) c.query.ensures) c.in-Ok.is batch.origin batch.number batch.few batch.told batch.rows in
+    let read = read_of_feed _ _ c.args.origin.now c.args.number.now c.args.told (take c.args.told c.args.records.now) _ c.in-Ok.batch
+    (c.schema-schema.ensures.columns ∙ ap (λ (q : Checked). q.columns) c.query.ensures) c.in-Ok.is batch.origin batch.number batch.few
+    batch.told batch.rows in
     on_ok_weaker c.take_batch.result
-    (λ counted honest. feed_worked c.args.replica.now c.args.means.now.limit _ _ _ _ c.in-Ok.batch c.none.result c.take_batch.new.work _ _ read c.none.ensures (counted honest))
+    (λ counted honest. feed_worked c.args.replica.now c.args.means.now.limit _ _ _ _ c.in-Ok.batch c.none.result c.take_batch.new.work _ _
+    read c.none.ensures (counted honest))
     c.take_batch.ensures.counted
 
 pub returns-clause-apart : goal.returns-clause-apart
 returns-clause-apart g c =
     let batch = c.in_ok-batch.ensures in
-    let read = read_of_feed _ _ c.args.origin.now c.args.number.now c.args.told (take c.args.told c.args.records.now) _ c.in-Ok.batch (c.schema-schema.ensures.columns ∙ ap (λ (q : Checked). q.columns) c.query.ensures) c.in-Ok.is batch.origin batch.number batch.few batch.told batch.rows in
-    IfErr-weaker c.take_batch.result _ _ (λ why disagree of at is. feed_apart _ _ _ _ _ c.in-Ok.batch of at read (disagree of at is)) c.take_batch.ensures.disagree
+    let read = read_of_feed _ _ c.args.origin.now c.args.number.now c.args.told (take c.args.told c.args.records.now) _ c.in-Ok.batch
+    (c.schema-schema.ensures.columns ∙ ap (λ (q : Checked). q.columns) c.query.ensures) c.in-Ok.is batch.origin batch.number batch.few
+    batch.told batch.rows in
+    IfErr-weaker c.take_batch.result _ _ (λ why disagree of at is. feed_apart _ _ _ _ _ c.in-Ok.batch of at read (disagree of at is))
+    c.take_batch.ensures.disagree
 
 pub returns-clause-alike : goal.returns-clause-alike
 returns-clause-alike g c =
     let batch = c.in_ok-batch.ensures in
-    let read = read_of_feed _ _ c.args.origin.now c.args.number.now c.args.told (take c.args.told c.args.records.now) _ c.in-Ok.batch (c.schema-schema.ensures.columns ∙ ap (λ (q : Checked). q.columns) c.query.ensures) c.in-Ok.is batch.origin batch.number batch.few batch.told batch.rows in
+    let read = read_of_feed _ _ c.args.origin.now c.args.number.now c.args.told (take c.args.told c.args.records.now) _ c.in-Ok.batch
+    (c.schema-schema.ensures.columns ∙ ap (λ (q : Checked). q.columns) c.query.ensures) c.in-Ok.is batch.origin batch.number batch.few
+    batch.told batch.rows in
     on_ok_weaker c.take_batch.result (feed_alike _ _ _ _ _ c.in-Ok.batch read) c.take_batch.ensures.agreed

@@ -8,5 +8,6 @@ returns c = record {
   spelled =
       spelled c.args.bytes.now (λ i. (c.type_inv.bytes i).fits) ∙ ap (bytes_high_first (length c.args.bytes.now)) (sym c.read_uint.ensures);
   fits =
-      subst (λ n. n < 256 ^ length c.args.bytes.now) (sym c.read_uint.ensures) (spelled_fits c.args.bytes.now (λ i. (c.type_inv.bytes i).fits));
+      subst (λ n. n < 256 ^ length c.args.bytes.now) (sym c.read_uint.ensures)
+      (spelled_fits c.args.bytes.now (λ i. (c.type_inv.bytes i).fits));
 }

@@ -7,7 +7,8 @@ use Rattle.summary_codec.proofs.laws.files_of_worlds.Goals as goal
 pub returns : goal.returns
 returns c = record {
   read = λ version query world known bytes is_query utf8 is_world keeps is.
-      subst (λ b. IsSummaryIn version b query (world_parts query world known)) (sym is.bytes_are) (world_read query world known is_query is_world is.of_world version keeps utf8);
+      subst (λ b. IsSummaryIn version b query (world_parts query world known)) (sym is.bytes_are)
+      (world_read query world known is_query is_world is.of_world version keeps utf8);
   second = second_keeps;
   fits = part_fits;
 }

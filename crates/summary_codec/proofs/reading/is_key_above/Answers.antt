@@ -9,7 +9,8 @@ use Rattle.summary_codec.proofs.reading.is_key_above.Goals as goal
 pub returns-in-Some-clause-above : goal.returns-in-Some-clause-above
 returns-in-Some-clause-above c =
     let last = c.group.result.0.now in
-    let there = last_key c.args.run.now c.in-Some.last last c.group.result.1.now (c.in-Some.ensures.1 ∙ ap (λ n. n - 1) c.len.ensures.length) c.group.ensures in (
+    let there = last_key c.args.run.now c.in-Some.last last c.group.result.1.now (c.in-Some.ensures.1
+    ∙ ap (λ n. n - 1) c.len.ensures.length) c.group.ensures in (
       (λ below. is_next (slice_cmp nat_cmp) (packed_keys c.args.run.now) last c.args.key.now there (c.is_below.ensures.0 below)),
       (λ above. c.is_below.ensures.1 (next_is (slice_cmp nat_cmp) (packed_keys c.args.run.now) last c.args.key.now there above)),
     )

@@ -6,14 +6,17 @@ use Rattle.summary_codec.proofs.reading.read_held.Goals as goal
 pub returns-in_err-read_part-clause-fault : goal.returns-in_err-read_part-clause-fault
 returns-in_err-read_part-clause-fault c =
     handed_on c.from_residual.result c.in_err-read_part.field-0.0 _ c.from_residual.ensures.1
-    (λ memory. read_fault (part c.args.version c.args.query.now) c.args.count c.args.fields.now c.loop.counter c.loop.parts.entries c.loop.fields c.in_err-read_part.field-0.0 c.loop-test.true
+    (λ memory. read_fault (part c.args.version c.args.query.now) c.args.count c.args.fields.now c.loop.counter c.loop.parts.entries
+    c.loop.fields c.in_err-read_part.field-0.0 c.loop-test.true
     (c.in_err-read_part.ensures.fault memory) c.loop.invariant)
 
 pub loop-preserved : goal.loop-preserved
 loop-preserved c =
     let read = c.in_ok-read_part.ensures.read in
-    read_more (part c.args.version c.args.query.now) c.args.count c.args.fields.now c.loop.counter c.loop.parts.entries c.read_part.new.parts.entries read.0 c.loop.fields c.read_part.new.fields c.loop-test.true read.1 read.2 c.loop.invariant
+    read_more (part c.args.version c.args.query.now) c.args.count c.args.fields.now c.loop.counter c.loop.parts.entries
+    c.read_part.new.parts.entries read.0 c.loop.fields c.read_part.new.fields c.loop-test.true read.1 read.2 c.loop.invariant
 
 pub returns-clause-read : goal.returns-clause-read
 returns-clause-read c =
-    read_all (part c.args.version c.args.query.now) c.args.count c.args.fields.now c.loop.counter c.loop.parts.entries c.loop.fields c.loop-test.false c.loop.invariant
+    read_all (part c.args.version c.args.query.now) c.args.count c.args.fields.now c.loop.counter c.loop.parts.entries c.loop.fields
+    c.loop-test.false c.loop.invariant

@@ -13,5 +13,11 @@ returns-in_err-check_text-clause-fault c =
       c.in_ok-text.text.now,
       c.read_text.new.fields,
       c.in_ok-text.ensures.read,
-      inr (c.in_ok-query.query, c.read_text.new.fields, (c.in_ok-query.ensures.parsed, refl), inr ((λ same. fault.0 (c.spelling.ensures ∙ same)), fault.1)),
+      inr (
+        c.in_ok-query.query,
+        c.read_text.new.fields,
+        (c.in_ok-query.ensures.parsed, refl),
+        inr
+            ((λ same. fault.0 (c.spelling.ensures ∙ same)), fault.1),
+      ),
     ))

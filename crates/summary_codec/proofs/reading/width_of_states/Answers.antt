@@ -14,4 +14,5 @@ width-requires c =
 
 pub returns : goal.returns
 returns c =
-    c.width.ensures ∙ width_by_functions c.agg_kinds.result.now ∙ ap (sum_by (λ function. width_of (shape_of function))) c.agg_kinds.ensures.functions
+    c.width.ensures ∙ width_by_functions c.agg_kinds.result.now
+    ∙ ap (sum_by (λ function. width_of (shape_of function))) c.agg_kinds.ensures.functions

@@ -22,4 +22,5 @@ returns-clause-read_again c =
     let held = c.args.parts.now.entries in
     let texts = c.in_ok-push_heading.ensures.texts in
     let spelled : c.push_parts.new.out.items ≡ file_bytes q held = search rules in
-    subst (λ bytes. IsSaved bytes q held) (sym spelled) (read_again Second q held c.in_ok-push_heading.ensures.query texts.0 texts.1 c.requires (held_within q held c.requires))
+    subst (λ bytes. IsSaved bytes q held) (sym spelled) (read_again Second q held c.in_ok-push_heading.ensures.query texts.0 texts.1
+    c.requires (held_within q held c.requires))

@@ -12,6 +12,7 @@ loop-place-preserved c =
     let place = c.loop-place.place in
     let entry : Entry = (c.group.result.0.now, c.group.result.1.now) in
     let next = drop_at run place entry c.group.ensures in (
-      pushed group_bytes c.loop-place.out.items c.push_group.new.out.items _ (drop place run) (drop (place + 1) run) entry next c.in_ok-push_group.ensures c.loop-place.invariant.0,
+      pushed group_bytes c.loop-place.out.items c.push_group.new.out.items _ (drop place run) (drop (place + 1) run) entry next
+          c.in_ok-push_group.ensures c.loop-place.invariant.0,
       of_others (λ (e : Entry). IsShort e.0) (drop place run) (drop (place + 1) run) entry next c.loop-place.invariant.1,
     )

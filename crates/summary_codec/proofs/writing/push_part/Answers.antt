@@ -17,10 +17,16 @@ returns c =
     let batches : List ℕ = bytes_high_first 4 (length part.early) in
     let early : List ℕ = flat_map batch_bytes part.early in
     let new = c.push_batches.new.out.items in
-    let first : c.push_number.new.out.items ≡ out ++ origin = c.in_ok-push_number.ensures ∙ ap (λ n. out ++ bytes_high_first 2 n) c.from.ensures in
-    let second = behind out origin _ _ _ prefix first c.in_ok-push_number-2.ensures (ap (bytes_high_first 4) (c.from-2.ensures ∙ c.prefix.ensures)) in
-    let third = behind out (origin ++ prefix) _ _ _ groups second c.in_ok-push_number-3.ensures (ap (bytes_high_first 8) (c.len.ensures.length ∙ ap length c.run.ensures)) in
-    let fourth = behind out (origin ++ prefix ++ groups) _ _ _ run third c.in_ok-push_groups.ensures (ap (flat_map group_bytes) c.run-2.ensures) in
-    let fifth = behind out (origin ++ prefix ++ groups ++ run) _ _ _ batches fourth c.in_ok-push_number-4.ensures (ap (bytes_high_first 4) (c.len-2.ensures.len ∙ ap length c.early.ensures)) in
-    says c.push_batches.result (new ≡ c.push_number-4.new.out.items ++ flat_map batch_bytes c.early-2.result.now.entries) (new ≡ out ++ part_bytes (c.args.origin, part)) c.push_batches.ensures
+    let first : c.push_number.new.out.items ≡ out ++ origin = c.in_ok-push_number.ensures
+    ∙ ap (λ n. out ++ bytes_high_first 2 n) c.from.ensures in
+    let second = behind out origin _ _ _ prefix first c.in_ok-push_number-2.ensures (ap (bytes_high_first 4) (c.from-2.ensures
+    ∙ c.prefix.ensures)) in
+    let third = behind out (origin ++ prefix) _ _ _ groups second c.in_ok-push_number-3.ensures
+    (ap (bytes_high_first 8) (c.len.ensures.length ∙ ap length c.run.ensures)) in
+    let fourth = behind out (origin ++ prefix ++ groups) _ _ _ run third c.in_ok-push_groups.ensures
+    (ap (flat_map group_bytes) c.run-2.ensures) in
+    let fifth = behind out (origin ++ prefix ++ groups ++ run) _ _ _ batches fourth c.in_ok-push_number-4.ensures
+    (ap (bytes_high_first 4) (c.len-2.ensures.len ∙ ap length c.early.ensures)) in
+    says c.push_batches.result (new ≡ c.push_number-4.new.out.items ++ flat_map batch_bytes c.early-2.result.now.entries) (new ≡ out
+    ++ part_bytes (c.args.origin, part)) c.push_batches.ensures
     (λ last. behind out (origin ++ prefix ++ groups ++ run ++ batches) _ _ _ early fifth last (ap (flat_map batch_bytes) c.early-2.ensures))

@@ -11,6 +11,7 @@ loop-place-preserved c =
     let place = c.loop-place.place in
     let row = c.row.result.now in
     let next = drop_at rows place row c.row.ensures in (
-      pushed sized_bytes c.loop-place.out.items c.push_sized.new.out.items _ (drop place rows) (drop (place + 1) rows) row next c.in_ok-push_sized.ensures c.loop-place.invariant.0,
+      pushed sized_bytes c.loop-place.out.items c.push_sized.new.out.items _ (drop place rows) (drop (place + 1) rows) row next
+          c.in_ok-push_sized.ensures c.loop-place.invariant.0,
       of_others IsShort (drop place rows) (drop (place + 1) rows) row next c.loop-place.invariant.1,
     )

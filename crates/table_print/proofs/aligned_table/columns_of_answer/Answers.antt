@@ -8,11 +8,13 @@ use Rattle.table_print.proofs.aligned_table.columns_of_answer.Goals as goal
 
 pub side_of_item-side-requires : goal.side_of_item-side-requires
 side_of_item-side-requires c =
-    subst (λ (n : ℕ). c.loop-item.item < n) (length-written c.args.query.now c.items-item-end.result.now c.items-item-end.ensures) c.loop-item-test.true
+    subst (λ (n : ℕ). c.loop-item.item < n) (length-written c.args.query.now c.items-item-end.result.now c.items-item-end.ensures)
+    c.loop-item-test.true
 
 pub header-requires : goal.header-requires
 header-requires c =
-    subst (λ (n : ℕ). c.loop-item.item < n) (length-written c.args.query.now c.items-item-end.result.now c.items-item-end.ensures) c.loop-item-test.true
+    subst (λ (n : ℕ). c.loop-item.item < n) (length-written c.args.query.now c.items-item-end.result.now c.items-item-end.ensures)
+    c.loop-item-test.true
 
 pub width_of_column-requires : goal.width_of_column-requires
 width_of_column-requires c = λ k d within.
@@ -29,7 +31,8 @@ loop-item-preserved c =
     let side = c.side_of_item-side.result in
     let rows = map row_cells c.args.answer.now in
     let before = take n (columns_of (sides q) (header_cells (headers q) ∷ rows)) in
-    c.in_ok-push.ensures.items ∙ ap (λ (l : List Column). l ++ record { side = side; width = c.in_ok-width.width } ∷ []) c.loop-item.invariant
+    c.in_ok-push.ensures.items ∙ ap (λ (l : List Column). l ++ record { side = side; width = c.in_ok-width.width }
+    ∷ []) c.loop-item.invariant
     ∙ ap (λ (width : ℕ). before ++ record { side = side; width = width } ∷ []) c.in_ok-width.ensures
     ∙ sym (one_more_column (sides q) (headers q) rows n side c.header.result.now c.side_of_item-side.ensures c.header.ensures)
 
@@ -38,5 +41,11 @@ returns c =
     let q = c.args.query.now in
     let lines = header_cells (headers q) ∷ map row_cells c.args.answer.now in
     let many = length-written q c.items-item-end.result.now c.items-item-end.ensures in
-    let all : length (columns_of (sides q) lines) ≤ c.loop-item.item = omega (arith, length-columns_of (sides q) lines, length-sides q, many, c.loop-item-test.false) in
+    let all : length (columns_of (sides q) lines) ≤ c.loop-item.item = omega (
+      arith,
+      length-columns_of (sides q) lines,
+      length-sides q,
+      many,
+      c.loop-item-test.false,
+    ) in
     c.loop-item.invariant ∙ take_all c.loop-item.item (columns_of (sides q) lines) all

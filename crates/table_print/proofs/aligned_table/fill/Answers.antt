@@ -12,7 +12,8 @@ loop-byte-init c = c.clear.ensures.items
 
 pub loop-byte-preserved : goal.loop-byte-preserved
 loop-byte-preserved c =
-    longer_text shown_byte c.args.text.now c.loop-byte.byte-index 0 [] _ _ c.loop-byte-test.true c.loop-byte.invariant c.in_ok-push_shown.ensures
+    longer_text shown_byte c.args.text.now c.loop-byte.byte-index 0 [] _ _ c.loop-byte-test.true c.loop-byte.invariant
+    c.in_ok-push_shown.ensures
 
 pub returns : goal.returns
 returns c = c.loop-byte.invariant ∙ ap shown (take_all c.loop-byte.byte-index c.args.text.now c.loop-byte-test.false)

@@ -16,14 +16,17 @@ pub push_header-requires : goal.push_header-requires
 push_header-requires c =
     let q = c.args.query.now in
     let lines = header_cells (headers q) ∷ map row_cells c.args.answer.now in
-    ap length (c.deref.ensures.value ∙ c.in_ok-columns.ensures) ∙ length-columns_of (sides q) lines ∙ length-sides q ∙ sym (length-headers q)
+    ap length (c.deref.ensures.value ∙ c.in_ok-columns.ensures) ∙ length-columns_of (sides q) lines ∙ length-sides q
+    ∙ sym (length-headers q)
 
 pub push_row-requires-clause-width : goal.push_row-requires-clause-width
 push_row-requires-clause-width c =
     let q = c.args.query.now in
     let lines = header_cells (headers q) ∷ map row_cells c.args.answer.now in
-    let within : c.loop-row.row < length c.args.answer.now = subst (λ (n : ℕ). c.loop-row.row < n) c.len-row-end.ensures c.loop-row-test.true in
-    ap length (c.deref-in-loop-row.ensures.value ∙ c.in_ok-columns.ensures) ∙ length-columns_of (sides q) lines ∙ length-sides q ∙ sym (length-items q)
+    let within : c.loop-row.row < length c.args.answer.now = subst (λ (n : ℕ). c.loop-row.row < n) c.len-row-end.ensures
+    c.loop-row-test.true in
+    ap length (c.deref-in-loop-row.ensures.value ∙ c.in_ok-columns.ensures) ∙ length-columns_of (sides q) lines ∙ length-sides q
+    ∙ sym (length-items q)
     ∙ sym (c.requires c.loop-row.row [] within)
 
 pub push_row-requires-clause-in_range : goal.push_row-requires-clause-in_range
@@ -49,7 +52,8 @@ loop-row-preserved c =
     longer_text (λ (row : List Outcome). aligned_line columns (row_cells row)) answer n [] head _ _ within
     (c.loop-row.invariant ∙ ap (λ (l : List ℕ). head ++ l) (flat_map-map (aligned_line columns) row_cells (take n answer)))
     (c.in_ok-push_row.ensures
-    ∙ ap (λ (cs : List Column). c.loop-row.text.items ++ aligned_line cs (row_cells (get_or answer n []))) c.deref-in-loop-row.ensures.value)
+    ∙ ap (λ (cs : List Column). c.loop-row.text.items ++ aligned_line cs (row_cells (get_or answer n [])))
+    c.deref-in-loop-row.ensures.value)
     ∙ ap (λ (l : List ℕ). head ++ l) (sym (flat_map-map (aligned_line columns) row_cells (take (n + 1) answer)))
 
 pub returns : goal.returns

@@ -19,7 +19,9 @@ loop-item-preserved c =
     let names = headers c.args.query.now in
     let same = c.requires ∙ sym (length-map names shown) in
     let here = header_at names c.loop-item.item c.header.result.now c.header.ensures ∙ ap shown (sym c.as_bytes.ensures.value) in
-    longer_row c.args.columns.now (header_cells names) c.loop-item.item _ _ _ _ c.loop-item-test.true same here c.loop-item.invariant c.in_ok-push_cell.ensures
+    longer_row c.args.columns.now (header_cells names) c.loop-item.item _ _ _ _ c.loop-item-test.true same here c.loop-item.invariant
+    c.in_ok-push_cell.ensures
 
 pub returns : goal.returns
-returns c = whole_row c.args.columns.now (header_cells (headers c.args.query.now)) c.loop-item.item _ _ _ c.loop-item-test.false c.loop-item.invariant c.in_ok-push.ensures.items
+returns c = whole_row c.args.columns.now (header_cells (headers c.args.query.now)) c.loop-item.item _ _ _ c.loop-item-test.false
+    c.loop-item.invariant c.in_ok-push.ensures.items

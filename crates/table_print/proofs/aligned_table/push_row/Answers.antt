@@ -11,9 +11,11 @@ loop-item-preserved c =
     let row = slice_index_or c.args.answer.now c.args.row [] in
     let same = c.requires.width ∙ sym (length-map row (λ value. shown (cell_text value))) in
     let here = cell_at row c.loop-item.item (outcome_of c.value.result) c.value.ensures ∙ ap shown (sym c.cell-text.ensures) in
-    longer_row c.args.columns.now (row_cells row) c.loop-item.item _ _ _ _ c.loop-item-test.true same here c.loop-item.invariant c.in_ok-push_cell.ensures
+    longer_row c.args.columns.now (row_cells row) c.loop-item.item _ _ _ _ c.loop-item-test.true same here c.loop-item.invariant
+    c.in_ok-push_cell.ensures
 
 pub returns : goal.returns
 returns c =
     let row = slice_index_or c.args.answer.now c.args.row [] in
-    whole_row c.args.columns.now (row_cells row) c.loop-item.item _ _ _ c.loop-item-test.false c.loop-item.invariant c.in_ok-push.ensures.items
+    whole_row c.args.columns.now (row_cells row) c.loop-item.item _ _ _ c.loop-item-test.false c.loop-item.invariant
+    c.in_ok-push.ensures.items

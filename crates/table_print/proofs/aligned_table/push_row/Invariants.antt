@@ -5,4 +5,5 @@ use Rattle.table_print.proofs.AlignedLaws.{joined_cells}
 use Rattle.table_print.proofs.aligned_table.push_row.Given as goal
 
 abbrev pub invariant-loop-item : goal.invariant-loop-item
-invariant-loop-item l = l.out.items ≡ l.fn.out.items ++ joined_cells (take l.item (zip l.columns (row_cells (slice_index_or l.answer l.row []))))
+invariant-loop-item l = l.out.items ≡ l.fn.out.items
+    ++ joined_cells (take l.item (zip l.columns (row_cells (slice_index_or l.answer l.row []))))

@@ -7,7 +7,8 @@ use Rattle.table_print.proofs.AlignedLaws.{length-written, side_at}
 use Rattle.table_print.proofs.aligned_table.side_of_item.Goals as goal
 
 pub bounds-items-item : goal.bounds-items-item
-bounds-items-item c = subst (λ (n : ℕ). c.args.item < n) (sym (length-written c.args.query.now c.items.result.now c.items.ensures)) c.requires
+bounds-items-item c = subst (λ (n : ℕ). c.args.item < n) (sym (length-written c.args.query.now c.items.result.now c.items.ensures))
+    c.requires
 
 pub returns : goal.returns
 returns c =

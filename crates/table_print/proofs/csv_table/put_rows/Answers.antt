@@ -14,5 +14,6 @@ loop-row-preserved c =
     let within : c.loop-row.row < length answer = subst (λ (n : ℕ). c.loop-row.row < n) c.len-row-end.ensures c.loop-row-test.true in (
       c.in_ok-put_record.ensures.between,
       longer_text row_line answer c.loop-row.row [] (old.inner.items ++ old.buf) _ _ within c.loop-row.invariant.1
-          (c.in_ok-put_record.ensures.line ∙ ap (λ (fields : List (List ℕ)). (now.inner.items ++ now.buf) ++ line_text fields) c.in_ok-push_row.ensures),
+          (c.in_ok-put_record.ensures.line ∙ ap (λ (fields : List (List ℕ)). (now.inner.items ++ now.buf) ++ line_text fields)
+          c.in_ok-push_row.ensures),
     )

@@ -18,9 +18,14 @@ returns-in-Bigint-clause-moves c =
 
 pub returns-in-Bigint-clause-of_list : goal.returns-in-Bigint-clause-of_list
 returns-in-Bigint-clause-of_list c =
-    moved_list Sum (Summed c.args.state.how_many c.args.state.total) (Summed c.and.result.how_many c.and.result.total) (datum_of c.args.value) c.requires.takes (returns-in-Bigint-clause-moves c)
+    moved_list Sum (Summed c.args.state.how_many c.args.state.total) (Summed c.and.result.how_many c.and.result.total)
+    (datum_of c.args.value) c.requires.takes (returns-in-Bigint-clause-moves c)
 
 pub returns-in_default : goal.returns-in_default
 returns-in_default c =
     let moves = sum_kept c.args.state.how_many c.args.state.total c.args.value c.in_default.not-Bigint in
-    record { moves = moves; of_list = moved_list Sum (Summed c.args.state.how_many c.args.state.total) (Summed c.args.state.how_many c.args.state.total) (datum_of c.args.value) c.requires.takes moves }
+    record {
+      moves = moves;
+      of_list = moved_list Sum (Summed c.args.state.how_many c.args.state.total)
+          (Summed c.args.state.how_many c.args.state.total) (datum_of c.args.value) c.requires.takes moves;
+    }

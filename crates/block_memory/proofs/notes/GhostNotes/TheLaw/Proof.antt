@@ -11,5 +11,6 @@ use Rattle.block_memory.proofs.notes.GhostNotes.TheLaw.Statement.{statement}
 
 pub shares : (T : RattleType) (L : Laws T) → statement T L
 shares T L =
-    of_Lends (C.struct T) (C.the_codes T.Denot T.coded (mark.the_row T).coded) (C.the_heap T) (C.the_lent T) (λ n _. nothing_shr_laws) (the_field_shared T L, tt)
+    of_Lends (C.struct T) (C.the_codes T.Denot T.coded (mark.the_row T).coded) (C.the_heap T) (C.the_lent T) (λ n _. nothing_shr_laws)
+    (the_field_shared T L, tt)
     (λ M 𝓤 𝓛 n _. Lends-nothing 𝓛 ftrue (C.the_row T).lives)

@@ -1,5 +1,9 @@
 -- `add` does nothing but change what the notes are.
-use Rattle.block_memory.proofs.Steps.{List, [], ◌∷◌, refl, proved, emp, sep, ftrue, flft, named, Val, vunit, fact, ‵, raw, ◌⊛◌, ◌$◌, ◌∵◌, !, qed, done, move, keep, split, join, fsplit3, feq_i, suffices, frame, group, enter, of_opd, unit_lit, returns, alloc_all, pass_all, free_all, look_at, sets, yes, MutRef, mut_vals, mut_Tells, ShrRef, shr_vals, shr_Tells, plain, nothing, opens, closes, Stays, walk_of, says, stay_dropped, Goes-dropped, stay_ref, Goes-ref, ends_at}
+use Rattle.block_memory.proofs.Steps.{List, [], ◌∷◌, refl, proved, emp, sep, ftrue, flft, named, Val, vunit, fact, ‵, raw, ◌⊛◌, ◌$◌, ◌∵◌, ! }
+use Rattle.block_memory.proofs.Steps.{qed, done, move, keep, split, join, fsplit3, feq_i, suffices, frame, group, enter, of_opd, unit_lit}
+use Rattle.block_memory.proofs.Steps.{returns, alloc_all, pass_all, free_all, look_at, sets, yes, MutRef, mut_vals, mut_Tells, ShrRef}
+use Rattle.block_memory.proofs.Steps.{shr_vals, shr_Tells, plain, nothing, opens, closes, Stays, walk_of, says, stay_dropped, Goes-dropped}
+use Rattle.block_memory.proofs.Steps.{stay_ref, Goes-ref, ends_at}
 use mir.Syntax.{a_type}
 use mir.MapTy.{inst_fn}
 use contract.BorrowLft.{◌⊑◌}
@@ -21,9 +25,15 @@ stayed T = (stay_ref (0 ∷ []) tt (plain (λ _. R T)), (stay_dropped _ yes, tt)
 pub add_spec : {M : Type 1} → statement M
 add_spec 𝓤 𝓛 𝓜 𝓡 wired T laws =
     let c = f.clauses T 𝓛 𝓜.mem 𝓡.returns in let W = walk_of 𝓛 (f.ended T) (stayed T) c in
-    proved 𝓛 (f.ended T) (stayed T) c 𝓜 𝓡
-    (Goes-ref 𝓛 3 0 tt (plain (λ _. R T)), (Goes-dropped 𝓛 3 (RefOf (1 ∷ []) tt (plain (λ _. param 0 T)) (λ _. tt)) yes (λ κs x w. refl), tt))
-    (f.Key.name (layouts (a_type ∷ []) (T, tt))) (inst_fn (layouts (a_type ∷ []) (T, tt)) code.function) (code.unfolded 𝓤 𝓛.H 𝓜 𝓡 wired (T, tt))
+    proved 𝓛 (f.ended T) (stayed T) c 𝓜 𝓡 (
+      Goes-ref 𝓛 3 0 tt (plain (λ _. R T)),
+      (
+        Goes-dropped 𝓛 3 (RefOf (1 ∷ []) tt (plain (λ _. param 0 T)) (λ _. tt)) yes (λ κs x w. refl),
+        tt,
+      ),
+    )
+    (f.Key.name (layouts (a_type ∷ []) (T, tt))) (inst_fn (layouts (a_type ∷ []) (T, tt)) code.function)
+    (code.unfolded 𝓤 𝓛.H 𝓜 𝓡 wired (T, tt))
     (λ κs. (mut_vals, (shr_vals, tt))) (λ κs. (mut_Tells (named 0) κs.0 (R T), (shr_Tells (named 1) κs.1.0 (param 0 T), tt)))
     (λ κs qs bounds a _ are.
     let b = a.0.ref_ptr.0 in let o = a.0.ref_ptr.1 in let n = a.0.now in
@@ -31,7 +41,8 @@ add_spec 𝓤 𝓛 𝓜 𝓡 wired T laws =
     let vss : List Val × (List Val × Unit {0}) = (mut_vals a.0, (shr_vals a.1.0, tt)) in
     let y : W.Ghost = ((κs, qs, bounds, a, vss), tt) in
     qed 𝓛 (((‵ (flft κs.0 qs.0) ⊛ (‵ (flft κs.1.0 qs.1.0) ⊛ (‵ (flft κs.1.1.0 qs.1.1.0) ⊛ ‵ ftrue)))
-    ⊛ (‵ ((MutRef (named 0) κs.0 (R T)).own_val a.0 vss.0) ⊛ (‵ ((ShrRef (named 1) κs.1.0 (param 0 T)).own_val a.1.0 vss.1.0) ⊛ ‵ ftrue))) ∷ raw (sep 𝓤 (fact 𝓤 (κs.1.1.0 ⊑ T.lives)) (emp 𝓤)) ∷ []) ∵
+    ⊛ (‵ ((MutRef (named 0) κs.0 (R T)).own_val a.0 vss.0) ⊛ (‵ ((ShrRef (named 1) κs.1.0 (param 0 T)).own_val a.1.0 vss.1.0) ⊛ ‵ ftrue)))
+    ∷ raw (sep 𝓤 (fact 𝓤 (κs.1.1.0 ⊑ T.lives)) (emp 𝓤)) ∷ []) ∵
     split ! $ split ! $ move ! (2 ∷ []) $ split ! $ keep ! (0 ∷ 2 ∷ 3 ∷ []) $
     enter ! _ _ _ _ _ $ alloc_all ! (λ l. pass_all ! refl ((tt, tt), ((tt, tt), tt)) $
     fsplit3 ! $ move ! (1 ∷ 2 ∷ 3 ∷ []) $ opens ! tt (R T) b o (λ us. closes ! tt (R T) n' us b o $

@@ -1,5 +1,7 @@
 -- `new` makes notes of nothing.
-use Rattle.block_memory.proofs.Steps.{List, [], ◌∷◌, refl, proved, emp, sep, ftrue, flft, Val, fact, raw, ‵, ◌⊛◌, ◌$◌, ◌∵◌, !, qed, done, move, keep, split, fjoin, fpack, feq_i, suffices, enter, agg, and_then, no_more, returns, alloc_all, pass_all, free_all, look_at, get, sets, nothing, owned, walk_of, says, ends_at}
+use Rattle.block_memory.proofs.Steps.{List, [], ◌∷◌, refl, proved, emp, sep, ftrue, flft, Val, fact, raw, ‵, ◌⊛◌, ◌$◌, ◌∵◌, !, qed, done}
+use Rattle.block_memory.proofs.Steps.{move, keep, split, fjoin, fpack, feq_i, suffices, enter, agg, and_then, no_more, returns, alloc_all}
+use Rattle.block_memory.proofs.Steps.{pass_all, free_all, look_at, get, sets, nothing, owned, walk_of, says, ends_at}
 use contract.BorrowLft.{◌⊑◌}
 use mir.MapTy.{inst_fn}
 use mir.Syntax.{a_type}
@@ -24,7 +26,8 @@ pub new_spec : {M : Type 1} → statement M
 new_spec 𝓤 𝓛 𝓜 𝓡 wired T laws =
     let c = f.clauses T 𝓛 𝓜.mem 𝓡.returns in let W = walk_of 𝓛 (f.ended T) tt c in
     proved 𝓛 (f.ended T) tt c 𝓜 𝓡 tt
-    (f.Key.name (layouts (a_type ∷ []) (T, tt))) (inst_fn (layouts (a_type ∷ []) (T, tt)) code.function) (code.unfolded 𝓤 𝓛.H 𝓜 𝓡 wired (T, tt))
+    (f.Key.name (layouts (a_type ∷ []) (T, tt))) (inst_fn (layouts (a_type ∷ []) (T, tt)) code.function)
+    (code.unfolded 𝓤 𝓛.H 𝓜 𝓡 wired (T, tt))
     (λ κs. tt) (λ κs. tt)
     (λ κs qs bounds a _ are.
     let y : W.Ghost = ((κs, qs, bounds, tt, tt), tt) in

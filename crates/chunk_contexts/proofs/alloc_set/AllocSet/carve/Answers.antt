@@ -20,9 +20,23 @@ invariant_of-self c =
     let a = x.active in
     let left : a.size - a.used ≡ c.args.self.now.left = ap (λ (s : SetState). s.left) c.self.view_is in
     let fits : a.used + 8 + c.args.room ≤ a.size = omega (arith, left, c.requires.fits, in-some c.args.room c.requires.known) in
-    let made : c.carve.new.layout ≡ record { head = 8; blocks = l.blocks; pieces = (record { place = record { block = a.block; offset = a.used + 8 }; room = c.args.room; is_live = true; bytes = [] }) ∷ l.pieces } = c.carve.ensures.carved ∙ (λ i. record { head = 8; blocks = l.blocks; pieces = (record { place = c.carve.ensures.place i; room = c.args.room; is_live = true; bytes = [] }) ∷ l.pieces }) in
+    let made : c.carve.new.layout
+    ≡ record {
+      head = 8;
+      blocks = l.blocks;
+      pieces =
+          (record { place = record { block = a.block; offset = a.used + 8 }; room = c.args.room; is_live = true; bytes = [] }) ∷ l.pieces;
+    } =
+    c.carve.ensures.carved
+    ∙ (λ i. record {
+      head = 8;
+      blocks = l.blocks;
+      pieces =
+          (record { place = c.carve.ensures.place i; room = c.args.room; is_live = true; bytes = [] }) ∷ l.pieces;
+    }) in
     grind (arith, nat_tests, common_steps, set-carved l x.lists.heads a x.first c.self.invariant.set c.args.room c.requires.known fits)
 
 pub returns-clause-fresh : goal.returns-clause-fresh
 returns-clause-fresh c =
-    ap (λ (s : SetState). has s.chunks c.carve.result) (sym c.self.view_is) ∙ live-none c.self.inside.lists.layout.pieces c.carve.result c.carve.ensures.fresh
+    ap (λ (s : SetState). has s.chunks c.carve.result) (sym c.self.view_is) ∙ live-none c.self.inside.lists.layout.pieces c.carve.result
+    c.carve.ensures.fresh

@@ -18,4 +18,5 @@ returns-then-room-left-clause-lies c grows = grind (arith, nat_tests, common_ste
 
 pub returns-clause-lies : goal.returns-clause-lies
 returns-clause-lies c =
-    IfOk-weaker c.carve_new.result _ _ (λ place vacant _. subst (λ (t : SetState). get_or t.blocks place.block None ≡ None) c.in_default.ensures.none.1 vacant) c.carve_new.ensures.vacant
+    IfOk-weaker c.carve_new.result _ _ (λ place vacant _. subst (λ (t : SetState). get_or t.blocks place.block None
+    ≡ None) c.in_default.ensures.none.1 vacant) c.carve_new.ensures.vacant

@@ -9,11 +9,13 @@ use Rattle.chunk_contexts.proofs.alloc_set.AllocSet.reuse.Goals as goal
 
 pub invariant_of-self-2 : goal.invariant_of-self-2
 invariant_of-self-2 c =
-    let x = c.self.inside in let l = x.lists.layout in let is = c.self.invariant.set in let place = c.in-Some.place in let n = c.reuse.new.self in
+    let x = c.self.inside in let l = x.lists.layout in let is = c.self.invariant.set in let place = c.in-Some.place in let n =
+    c.reuse.new.self in
     let w = was l x.lists.heads is.lists c.args.class place c.requires c.in-Some.ensures.some in
     let lists = subst (λ (z : Layout). AreLists z n.heads) c.in-Some.ensures.taken c.reuse.ensures.lists in
     record {
-      set = subst (λ (z : Layout). IsSet z n.heads x.active x.first) (sym c.in-Some.ensures.taken) (set-put l x.lists.heads x.active x.first is place w.there 0 [] true n.heads (inl refl) lists);
+      set = subst (λ (z : Layout). IsSet z n.heads x.active x.first) (sym c.in-Some.ensures.taken)
+          (set-put l x.lists.heads x.active x.first is place w.there 0 [] true n.heads (inl refl) lists);
       next = c.self.invariant.next;
     }
 

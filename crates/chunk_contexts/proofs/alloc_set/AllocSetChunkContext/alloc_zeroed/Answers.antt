@@ -16,10 +16,12 @@ pub returns-clause-added : goal.returns-clause-added
 returns-clause-added c = grind (arith, nat_tests, common_steps, put-taken, length-zeros)
 
 pub returns-clause-lives : goal.returns-clause-lives
-returns-clause-lives c = added-lives c.args.self.now.chunks c.write_zeros.new.self.chunks c.write_zeros.result (set_room c.args.n) (zeros c.args.n) (returns-clause-added c)
+returns-clause-lives c = added-lives c.args.self.now.chunks c.write_zeros.new.self.chunks c.write_zeros.result (set_room c.args.n)
+    (zeros c.args.n) (returns-clause-added c)
 
 pub returns-clause-keeps : goal.returns-clause-keeps
-returns-clause-keeps c = added-keeps c.args.self.now.chunks c.write_zeros.new.self.chunks c.write_zeros.result (set_room c.args.n) (zeros c.args.n) (returns-clause-added c)
+returns-clause-keeps c = added-keeps c.args.self.now.chunks c.write_zeros.new.self.chunks c.write_zeros.result (set_room c.args.n)
+    (zeros c.args.n) (returns-clause-added c)
 
 pub returns-clause-lies : goal.returns-clause-lies
 returns-clause-lies c = grind (arith, nat_tests, common_steps)

@@ -5,4 +5,11 @@ use Rattle.chunk_contexts.proofs.Sums.{laid-enough}
 use Rattle.chunk_contexts.proofs.alloc_set.AllocSetChunkContext.are_laid.Goals as goal
 
 pub returns : goal.returns
-returns c = grind (arith, nat_tests, common_steps, laid-live c.self.inside.lists.layout.blocks c.self.inside.lists.layout.pieces c.are_laid.ensures, laid-enough)
+returns c = grind (
+  arith,
+  nat_tests,
+  common_steps,
+  laid-live c.self.inside.lists.layout.blocks c.self.inside.lists.layout.pieces
+      c.are_laid.ensures,
+  laid-enough,
+)

@@ -9,5 +9,6 @@ invariant-loop-index l = record {
   rest : IsRest l.self.layout l.rest;
   block : l.rest.block ≡ l.fn.block.block;
   size : l.rest.size ≡ l.fn.block.size;
-  cut : cut_pieces (drop l.index rooms_down) l.fn.block.block l.rest.used l.fn.block.size l.self.layout.pieces ≡ cut_pieces rooms_down l.fn.block.block l.fn.block.used l.fn.block.size l.fn.self.layout.pieces;
+  cut : cut_pieces (drop l.index rooms_down) l.fn.block.block l.rest.used l.fn.block.size l.self.layout.pieces
+      ≡ cut_pieces rooms_down l.fn.block.block l.fn.block.used l.fn.block.size l.fn.self.layout.pieces;
 }

@@ -8,7 +8,11 @@ pub put_first-requires-clause-there : goal.put_first-requires-clause-there
 put_first-requires-clause-there c = grind (arith, nat_tests, common_steps, was_live)
 
 pub returns : goal.returns
-returns c = record { freed = grind (arith, nat_tests, common_steps, head-released); lists = grind (arith, nat_tests, common_steps, head-released, lists-released) }
+returns c = record {
+  freed = grind (arith, nat_tests, common_steps, head-released);
+  lists = grind
+      (arith, nat_tests, common_steps, head-released, lists-released);
+}
 
 pub class_of-class-requires : goal.class_of-class-requires
 class_of-class-requires c = in-small c.args.room c.requires.known

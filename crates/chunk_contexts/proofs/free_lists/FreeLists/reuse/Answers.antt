@@ -13,9 +13,11 @@ take_first-requires c =
 
 pub returns-clause-lists : goal.returns-clause-lists
 returns-clause-lists c =
-    let s = c.args.self.now in let are = c.requires.lists in let low = c.requires.class in let place = c.in_ok-place.place in let e = c.in_ok-place.ensures in
+    let s = c.args.self.now in let are = c.requires.lists in let low = c.requires.class in let place = c.in_ok-place.place in let e =
+    c.in_ok-place.ensures in
     let first = sym (are.firsts c.args.class low) ∙ e.some.0 in
     let w = was s.layout s.heads are c.args.class place low first in
-    let next = e.next (first_free by_room (room_of c.args.class) (without s.layout.pieces place)) (link-next s.layout s.heads are c.args.class place low first) w.bytes in
+    let next = e.next (first_free by_room (room_of c.args.class) (without s.layout.pieces place))
+    (link-next s.layout s.heads are c.args.class place low first) w.bytes in
     subst (λ (l : Layout). AreLists l (set s.heads c.args.class c.take_first.new.first)) (sym e.some.1)
     (lists-reused s.layout s.heads are c.args.class place low first c.take_first.new.first next)

@@ -8,7 +8,8 @@ use Rattle.chunk_contexts.proofs.generation.Generation.fill.Goals as goal
 pub invariant_of-self : goal.invariant_of-self
 invariant_of-self c =
     let r = c.self.inside.runs in let to = c.args.to in
-    counted-put r c.self.inside.counts.items c.self.invariant to (ap (λ (s : RunState). has s.chunks to) c.self.view_is ∙ c.requires.to) 0 (resized (piece_at r.layout.pieces c.args.from).bytes c.args.n) c.copy_resized.new.self c.copy_resized.ensures
+    counted-put r c.self.inside.counts.items c.self.invariant to (ap (λ (s : RunState). has s.chunks to) c.self.view_is ∙ c.requires.to) 0
+    (resized (piece_at r.layout.pieces c.args.from).bytes c.args.n) c.copy_resized.new.self c.copy_resized.ensures
 
 pub returns : goal.returns
 returns c = grind (arith, nat_tests, common_steps)

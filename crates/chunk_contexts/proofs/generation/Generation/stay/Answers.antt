@@ -8,7 +8,8 @@ use Rattle.chunk_contexts.proofs.generation.Generation.stay.Goals as goal
 pub invariant_of-self : goal.invariant_of-self
 invariant_of-self c =
     let r = c.self.inside.runs in let place = c.args.place in
-    counted-put r c.self.inside.counts.items c.self.invariant place (ap (λ (s : RunState). has s.chunks place) c.self.view_is ∙ c.requires.there) 0 (resized (piece_at r.layout.pieces place).bytes c.args.n) c.resize.new.self c.resize.ensures
+    counted-put r c.self.inside.counts.items c.self.invariant place (ap (λ (s : RunState). has s.chunks place) c.self.view_is
+    ∙ c.requires.there) 0 (resized (piece_at r.layout.pieces place).bytes c.args.n) c.resize.new.self c.resize.ensures
 
 pub returns-clause-put : goal.returns-clause-put
 returns-clause-put c = grind (arith, nat_tests, common_steps)

@@ -7,22 +7,41 @@ use Rattle.chunk_contexts.proofs.GenAllocs.{made-there, made-counted, counted-lo
 use Rattle.chunk_contexts.proofs.generation.GenerationChunkContext.alloc.Goals as goal
 
 pub count_one-requires-clause-there : goal.count_one-requires-clause-there
-count_one-requires-clause-there c = grind (arith, nat_tests, common_steps, made-there c.self.inside.runs c.alloc.new.self c.self.inside.counts.items c.make_count.new.counts.items c.self.invariant c.in_ok-name.ensures.run (length c.args.bytes.now) (c.args.bytes.now) c.in_ok-name.name c.in_ok-name.ensures.admitted c.in_ok-name.ensures.space c.in_ok-name.ensures.added c.in_ok-name.ensures.block c.in_ok-make_count.ensures.same c.in_ok-make_count.ensures.long)
+count_one-requires-clause-there c = grind (
+  arith,
+  nat_tests,
+  common_steps,
+  made-there c.self.inside.runs c.alloc.new.self
+      c.self.inside.counts.items c.make_count.new.counts.items c.self.invariant c.in_ok-name.ensures.run (length c.args.bytes.now)
+      (c.args.bytes.now) c.in_ok-name.name c.in_ok-name.ensures.admitted c.in_ok-name.ensures.space c.in_ok-name.ensures.added
+      c.in_ok-name.ensures.block c.in_ok-make_count.ensures.same c.in_ok-make_count.ensures.long,
+)
 
 pub invariant_of-self-2 : goal.invariant_of-self-2
-invariant_of-self-2 c = grind (arith, nat_tests, common_steps, made-counted c.self.inside.runs c.alloc.new.self c.self.inside.counts.items c.make_count.new.counts.items c.self.invariant c.in_ok-name.ensures.run (length c.args.bytes.now) (c.args.bytes.now) c.in_ok-name.name c.in_ok-name.ensures.admitted c.in_ok-name.ensures.space c.in_ok-name.ensures.added c.in_ok-name.ensures.block c.in_ok-make_count.ensures.same c.in_ok-make_count.ensures.long)
+invariant_of-self-2 c = grind (
+  arith,
+  nat_tests,
+  common_steps,
+  made-counted c.self.inside.runs c.alloc.new.self c.self.inside.counts.items
+      c.make_count.new.counts.items c.self.invariant c.in_ok-name.ensures.run (length c.args.bytes.now) (c.args.bytes.now) c.in_ok-name.name
+      c.in_ok-name.ensures.admitted c.in_ok-name.ensures.space c.in_ok-name.ensures.added c.in_ok-name.ensures.block
+      c.in_ok-make_count.ensures.same c.in_ok-make_count.ensures.long,
+)
 
 pub returns-in_err-make_count-clause-refused : goal.returns-in_err-make_count-clause-refused
-returns-in_err-make_count-clause-refused c = refused-count _ _ _ (length c.args.bytes.now) c.from_residual.ensures.1 c.self.view_is (omega (arith, c.in_err-make_count.ensures.refused, c.growth-growth.ensures))
+returns-in_err-make_count-clause-refused c = refused-count _ _ _ (length c.args.bytes.now) c.from_residual.ensures.1 c.self.view_is
+    (omega (arith, c.in_err-make_count.ensures.refused, c.growth-growth.ensures))
 
 pub returns-in_err-make_count-clause-unchanged : goal.returns-in_err-make_count-clause-unchanged
 returns-in_err-make_count-clause-unchanged c = always_err c.from_residual.result c.self.view_is
 
 pub returns-in_err-name-clause-refused : goal.returns-in_err-name-clause-refused
-returns-in_err-name-clause-refused c = refused-as _ _ _ (length c.args.bytes.now) _ c.from_residual-in_err-name.ensures.1 c.self.view_is c.in_err-name.ensures.refused
+returns-in_err-name-clause-refused c = refused-as _ _ _ (length c.args.bytes.now) _ c.from_residual-in_err-name.ensures.1 c.self.view_is
+    c.in_err-name.ensures.refused
 
 pub returns-in_err-name-clause-unchanged : goal.returns-in_err-name-clause-unchanged
-returns-in_err-name-clause-unchanged c = always_err c.from_residual-in_err-name.result (ap run_of c.in_err-name.ensures.unchanged ∙ c.self.view_is)
+returns-in_err-name-clause-unchanged c = always_err c.from_residual-in_err-name.result (ap run_of c.in_err-name.ensures.unchanged
+    ∙ c.self.view_is)
 
 pub returns : goal.returns
 returns c = grind (arith, nat_tests, common_steps)
@@ -32,4 +51,5 @@ invariant_of-self c = counted-longer _ _ _ c.self.invariant c.in_err-make_count.
 
 pub invariant_of-self-in_err-name : goal.invariant_of-self-in_err-name
 invariant_of-self-in_err-name c =
-    subst (λ (r : Runs). IsCounted r c.make_count.new.counts.items) (sym c.in_err-name.ensures.unchanged) (counted-longer c.self.inside.runs _ _ c.self.invariant c.in_ok-make_count.ensures.same c.in_ok-make_count.ensures.long)
+    subst (λ (r : Runs). IsCounted r c.make_count.new.counts.items) (sym c.in_err-name.ensures.unchanged)
+    (counted-longer c.self.inside.runs _ _ c.self.invariant c.in_ok-make_count.ensures.same c.in_ok-make_count.ensures.long)

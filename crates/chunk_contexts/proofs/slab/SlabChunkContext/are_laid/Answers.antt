@@ -5,4 +5,11 @@ use Rattle.chunk_contexts.proofs.Sums.{laid-enough}
 use Rattle.chunk_contexts.proofs.slab.SlabChunkContext.are_laid.Goals as goal
 
 pub returns : goal.returns
-returns c = grind (arith, nat_tests, common_steps, laid-live c.self.inside.inner.layout.blocks c.self.inside.inner.layout.pieces c.are_laid.ensures, laid-enough)
+returns c = grind (
+  arith,
+  nat_tests,
+  common_steps,
+  laid-live c.self.inside.inner.layout.blocks c.self.inside.inner.layout.pieces
+      c.are_laid.ensures,
+  laid-enough,
+)

@@ -8,7 +8,8 @@ use Rattle.chunk_contexts.proofs.slab.SlabChunkContext.resize.Goals as goal
 pub returns-clause-resized : goal.returns-clause-resized
 returns-clause-resized c =
     let x = c.self.inside in
-    view-resized x c.self.invariant c.args.self.now c.self.view_is c.args.name c.requires c.args.n (admitted-size (over_most c.args.n) c.args.n x.inner.size c.in_ok-check_size.ensures)
+    view-resized x c.self.invariant c.args.self.now c.self.view_is c.args.name c.requires c.args.n
+    (admitted-size (over_most c.args.n) c.args.n x.inner.size c.in_ok-check_size.ensures)
 
 pub returns-clause-moved : goal.returns-clause-moved
 returns-clause-moved c = grind (arith, nat_tests, common_steps, view-room)

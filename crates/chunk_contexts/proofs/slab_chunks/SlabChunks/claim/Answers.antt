@@ -14,7 +14,8 @@ returns-in-Some-clause-grown c = grind (arith, nat_tests, grows-none, spare-mark
 pub returns-in_err-block-clause-refused : goal.returns-in_err-block-clause-refused
 returns-in_err-block-clause-refused c =
     let s = c.args.self.now in
-    let spare : has_spare (slab_of s) ≡ false = spare-unmarked s.size s.per s.layout s.blocks.items s.spare c.requires.chunks c.in_default.ensures.none in
+    let spare : has_spare (slab_of s) ≡ false = spare-unmarked s.size s.per s.layout s.blocks.items s.spare c.requires.chunks
+    c.in_default.ensures.none in
     let grows : 0 < slab_grows (slab_of s) = omega (arith, grows-block (slab_of s) spare) in
     always_err c.from_residual.result (c.in_err-block.ensures.refused, grows)
 
@@ -24,8 +25,10 @@ returns-clause-taken c = grind (arith, nat_tests, spare-unmarked, taken-new)
 pub returns-clause-grown : goal.returns-clause-grown
 returns-clause-grown c =
     let s = c.args.self.now in
-    let spare : has_spare (slab_of s) ≡ false = spare-unmarked s.size s.per s.layout s.blocks.items s.spare c.requires.chunks c.in_default.ensures.none in
-    grown-total (slab_of s) spare (slab_of c.grow.new.self) (slab_of c.take-2.new.self) c.in_ok-block.block c.in_ok-block.ensures.grown c.take-2.result c.take-2.ensures.block c.take-2.ensures.taken c.in_ok-block.ensures.vacant
+    let spare : has_spare (slab_of s) ≡ false = spare-unmarked s.size s.per s.layout s.blocks.items s.spare c.requires.chunks
+    c.in_default.ensures.none in
+    grown-total (slab_of s) spare (slab_of c.grow.new.self) (slab_of c.take-2.new.self) c.in_ok-block.block c.in_ok-block.ensures.grown
+    c.take-2.result c.take-2.ensures.block c.take-2.ensures.taken c.in_ok-block.ensures.vacant
 
 pub returns-in-Some-clause-lies : goal.returns-in-Some-clause-lies
 returns-in-Some-clause-lies c = grind (arith, nat_tests, grows-none, spare-marked)

@@ -10,5 +10,10 @@ returns-clause-chunks c =
     let kept = c.make_entry.new.blocks.items in let marked = c.make_mark.new.spare in
     let is = slab-longer s.size s.per s.layout s.blocks.items s.spare c.requires.chunks kept marked e.same e.long m.same m.long in
     slab-grown s.size s.per s.layout kept marked is c.in_ok-block.block b.was_free.1 b.was_free.0 c.take_block.new.self
-    (b.taken ∙ ap (λ (n : ℕ). let l : Layout = record { head = s.layout.head; blocks = with_block s.layout.blocks c.in_ok-block.block n; pieces = s.layout.pieces } in l) (c.slab_block.ensures ∙ ap slab_block c.rounded.ensures.value))
-    (omega (arith, e.room, c.numbers-numbers.ensures)) (omega (arith, m.room, c.numbers-numbers.ensures)) c.mark.new.self c.mark.ensures.long c.mark.ensures.marked
+    (b.taken ∙ ap (λ (n : ℕ). let l : Layout = record {
+      head = s.layout.head;
+      blocks = with_block s.layout.blocks c.in_ok-block.block n;
+      pieces = s.layout.pieces;
+    } in l) (c.slab_block.ensures ∙ ap slab_block c.rounded.ensures.value))
+    (omega (arith, e.room, c.numbers-numbers.ensures)) (omega (arith, m.room, c.numbers-numbers.ensures)) c.mark.new.self
+    c.mark.ensures.long c.mark.ensures.marked

@@ -12,7 +12,8 @@ of-some P Q (Some n) some has then = then n has
 pub returns-then-is_some : goal.returns-then-is_some
 returns-then-is_some c =
     let s = c.args.self.now in
-    let spare : has_spare (slab_of s) ≡ true = of-some _ _ c.first.result (sym c.is_some.ensures ∙ c.if-is_some.true) c.first.ensures.some (λ n is. spare-marked s.size s.per s.layout s.blocks.items s.spare c.requires n is.1) in
+    let spare : has_spare (slab_of s) ≡ true = of-some _ _ c.first.result (sym c.is_some.ensures ∙ c.if-is_some.true) c.first.ensures.some
+    (λ n is. spare-marked s.size s.per s.layout s.blocks.items s.spare c.requires n is.1) in
     sym (cond-true (has_spare (slab_of s)) 0 (slab_block (Rattle.chunk_contexts.specs.Rooms.rounded s.size)) spare)
 
 pub returns : goal.returns

@@ -5,4 +5,10 @@ use Rattle.chunk_layout.proofs.PieceLaws.{length-only}
 use Rattle.chunk_layout.proofs.layout.ChunkLayout.clear.Goals as goal
 
 pub returns : goal.returns
-returns c = grind (arith, nat_tests, ext_get_or None c.loop-block.self.blocks (only c.args.self.now.blocks c.args.keep), length-only c.args.self.now.blocks c.args.keep)
+returns c = grind (
+  arith,
+  nat_tests,
+  ext_get_or None c.loop-block.self.blocks (only c.args.self.now.blocks c.args.keep),
+  length-only
+      c.args.self.now.blocks c.args.keep,
+)

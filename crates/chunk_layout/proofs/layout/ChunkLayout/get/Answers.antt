@@ -10,7 +10,12 @@ pub read_bytes-requires-clause-some : goal.read_bytes-requires-clause-some
 read_bytes-requires-clause-some c = grind (arith, nat_tests, found-some)
 
 pub read_bytes-requires-clause-written : goal.read_bytes-requires-clause-written
-read_bytes-requires-clause-written c = grind (arith, nat_tests, found-written c.self.inside c.self.invariant c.args.self.now c.self.view_is c.args.place c.requires.there)
+read_bytes-requires-clause-written c = grind (
+  arith,
+  nat_tests,
+  found-written c.self.inside c.self.invariant c.args.self.now c.self.view_is
+      c.args.place c.requires.there,
+)
 
 pub returns-clause-value : goal.returns-clause-value
 returns-clause-value c = grind (arith, nat_tests, holds_unique, found-bytes)

@@ -10,5 +10,7 @@ pub invariant_of-self-lent : goal.invariant_of-self-lent
 invariant_of-self-lent c w =
     let x = c.self.inside in let was = c.unwrap-context.result.now in let place = place_of c.args.name in
     let is : was ≡ get_or x.contexts.items c.args.id.slot was =
-    subst (λ (o : Option (MutBor Context)). IfSome o (λ r. r.now ≡ get_or x.contexts.items c.args.id.slot r.now)) c.unwrap-context.ensures c.get_mut.ensures.value in
-    fields-lent x c.self.invariant c.args.self.now c.self.view_is c.args.id c.requires.there was (with_bytes was place w) is (written-held was place w)
+    subst (λ (o : Option (MutBor Context)). IfSome o (λ r. r.now ≡ get_or x.contexts.items c.args.id.slot r.now)) c.unwrap-context.ensures
+    c.get_mut.ensures.value in
+    fields-lent x c.self.invariant c.args.self.now c.self.view_is c.args.id c.requires.there was (with_bytes was place w) is
+    (written-held was place w)

@@ -1,7 +1,8 @@
 use Rattle.std.proofs.Common.{◌≡◌, ◌+◌, ◌≤◌, true, false, List, Option, Some, None, length, get_or, refl, sym, ap, ◌∙◌, subst, arith}
 use Rattle.std.specs.Prelude.{◌==◌}
 use Rattle.std.proofs.lemmas.Bool.{eq-eqb, ne_eqb}
-use Rattle.context_tree.proofs.Words.{always_err, new_context, placed, IsFull, TreeState, Stamped, Emptied, IsBounded, with_new, Context, Link}
+use Rattle.context_tree.proofs.Words.{always_err, new_context, placed, IsFull, TreeState, Stamped, Emptied, IsBounded, with_new, Context}
+use Rattle.context_tree.proofs.Words.{Link}
 use Rattle.std.proofs.lemmas.Result.{err_from_is_err_and}
 use Rattle.context_tree.specs.declared.error.TreeError.TheVariants.{StampsSpent}
 use Rattle.context_tree.proofs.TreeLaws.{stamp-low, stamps-made, empty-made, bounded-made, long-made, not-made, refused-made}
@@ -9,21 +10,27 @@ use Rattle.context_tree.proofs.tree.Tree.create.Goals.{Else-self}
 use Rattle.context_tree.proofs.tree.Tree.create.Goals as goal
 
 pub add-requires-clause-later : goal.add-requires-clause-later
-add-requires-clause-later c = let low = stamp-low c.self.inside.links c.self.inside.last c.args.parent.slot c.self.invariant.stamps in omega (arith, low)
+add-requires-clause-later c = let low = stamp-low c.self.inside.links c.self.inside.last c.args.parent.slot c.self.invariant.stamps in omega
+    (arith, low)
 
 pub invariant_of-self-2 : goal.invariant_of-self-2
 invariant_of-self-2 c =
     let t = c.self.inside in let slot = c.in_ok-slot.slot in let it = c.in_ok-context.context in let was = c.in_ok-slot.ensures in
     let link : Link = record { stamp = t.last + 1; parent = Some c.args.parent.slot } in
     let links : c.add.new.self ≡ placed t.links slot (Some link) = was.added in
-    let contexts : c.put_context.new.contexts.items ≡ placed t.contexts.items slot it = c.put_context.ensures ∙ ap (λ (cs : List Context). placed cs slot it) c.reserve.ensures.items in
+    let contexts : c.put_context.new.contexts.items ≡ placed t.contexts.items slot it = c.put_context.ensures
+    ∙ ap (λ (cs : List Context). placed cs slot it) c.reserve.ensures.items in
     record {
-      long = ap length contexts ∙ long-made t.links t.contexts.items t.last slot was.low c.self.invariant.long link it ∙ sym (ap length links);
-      stamps = subst (λ (ls : List (Option Link)). Stamped ls (t.last + 1)) (sym links) (stamps-made t.links t.contexts.items t.last slot was.low c.self.invariant.long link it refl c.self.invariant.stamps);
+      long = ap length contexts ∙ long-made t.links t.contexts.items t.last slot was.low c.self.invariant.long link it
+          ∙ sym (ap length links);
+      stamps = subst (λ (ls : List (Option Link)). Stamped ls (t.last + 1)) (sym links)
+          (stamps-made t.links t.contexts.items t.last slot was.low c.self.invariant.long link it refl c.self.invariant.stamps);
       empty = subst (λ (ls : List (Option Link)). Emptied ls c.put_context.new.contexts.items) (sym links)
-          (subst (λ (cs : List Context). Emptied (placed t.links slot (Some link)) cs) (sym contexts) (empty-made t.links t.contexts.items t.last slot was.low c.self.invariant.long link it c.self.invariant.empty));
+          (subst (λ (cs : List Context). Emptied (placed t.links slot (Some link)) cs) (sym contexts)
+          (empty-made t.links t.contexts.items t.last slot was.low c.self.invariant.long link it c.self.invariant.empty));
       bounded = subst IsBounded (sym contexts)
-          (bounded-made t.links t.contexts.items t.last slot was.low c.self.invariant.long link it c.args.kind c.in_ok-context.ensures.1 was.fresh c.self.invariant.empty c.self.invariant.bounded);
+          (bounded-made t.links t.contexts.items t.last slot was.low c.self.invariant.long link it c.args.kind c.in_ok-context.ensures.1
+          was.fresh c.self.invariant.empty c.self.invariant.bounded);
     }
 
 pub returns-in_err-check-clause-refused : goal.returns-in_err-check-clause-refused
@@ -33,35 +40,47 @@ returns-in_err-check-clause-refused c =
 
 pub returns-then-self-clause-refused : goal.returns-then-self-clause-refused
 returns-then-self-clause-refused c =
-    let spent = subst (λ (t : TreeState). (t.last == 18446744073709551615) ≡ true) c.self.view_is (eq-eqb c.self.inside.last 18446744073709551615 c.if-self.true) in
+    let spent = subst (λ (t : TreeState). (t.last == 18446744073709551615) ≡ true) c.self.view_is
+    (eq-eqb c.self.inside.last 18446744073709551615 c.if-self.true) in
     not-made StampsSpent c.in_ok-check.ensures spent refl refl
 
 -- a stamp is left
 left : (c : Else-self) → (c.args.self.now.last == 18446744073709551615) ≡ false
-left c = subst (λ (t : TreeState). (t.last == 18446744073709551615) ≡ false) c.self.view_is (ne_eqb c.self.inside.last 18446744073709551615 c.if-self.false)
+left c = subst (λ (t : TreeState). (t.last == 18446744073709551615) ≡ false) c.self.view_is
+    (ne_eqb c.self.inside.last 18446744073709551615 c.if-self.false)
 
 pub returns-in_err-context-clause-refused : goal.returns-in_err-context-clause-refused
-returns-in_err-context-clause-refused c = refused-made {here = true} {none = false} c.from_residual-in_err-context.result c.from_residual-in_err-context.ensures.1 c.in_ok-check.ensures (left (goal.at.returns-in_err-context-clause-refused c).Else-self) c.in_err-context.ensures
+returns-in_err-context-clause-refused c = refused-made {here = true} {none = false} c.from_residual-in_err-context.result
+    c.from_residual-in_err-context.ensures.1 c.in_ok-check.ensures (left (goal.at.returns-in_err-context-clause-refused c).Else-self)
+    c.in_err-context.ensures
 
 pub returns-in_err-reserve-clause-refused : goal.returns-in_err-reserve-clause-refused
-returns-in_err-reserve-clause-refused c = refused-made {here = true} {none = false} c.from_residual-in_err-reserve.result c.from_residual-in_err-reserve.ensures.1 c.in_ok-check.ensures (left (goal.at.returns-in_err-reserve-clause-refused c).Else-self) c.in_ok-context.ensures.0
+returns-in_err-reserve-clause-refused c = refused-made {here = true} {none = false} c.from_residual-in_err-reserve.result
+    c.from_residual-in_err-reserve.ensures.1 c.in_ok-check.ensures (left (goal.at.returns-in_err-reserve-clause-refused c).Else-self)
+    c.in_ok-context.ensures.0
 
 pub returns-in_err-reserve-clause-unchanged : goal.returns-in_err-reserve-clause-unchanged
 returns-in_err-reserve-clause-unchanged c =
-    always_err c.from_residual-in_err-reserve.result ((λ i. record { links = c.self.inside.links; contexts = c.reserve.ensures.items i; last = c.self.inside.last }) ∙ c.self.view_is)
+    always_err c.from_residual-in_err-reserve.result
+    ((λ i. record { links = c.self.inside.links; contexts = c.reserve.ensures.items i; last = c.self.inside.last }) ∙ c.self.view_is)
 
 pub returns-in_err-slot-clause-refused : goal.returns-in_err-slot-clause-refused
-returns-in_err-slot-clause-refused c = refused-made {here = true} {none = false} c.from_residual-in_err-slot.result c.from_residual-in_err-slot.ensures.1 c.in_ok-check.ensures (left (goal.at.returns-in_err-slot-clause-refused c).Else-self) c.in_ok-context.ensures.0
+returns-in_err-slot-clause-refused c = refused-made {here = true} {none = false} c.from_residual-in_err-slot.result
+    c.from_residual-in_err-slot.ensures.1 c.in_ok-check.ensures (left (goal.at.returns-in_err-slot-clause-refused c).Else-self)
+    c.in_ok-context.ensures.0
 
 pub returns-in_err-slot-clause-unchanged : goal.returns-in_err-slot-clause-unchanged
 returns-in_err-slot-clause-unchanged c =
-    always_err c.from_residual-in_err-slot.result ((λ i. record { links = c.in_err-slot.ensures.unchanged i; contexts = c.reserve.ensures.items i; last = c.self.inside.last }) ∙ c.self.view_is)
+    always_err c.from_residual-in_err-slot.result
+    ((λ i. record { links = c.in_err-slot.ensures.unchanged i; contexts = c.reserve.ensures.items i; last = c.self.inside.last })
+    ∙ c.self.view_is)
 
 pub returns : goal.returns
 returns c =
     let x = c.self.inside in let view = c.self.view_is in let slot = c.in_ok-slot.slot in let was = c.in_ok-slot.ensures in
     let contexts : c.put_context.new.contexts.items ≡ placed x.contexts.items slot (new_context c.args.kind) =
-    c.put_context.ensures ∙ ap (λ (cs : List Context). placed cs slot c.in_ok-context.context) c.reserve.ensures.items ∙ ap (placed x.contexts.items slot) c.in_ok-context.ensures.1 in
+    c.put_context.ensures ∙ ap (λ (cs : List Context). placed cs slot c.in_ok-context.context) c.reserve.ensures.items
+    ∙ ap (placed x.contexts.items slot) c.in_ok-context.ensures.1 in
     record {
       there = c.in_ok-check.ensures;
       stamp = ap (λ (t : TreeState). t.last + 1) view;

@@ -1,7 +1,8 @@
 use Rattle.std.proofs.Common.{◌≡◌, true, false, sym, subst, arith}
 use Rattle.std.specs.Prelude.{IsTrue}
 use Rattle.std.proofs.lemmas.Bool.{not-true}
-use Rattle.context_tree.proofs.Words.{always_err, place_of, without, KeepsOthers, chunks_of, can_free, without_chunk, has_chunk, is_there, Context}
+use Rattle.context_tree.proofs.Words.{always_err, place_of, without, KeepsOthers, chunks_of, can_free, without_chunk, has_chunk, is_there}
+use Rattle.context_tree.proofs.Words.{Context}
 use Rattle.context_tree.proofs.TreeLaws.{IsLent, old-is, fits-grown, said, new-by, unchanged, fields-written, refused-gone, refused-own}
 use Rattle.context_tree.proofs.tree.Tree.free.Goals.{After-deref_mut}
 use Rattle.context_tree.proofs.tree.Tree.free.Goals as goal
@@ -12,25 +13,35 @@ lent c = record { are = c.self.invariant; view = c.self.view_is; there = c.in_ok
 
 pub free-requires : goal.free-requires
 free-requires c =
-    let old = old-is c.self.inside c.self.invariant c.args.self.now c.self.view_is c.args.id c.in_ok-check.ensures c.deref_mut.result.now c.index-deref_mut-id.result c.deref_mut.ensures.value in
+    let old = old-is c.self.inside c.self.invariant c.args.self.now c.self.view_is c.args.id c.in_ok-check.ensures c.deref_mut.result.now
+    c.index-deref_mut-id.result c.deref_mut.ensures.value in
     subst (λ (a : Context). IsTrue (has_chunk a c.args.name)) (sym old) (c.requires c.in_ok-check.ensures)
 
 pub invariant_of-self-2 : goal.invariant_of-self-2
 invariant_of-self-2 c =
     let at = lent (goal.at.invariant_of-self-2 c).After-deref_mut in
     let new = c.free.new.self in let other = c.index-deref_mut-id.result in
-    fields-written _ _ _ _ at new (fits-grown _ _ _ _ at new other 0 (omega (arith, c.in_ok-free.ensures.most)) (omega (arith, at.are.bounded)))
+    fields-written _ _ _ _ at new (fits-grown _ _ _ _ at new other 0 (omega (arith, c.in_ok-free.ensures.most))
+    (omega (arith, at.are.bounded)))
 
 pub returns-in_err-check-clause-refused : goal.returns-in_err-check-clause-refused
-returns-in_err-check-clause-refused c = refused-gone _ (is_there c.args.self.now c.args.id) c.from_residual.result _ c.from_residual.ensures.1 c.in_err-check.ensures
+returns-in_err-check-clause-refused c = refused-gone _ (is_there c.args.self.now c.args.id) c.from_residual.result _
+    c.from_residual.ensures.1 c.in_err-check.ensures
 
 pub returns-in_err-free-clause-refused : goal.returns-in_err-free-clause-refused
 returns-in_err-free-clause-refused c =
     let at = lent (goal.at.returns-in_err-free-clause-refused c).After-deref_mut in
-    refused-own _ (is_there c.args.self.now c.args.id) c.from_residual-in_err-free.result c.in_err-free.field-0.0 c.from_residual-in_err-free.ensures.1 at.there (c.in_err-free.ensures.refused.0, said _ _ _ _ at c.free.new.self c.index-deref_mut-id.result (λ a _. can_free a ≡ false) (not-true _ c.in_err-free.ensures.refused.1))
+    refused-own _ (is_there c.args.self.now c.args.id) c.from_residual-in_err-free.result c.in_err-free.field-0.0
+    c.from_residual-in_err-free.ensures.1 at.there (
+      c.in_err-free.ensures.refused.0,
+      said _ _ _ _ at c.free.new.self
+          c.index-deref_mut-id.result (λ a _. can_free a ≡ false) (not-true _ c.in_err-free.ensures.refused.1),
+    )
 
 pub returns-in_err-free-clause-unchanged : goal.returns-in_err-free-clause-unchanged
-returns-in_err-free-clause-unchanged c = always_err c.from_residual-in_err-free.result (unchanged _ _ _ _ (lent (goal.at.returns-in_err-free-clause-unchanged c).After-deref_mut) c.free.new.self c.index-deref_mut-id.result c.in_err-free.ensures.unchanged)
+returns-in_err-free-clause-unchanged c = always_err c.from_residual-in_err-free.result
+    (unchanged _ _ _ _ (lent (goal.at.returns-in_err-free-clause-unchanged c).After-deref_mut) c.free.new.self c.index-deref_mut-id.result
+    c.in_err-free.ensures.unchanged)
 
 pub returns : goal.returns
 returns c =

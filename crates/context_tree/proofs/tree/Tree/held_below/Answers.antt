@@ -7,4 +7,11 @@ pub returns-clause-bound : goal.returns-clause-bound
 returns-clause-bound c =
     let x = c.self.inside in
     let less = below-all x.links c.args.id.slot 0 x.contexts.items in
-    omega (arith, less, c.self.invariant.bounded, c.sum_below.ensures.value, ap (λ cs. held_from x.links c.args.id.slot 0 cs) c.deref.ensures)
+    omega (
+      arith,
+      less,
+      c.self.invariant.bounded,
+      c.sum_below.ensures.value,
+      ap (λ cs. held_from x.links c.args.id.slot 0 cs)
+          c.deref.ensures,
+    )

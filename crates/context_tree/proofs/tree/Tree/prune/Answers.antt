@@ -8,11 +8,19 @@ use Rattle.context_tree.proofs.tree.Tree.prune.Goals.{After-give_up_free}
 use Rattle.context_tree.proofs.tree.Tree.prune.Goals as goal
 
 -- the contexts of the links that were given up
-up : (c : After-give_up_free) → AreGivenUp c.self.inside (is_under c.self.inside.links c.args.id.slot) c.prune.new.self c.deref_mut.result.now c.give_up_free.new.contexts
-up c = record { are = c.self.invariant; links = c.prune.ensures; same = c.deref_mut.ensures.value; as-long = c.give_up_free.auto.contexts; told = c.give_up_free.ensures }
+up : (c : After-give_up_free) → AreGivenUp c.self.inside (is_under c.self.inside.links c.args.id.slot) c.prune.new.self
+    c.deref_mut.result.now c.give_up_free.new.contexts
+up c = record {
+  are = c.self.invariant;
+  links = c.prune.ensures;
+  same = c.deref_mut.ensures.value;
+  as-long = c.give_up_free.auto.contexts;
+  told = c.give_up_free.ensures;
+}
 
 pub give_up_free-requires : goal.give_up_free-requires
-give_up_free-requires c = given-long c.self.inside c.self.invariant (is_under c.self.inside.links c.args.id.slot) c.prune.new.self c.deref_mut.result.now c.prune.ensures c.deref_mut.ensures.value
+give_up_free-requires c = given-long c.self.inside c.self.invariant (is_under c.self.inside.links c.args.id.slot) c.prune.new.self
+    c.deref_mut.result.now c.prune.ensures c.deref_mut.ensures.value
 
 pub invariant_of-self : goal.invariant_of-self
 invariant_of-self c = fields-given _ _ _ _ _ (up (goal.at.invariant_of-self c).After-give_up_free)
@@ -27,7 +35,8 @@ returns-clause-there c =
     let x = c.self.inside in let slot = c.args.id.slot in
     let link : get_or c.prune.new.self slot None ≡ get_or x.links slot None =
     ap (λ (l : List (Option Link)). get_or l slot None) c.prune.ensures ∙ get_or-cleared (is_under x.links slot) None x.links slot
-    ∙ cond-false (is_under x.links slot slot) None (get_or x.links slot None) (not-under-itself x.links c.is_forest.ensures slot slot refl) in
+    ∙ cond-false (is_under x.links slot slot) None (get_or x.links slot None) (not-under-itself x.links c.is_forest.ensures slot slot refl)
+    in
     ap (λ (l : Option Link). has_stamp l c.args.id.stamp) link ∙ ap (λ (t : TreeState). is_there t c.args.id) c.self.view_is ∙ c.requires
 
 pub returns-clause-same : goal.returns-clause-same
@@ -36,5 +45,6 @@ returns-clause-same c =
     ap (λ (cs : List Context). get_or cs slot no_context)
     (all-given _ _ _ _ _ (up (goal.at.returns-clause-same c).After-give_up_free))
     ∙ get_or-cleared (is_under x.links slot) no_context x.contexts.items slot
-    ∙ cond-false (is_under x.links slot slot) no_context (get_or x.contexts.items slot no_context) (not-under-itself x.links c.is_forest.ensures slot slot refl)
+    ∙ cond-false (is_under x.links slot slot) no_context (get_or x.contexts.items slot no_context)
+    (not-under-itself x.links c.is_forest.ensures slot slot refl)
     ∙ ap (λ (t : TreeState). context_at t c.args.id) c.self.view_is

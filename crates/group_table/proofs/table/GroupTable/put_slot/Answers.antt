@@ -5,7 +5,8 @@ use Rattle.group_table.proofs.table.GroupTable.put_slot.Goals as goal
 
 pub put_into-requires : goal.put_into-requires
 put_into-requires g c =
-    let hash = g.H.KeyHash.hash_of in let tree = c.args.tree.now in let key = c.args.key.now in let slot = c.args.slot in let state = c.requires.next.0 in
+    let hash = g.H.KeyHash.hash_of in let tree = c.args.tree.now in let key = c.args.key.now in let slot = c.args.slot in let state =
+    c.requires.next.0 in
     let is = subst (λ (x : TableState g.row.H.Denot). IsStanding hash x tree) (sym c.self.view_is) c.requires.standing in
     let next = subst (λ (x : TableState g.row.H.Denot). IsNext x tree key state slot) (sym c.self.view_is) c.requires.next.1 in
     let absent = subst (λ (x : TableState g.row.H.Denot). HasNo x tree key) (sym c.self.view_is) c.requires.absent in
@@ -18,14 +19,17 @@ put_into-requires g c =
 
 pub returns-clause-standing : goal.returns-clause-standing
 returns-clause-standing g c =
-    let hash = g.H.KeyHash.hash_of in let tree = c.args.tree.now in let key = c.args.key.now in let slot = c.args.slot in let state = c.requires.next.0 in
+    let hash = g.H.KeyHash.hash_of in let tree = c.args.tree.now in let key = c.args.key.now in let slot = c.args.slot in let state =
+    c.requires.next.0 in
     let is = subst (λ (x : TableState g.row.H.Denot). IsStanding hash x tree) (sym c.self.view_is) c.requires.standing in
     let next = subst (λ (x : TableState g.row.H.Denot). IsNext x tree key state slot) (sym c.self.view_is) c.requires.next.1 in
     let absent = subst (λ (x : TableState g.row.H.Denot). HasNo x tree key) (sym c.self.view_is) c.requires.absent in
     let room = subst (λ (x : TableState g.row.H.Denot). HasNext x tree None) (sym c.self.view_is) c.requires.room in
     subst (λ (x : TableState g.row.H.Denot). IsStanding hash (with_slot x slot) c.put_into.new.tree) c.self.view_is
-    (stands_more hash _ slot tree is key state next absent c.unwrap-name.result c.unwrap-name.ensures room c.put_into.new.tree c.put_into.ensures.only c.put_into.ensures.rewritten c.put_into.ensures.index c.put_into.ensures.more
+    (stands_more hash _ slot tree is key state next absent c.unwrap-name.result c.unwrap-name.ensures room c.put_into.new.tree
+    c.put_into.ensures.only c.put_into.ensures.rewritten c.put_into.ensures.index c.put_into.ensures.more
     c.key_hash-hash.result c.key_hash-hash.ensures c.put_into.ensures.put)
 
 pub returns-clause-only : goal.returns-clause-only
-returns-clause-only g c = subst (λ (x : TableState g.row.H.Denot). OnlyIn x.buckets c.args.tree.now c.put_into.new.tree) c.self.view_is c.put_into.ensures.only
+returns-clause-only g c = subst (λ (x : TableState g.row.H.Denot). OnlyIn x.buckets c.args.tree.now c.put_into.new.tree) c.self.view_is
+    c.put_into.ensures.only

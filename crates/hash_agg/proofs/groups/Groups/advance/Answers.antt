@@ -21,5 +21,6 @@ returns-clause-refused g c =
 pub invariant_of-self : goal.invariant_of-self
 invariant_of-self g c =
     let wide : length c.advance_slice.new.states ≡ c.self.inside.table.width = search rules in
-    still_held _ c.args.self.now c.args.slot _ c.advance_slice.new.states c.self.view_is c.self.invariant c.requires.slot (c.state_mut-states.ensures.stands _ wide) (c.state_mut-states.ensures.holds _ wide)
+    still_held _ c.args.self.now c.args.slot _ c.advance_slice.new.states c.self.view_is c.self.invariant c.requires.slot
+    (c.state_mut-states.ensures.stands _ wide) (c.state_mut-states.ensures.holds _ wide)
     (λ place at. c.state_mut-states.ensures.written _ place wide at)

@@ -14,7 +14,8 @@ returns-then-need-from-clause-fits g c hash =
     let high = c.if-need-from.true in
     let limit = c.from.ensures in
     fits_by _ c.args.self.now c.args.key.now c.args.limit hash _ _ _ c.self.view_is c.in_ok-need.was
-    (c.need_for.ensures.fits c.self.invariant.by_keys c.args.limit hash) (sym (beyond_told c.in_ok-need.need c.args.limit (omega (arith, high, limit))))
+    (c.need_for.ensures.fits c.self.invariant.by_keys c.args.limit hash)
+    (sym (beyond_told c.in_ok-need.need c.args.limit (omega (arith, high, limit))))
 
 pub returns-clause-needed : goal.returns-clause-needed
 returns-clause-needed g c =
@@ -26,4 +27,5 @@ returns-clause-fits g c hash =
     let low = c.if-need-from.false in
     let limit = c.from.ensures in
     fits_by _ c.args.self.now c.args.key.now c.args.limit hash _ _ _ c.self.view_is c.in_ok-need.was
-    (c.need_for.ensures.fits c.self.invariant.by_keys c.args.limit hash) (sym (within_told c.in_ok-need.need c.args.limit (omega (arith, low, limit))))
+    (c.need_for.ensures.fits c.self.invariant.by_keys c.args.limit hash)
+    (sym (within_told c.in_ok-need.need c.args.limit (omega (arith, low, limit))))

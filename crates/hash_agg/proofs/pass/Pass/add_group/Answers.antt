@@ -11,15 +11,18 @@ pub returns-in-Ok : goal.returns-in-Ok
 returns-in-Ok g c =
     let q : Query = query_of c.args.self.now in
     added_here _
-    (there_added g.H.KeyHash.hash_of g.D.TapeDisk (Entries ((c.args.key.now, c.args.states.now) ∷ [])) c.args.self.now c.args.disk.now c.args.key.now
+    (there_added g.H.KeyHash.hash_of g.D.TapeDisk (Entries ((c.args.key.now, c.args.states.now) ∷ [])) c.args.self.now c.args.disk.now
+    c.args.key.now
     (λ old new. AreCombined (functions q) c.args.self.now.plan.most old c.args.states.now new) c.requires.ready
     (entry_told q c.args.self.now.plan.most c.args.key.now c.args.states.now)
-    c.combine.new.self c.in-Some.slot c.find.ensures.once c.in-Some.ensures.found c.in-Ok.ensures.written c.combine.ensures.table c.combine.ensures.hash c.combine.ensures.held (λ new moved. moved.within))
+    c.combine.new.self c.in-Some.slot c.find.ensures.once c.in-Some.ensures.found c.in-Ok.ensures.written c.combine.ensures.table
+    c.combine.ensures.hash c.combine.ensures.held (λ new moved. moved.within))
 
 pub returns-in-Err : goal.returns-in-Err
 returns-in-Err g c =
     let q : Query = query_of c.args.self.now in
-    there_damaged g.H.KeyHash.hash_of g.D.TapeDisk (Entries ((c.args.key.now, c.args.states.now) ∷ [])) c.args.self.now c.args.disk.now c.args.key.now
+    there_damaged g.H.KeyHash.hash_of g.D.TapeDisk (Entries ((c.args.key.now, c.args.states.now) ∷ [])) c.args.self.now c.args.disk.now
+    c.args.key.now
     (λ old new. AreCombined (functions q) c.args.self.now.plan.most old c.args.states.now new) c.requires.ready
     (entry_told q c.args.self.now.plan.most c.args.key.now c.args.states.now)
     c.combine.new.self c.in-Some.slot c.in-Some.ensures.found c.combine.ensures.table c.combine.ensures.hash c.combine.ensures.held
@@ -32,27 +35,30 @@ room_for-requires-clause-key g c =
     let group = c.requires.group in
     key_brief (query_of c.args.self.now) c.args.key.now group.0.0 c.requires.ready.plan.formed group.1.key group.1.of_kinds
 
-pub enter-requires-clause-key : goal.enter-requires-clause-key
-enter-requires-clause-key g c =
+pub insert-requires-clause-key : goal.insert-requires-clause-key
+insert-requires-clause-key g c =
     let group = c.requires.group in
     key_short (query_of c.args.self.now) c.args.key.now group.0.0 c.requires.ready.plan.formed group.1.key group.1.of_kinds
 
-pub enter-requires-clause-states : goal.enter-requires-clause-states
-enter-requires-clause-states g c =
+pub insert-requires-clause-states : goal.insert-requires-clause-states
+insert-requires-clause-states g c =
     let q : Query = query_of c.args.self.now in
     let group = c.requires.group in
-    same_wide (functions q) c.args.self.now.plan.most 0 c.args.states.now c.args.self.now.plan.first.items group.0.1 (partials q []) group.1.states c.requires.ready.plan.states ∙ sym c.requires.ready.width
+    same_wide (functions q) c.args.self.now.plan.most 0 c.args.states.now c.args.self.now.plan.first.items group.0.1 (partials q [])
+    group.1.states c.requires.ready.plan.states ∙ sym c.requires.ready.width
 
 pub returns-in-Some-room_for : goal.returns-in-Some-room_for
 returns-in-Some-room_for g c =
     let q : Query = query_of c.args.self.now in
     let group = c.requires.group in
     added_here _
-    (new_added g.H.KeyHash.hash_of g.D.TapeDisk (Entries ((c.args.key.now, c.args.states.now) ∷ [])) c.args.self.now c.args.disk.now c.args.key.now
+    (new_added g.H.KeyHash.hash_of g.D.TapeDisk (Entries ((c.args.key.now, c.args.states.now) ∷ [])) c.args.self.now c.args.disk.now
+    c.args.key.now
     (λ old new. AreCombined (functions q) c.args.self.now.plan.most old c.args.states.now new) c.requires.ready
     (entry_told q c.args.self.now.plan.most c.args.key.now c.args.states.now)
-    c.enter.new.self c.args.states.now c.in-Some-room_for.need c.in_default.ensures.found c.in-Some-room_for.ensures.room (c.in-Some-room_for.ensures.exact (g.H.KeyHash.hash_of c.args.self.now.groups.hash))
-    c.in_ok-enter.ensures.entered c.enter.ensures.table
+    c.insert.new.self c.args.states.now c.in-Some-room_for.need c.in_default.ensures.found c.in-Some-room_for.ensures.room
+    (c.in-Some-room_for.ensures.exact (g.H.KeyHash.hash_of c.args.self.now.groups.hash))
+    c.in_ok-insert.ensures.entered c.insert.ensures.table
     (λ more are low. (one_group q are.0 c.args.key.now c.args.states.now more are.1).2.states) group.0 group.1)
 
 pub write_group-requires : goal.write_group-requires
@@ -63,35 +69,60 @@ write_group-requires g c =
 pub spill-requires-clause-len : goal.spill-requires-clause-len
 spill-requires-clause-len g c =
     let group = c.requires.group in
-    let written : c.deref.result.now ≡ group_record c.args.key.now c.args.states.now = c.deref.ensures.value ∙ c.in_ok-write_group.ensures in
-    subst (λ bytes. length bytes ≤ 65535) (sym written) (group_short (query_of c.args.self.now) c.args.self.now.plan.most c.args.key.now c.args.states.now group.0 c.requires.ready.plan.formed group.1)
+    let written : c.deref.result.now ≡ group_record c.args.key.now c.args.states.now = c.deref.ensures.value
+    ∙ c.in_ok-write_group.ensures in
+    subst (λ bytes. length bytes ≤ 65535) (sym written) (group_short (query_of c.args.self.now) c.args.self.now.plan.most c.args.key.now
+    c.args.states.now group.0 c.requires.ready.plan.formed group.1)
 
 pub returns : goal.returns
 returns g c =
     let q : Query = query_of c.args.self.now in
     let group = c.requires.group in
     let one : Record = record { hash = c.hash-hash.result; tag = 1; bytes = c.deref.result.now } in
-    let written : c.deref.result.now ≡ group_record c.args.key.now c.args.states.now = c.deref.ensures.value ∙ c.in_ok-write_group.ensures in
+    let written : c.deref.result.now ≡ group_record c.args.key.now c.args.states.now = c.deref.ensures.value
+    ∙ c.in_ok-write_group.ensures in
     record {
       added =
-          left_added g.H.KeyHash.hash_of g.D.TapeDisk (Entries ((c.args.key.now, c.args.states.now) ∷ [])) c.args.self.now c.args.disk.now c.args.key.now
+          left_added g.H.KeyHash.hash_of g.D.TapeDisk (Entries ((c.args.key.now, c.args.states.now) ∷ [])) c.args.self.now c.args.disk.now
+          c.args.key.now
           (λ old new. AreCombined (functions q) c.args.self.now.plan.most old c.args.states.now new) c.requires.ready
           (entry_told q c.args.self.now.plan.most c.args.key.now c.args.states.now)
-          c.spill.result c.spill.new.self c.spill.new.disk one c.in_default.ensures.found (key_brief q c.args.key.now group.0.0 c.requires.ready.plan.formed group.1.key group.1.of_kinds)
+          c.spill.result c.spill.new.self c.spill.new.disk one c.in_default.ensures.found
+          (key_brief q c.args.key.now group.0.0 c.requires.ready.plan.formed group.1.key group.1.of_kinds)
           (sym (c.in_default-room_for.ensures.exact (g.H.KeyHash.hash_of c.args.self.now.groups.hash)))
           (λ more are.
-          is_group_record q (g.H.KeyHash.hash_of c.args.self.now.groups.hash) are.0 one c.args.key.now c.args.states.now (one_group q are.0 c.args.key.now c.args.states.now more are.1).0 refl written c.hash-hash.ensures (one_group q are.0 c.args.key.now c.args.states.now more are.1).2)
+          is_group_record q (g.H.KeyHash.hash_of c.args.self.now.groups.hash) are.0 one c.args.key.now c.args.states.now
+          (one_group q are.0 c.args.key.now c.args.states.now more are.1).0 refl written c.hash-hash.ensures
+          (one_group q are.0 c.args.key.now c.args.states.now more are.1).2)
           c.spill.ensures.rest c.spill.ensures.spilled;
-      refused = IfErr-weaker c.spill.result _ _ (λ error right. record { undamaged = λ can. right; kept = record { plan = refl; table = same_table _ _; lists = c.spill.ensures.rest } }) c.spill.ensures.undamaged;
+      refused = IfErr-weaker c.spill.result _ _
+          (λ error right. record {
+            undamaged = λ can. right;
+            kept = record {
+              plan = refl;
+              table = same_table _ _;
+              lists =
+                  c.spill.ensures.rest;
+            };
+          }) c.spill.ensures.undamaged;
       disk = c.spill.ensures.disk;
     }
 
-pub returns-in_err-enter : goal.returns-in_err-enter
-returns-in_err-enter g c =
+pub returns-in_err-insert : goal.returns-in_err-insert
+returns-in_err-insert g c =
     refused_still c.from_residual.result NoMemory c.from_residual.ensures.1
-    (record { undamaged = λ can same. cc; kept = record { plan = refl; table = c.enter.ensures.table c.args.self.now.plan.limit c.in-Some-room_for.ensures.room.within; lists = same_rest _ } })
+    (record {
+      undamaged = λ can same. cc;
+      kept = record {
+        plan = refl;
+        table = c.insert.ensures.table c.args.self.now.plan.limit
+            c.in-Some-room_for.ensures.room.within;
+        lists = same_rest _;
+      };
+    })
     (λ same. cc)
 
 pub returns-in_err-write_group : goal.returns-in_err-write_group
 returns-in_err-write_group g c =
-    refused_here c.from_residual-in_err-write_group.result NoMemory c.from_residual-in_err-write_group.ensures.1 (λ can same. cc) (λ same. cc)
+    refused_here c.from_residual-in_err-write_group.result NoMemory c.from_residual-in_err-write_group.ensures.1 (λ can same. cc)
+    (λ same. cc)

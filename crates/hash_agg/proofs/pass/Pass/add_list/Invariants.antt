@@ -1,5 +1,6 @@
 use Rattle.std.specs.Prelude.{◌+◌, ◌≤◌, List, [], IsTrue}
-use Rattle.hash_agg.proofs.Words.{Leaves, Record, LeftList, HasLists, ahead_number, IsReady, KeepsLater, query_of, Piece, ArePieces, CountUpTo, WritesPages, AreSafe, entries_of, standing, total}
+use Rattle.hash_agg.proofs.Words.{DiskFrame, Record, PendingPartition, HasLists, ahead_number, IsReady, KeepsLater, query_of, Piece}
+use Rattle.hash_agg.proofs.Words.{ArePieces, CountUpTo, WritesPages, AreSafe, entries_of, standing, total}
 use Rattle.hash_agg.proofs.ReadLaws.{IsReading, IsSpent}
 use Rattle.hash_agg.proofs.pass.Pass.add_list.Given as goal
 
@@ -9,16 +10,17 @@ invariant-loop-hash g l =
       ready : IsReady l.self;
       kept : KeepsLater l.initial.self l.self;
       pages : WritesPages (g.D.TapeDisk.writes l.initial.disk) l.initial.self.lists (g.D.TapeDisk.writes l.disk) l.self.lists;
-      disk : Leaves g.D.TapeDisk 0 l.initial.disk l.disk;
+      disk : DiskFrame g.D.TapeDisk 0 l.initial.disk l.disk;
       safe : AreSafe (query_of l.initial.self) l.initial.self.plan.most (entries_of l.self.groups);
       few : total (entries_of l.self.groups) l.self.lists + ahead_number l.self.lists ≤ ahead_number l.initial.self.lists;
       spent : IsSpent (ahead_number l.initial.self.lists) (entries_of l.self.groups) l.self.lists;
       reads :
-          IsTrue (g.D.TapeDisk.honest l.initial.disk) → (records : List Record) (pieces : List Piece) (todo : List LeftList)
-          → HasLists (g.D.TapeDisk.last l.initial.disk) l.initial.self.lists [] records todo
+          IsTrue (g.D.TapeDisk.honest l.initial.disk) → (records : List Record) (pieces : List Piece) (pending : List PendingPartition)
+          → HasLists (g.D.TapeDisk.last l.initial.disk) l.initial.self.lists [] records pending
           → ArePieces (query_of l.initial.self) (g.H.KeyHash.hash_of l.initial.self.groups.hash) records pieces
           → CountUpTo (query_of l.initial.self) l.initial.self.plan.most pieces
-          → IsReading l.initial.self.plan (g.H.KeyHash.hash_of l.initial.self.groups.hash) (standing l.self.groups l.self.lists (g.D.TapeDisk.last l.disk)) pieces todo;
+          → IsReading l.initial.self.plan (g.H.KeyHash.hash_of l.initial.self.groups.hash)
+          (standing l.self.groups l.self.lists (g.D.TapeDisk.last l.disk)) pieces pending;
     }
 
 abbrev pub decreases-loop-hash : goal.decreases-loop-hash

@@ -1,6 +1,10 @@
-use Rattle.hash_agg.proofs.Words.{Leaves, Entries}
+use Rattle.hash_agg.proofs.Words.{DiskFrame, Entries}
 use Rattle.hash_agg.proofs.AddedLaws.{AddedSome}
 use Rattle.hash_agg.proofs.pass.Pass.add_run.Given as goal
 
 abbrev pub invariant-loop-place : goal.invariant-loop-place
-invariant-loop-place g l = record { some : AddedSome g.H.KeyHash.hash_of g.D.TapeDisk (Entries l.run) l.place l.fn.self l.fn.disk l.self l.disk; disk : Leaves g.D.TapeDisk 0 l.fn.disk l.disk }
+invariant-loop-place g l = record {
+  some : AddedSome g.H.KeyHash.hash_of g.D.TapeDisk (Entries l.run) l.place l.fn.self l.fn.disk l.self
+      l.disk;
+  disk : DiskFrame g.D.TapeDisk 0 l.fn.disk l.disk;
+}

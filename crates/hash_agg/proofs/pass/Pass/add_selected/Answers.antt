@@ -15,39 +15,46 @@ returns-in-Ok g c =
     added_here _
     (there_added g.H.KeyHash.hash_of g.D.TapeDisk (Packed_rows (c.args.packed.now ∷ [])) c.args.self.now c.args.disk.now c.args.key.now
     (λ old new. AreAdvanced q.aggregates c.args.self.now.plan.most old (row_of c.args.row.now) new) c.requires.ready
-    (row_told q c.args.self.now.plan.most c.args.packed.now c.args.key.now (row_of c.args.row.now) c.requires.ready.plan.formed c.requires.selected)
-    c.advance.new.self c.in-Some.slot c.find.ensures.once c.in-Some.ensures.found c.in-Ok.ensures.written c.advance.ensures.table c.advance.ensures.hash c.advance.ensures.held (λ new moved. moved.within))
+    (row_told q c.args.self.now.plan.most c.args.packed.now c.args.key.now (row_of c.args.row.now) c.requires.ready.plan.formed
+    c.requires.selected)
+    c.advance.new.self c.in-Some.slot c.find.ensures.once c.in-Some.ensures.found c.in-Ok.ensures.written c.advance.ensures.table
+    c.advance.ensures.hash c.advance.ensures.held (λ new moved. moved.within))
 
 pub returns-in-Err : goal.returns-in-Err
 returns-in-Err g c =
     let q : Query = query_of c.args.self.now in
     there_damaged g.H.KeyHash.hash_of g.D.TapeDisk (Packed_rows (c.args.packed.now ∷ [])) c.args.self.now c.args.disk.now c.args.key.now
     (λ old new. AreAdvanced q.aggregates c.args.self.now.plan.most old (row_of c.args.row.now) new) c.requires.ready
-    (row_told q c.args.self.now.plan.most c.args.packed.now c.args.key.now (row_of c.args.row.now) c.requires.ready.plan.formed c.requires.selected)
+    (row_told q c.args.self.now.plan.most c.args.packed.now c.args.key.now (row_of c.args.row.now) c.requires.ready.plan.formed
+    c.requires.selected)
     c.advance.new.self c.in-Some.slot c.in-Some.ensures.found c.advance.ensures.table c.advance.ensures.hash c.advance.ensures.held
     (λ more are m found states low. c.in-Err.ensures.refused (m, found, states, omega (arith, low)))
 
 pub room_for-requires-clause-key : goal.room_for-requires-clause-key
 room_for-requires-clause-key g c =
     let q : Query = query_of c.args.self.now in
-    key_brief q c.args.key.now (key_of q (row_of c.args.row.now)) c.requires.ready.plan.formed c.requires.selected.named (key_has q (row_of c.args.row.now) c.requires.ready.plan.formed.keys c.requires.selected.has)
+    key_brief q c.args.key.now (key_of q (row_of c.args.row.now)) c.requires.ready.plan.formed c.requires.selected.named
+    (key_has q (row_of c.args.row.now) c.requires.ready.plan.formed.keys c.requires.selected.has)
 
 pub returns-in_err-first_after : goal.returns-in_err-first_after
 returns-in_err-first_after g c =
     let q : Query = query_of c.args.self.now in
     refused_here c.from_residual.result c.in_err-first_after.field-0.0 c.from_residual.ensures.1
     (λ can.
-    let room = new_room c.args.self.now.plan (g.H.KeyHash.hash_of c.args.self.now.groups.hash) c.args.self.now.groups c.args.self.now.lists (g.D.TapeDisk.last c.args.disk.now) c.args.key.now
+    let room = new_room c.args.self.now.plan (g.H.KeyHash.hash_of c.args.self.now.groups.hash) c.args.self.now.groups c.args.self.now.lists
+    (g.D.TapeDisk.last c.args.disk.now) c.args.key.now
     (AreRows q (c.args.packed.now ∷ [])) (λ old new. AreAdvanced q.aggregates c.args.self.now.plan.most old (row_of c.args.row.now) new)
-    (row_told q c.args.self.now.plan.most c.args.packed.now c.args.key.now (row_of c.args.row.now) c.requires.ready.plan.formed c.requires.selected) can in
+    (row_told q c.args.self.now.plan.most c.args.packed.now c.args.key.now (row_of c.args.row.now) c.requires.ready.plan.formed
+    c.requires.selected) can in
     let low = room.2 in
     c.in_err-first_after.ensures.undamaged (0, partials q [], c.requires.ready.plan.states, omega (arith, low)))
     c.in_err-first_after.ensures.faultless
 
-pub enter-requires-clause-key : goal.enter-requires-clause-key
-enter-requires-clause-key g c =
+pub insert-requires-clause-key : goal.insert-requires-clause-key
+insert-requires-clause-key g c =
     let q : Query = query_of c.args.self.now in
-    key_short q c.args.key.now (key_of q (row_of c.args.row.now)) c.requires.ready.plan.formed c.requires.selected.named (key_has q (row_of c.args.row.now) c.requires.ready.plan.formed.keys c.requires.selected.has)
+    key_short q c.args.key.now (key_of q (row_of c.args.row.now)) c.requires.ready.plan.formed c.requires.selected.named
+    (key_has q (row_of c.args.row.now) c.requires.ready.plan.formed.keys c.requires.selected.has)
 
 pub returns-in-Some-room_for : goal.returns-in-Some-room_for
 returns-in-Some-room_for g c =
@@ -56,15 +63,24 @@ returns-in-Some-room_for g c =
     added_here _
     (new_added g.H.KeyHash.hash_of g.D.TapeDisk (Packed_rows (c.args.packed.now ∷ [])) c.args.self.now c.args.disk.now c.args.key.now
     (λ old new. AreAdvanced q.aggregates c.args.self.now.plan.most old (row_of c.args.row.now) new) c.requires.ready
-    (row_told q c.args.self.now.plan.most c.args.packed.now c.args.key.now (row_of c.args.row.now) c.requires.ready.plan.formed c.requires.selected)
-    c.enter.new.self c.first_after.new.states.items c.in-Some-room_for.need c.in_default.ensures.found c.in-Some-room_for.ensures.room (c.in-Some-room_for.ensures.exact (g.H.KeyHash.hash_of c.args.self.now.groups.hash))
-    (c.in_ok-enter.ensures.entered ∙ ap (λ states. entries_of c.args.self.now.groups ++ (c.args.key.now, states) ∷ []) c.deref.ensures.value) c.enter.ensures.table
+    (row_told q c.args.self.now.plan.most c.args.packed.now c.args.key.now (row_of c.args.row.now) c.requires.ready.plan.formed
+    c.requires.selected)
+    c.insert.new.self c.first_after.new.states.items c.in-Some-room_for.need c.in_default.ensures.found c.in-Some-room_for.ensures.room
+    (c.in-Some-room_for.ensures.exact (g.H.KeyHash.hash_of c.args.self.now.groups.hash))
+    (c.in_ok-insert.ensures.entered ∙ ap (λ states. entries_of c.args.self.now.groups ++ (c.args.key.now, states)
+    ∷ []) c.deref.ensures.value) c.insert.ensures.table
     (λ more are low. c.in_ok-first_after.ensures.advanced.moved 0 (partials q []) (omega (arith, low)) c.requires.ready.plan.states)
     (key_of q (row_of c.args.row.now), within.0)
-    (record { key = c.requires.selected.named; of_kinds = key_has q (row_of c.args.row.now) c.requires.ready.plan.formed.keys c.requires.selected.has; states = within.1 }))
+    (record {
+      key = c.requires.selected.named;
+      of_kinds = key_has q (row_of c.args.row.now) c.requires.ready.plan.formed.keys
+          c.requires.selected.has;
+      states = within.1;
+    }))
 
 pub spill-requires-clause-len : goal.spill-requires-clause-len
-spill-requires-clause-len g c = packed_short c.args.self.now.plan.query.now.columns c.args.packed.now (row_of c.args.row.now) c.requires.ready.plan.columns c.requires.selected.is c.requires.selected.has
+spill-requires-clause-len g c = packed_short c.args.self.now.plan.query.now.columns c.args.packed.now (row_of c.args.row.now)
+    c.requires.ready.plan.columns c.requires.selected.is c.requires.selected.has
 
 pub returns : goal.returns
 returns g c =
@@ -73,18 +89,46 @@ returns g c =
       added =
           left_added g.H.KeyHash.hash_of g.D.TapeDisk (Packed_rows (c.args.packed.now ∷ [])) c.args.self.now c.args.disk.now c.args.key.now
           (λ old new. AreAdvanced q.aggregates c.args.self.now.plan.most old (row_of c.args.row.now) new) c.requires.ready
-          (row_told q c.args.self.now.plan.most c.args.packed.now c.args.key.now (row_of c.args.row.now) c.requires.ready.plan.formed c.requires.selected)
-          c.spill.result c.spill.new.self c.spill.new.disk (record { hash = c.hash-hash.result; tag = 0; bytes = c.args.packed.now }) c.in_default.ensures.found
-          (key_brief q c.args.key.now (key_of q (row_of c.args.row.now)) c.requires.ready.plan.formed c.requires.selected.named (key_has q (row_of c.args.row.now) c.requires.ready.plan.formed.keys c.requires.selected.has))
+          (row_told q c.args.self.now.plan.most c.args.packed.now c.args.key.now (row_of c.args.row.now) c.requires.ready.plan.formed
+          c.requires.selected)
+          c.spill.result c.spill.new.self c.spill.new.disk (record { hash = c.hash-hash.result; tag = 0; bytes = c.args.packed.now })
+          c.in_default.ensures.found
+          (key_brief q c.args.key.now (key_of q (row_of c.args.row.now)) c.requires.ready.plan.formed c.requires.selected.named
+          (key_has q (row_of c.args.row.now) c.requires.ready.plan.formed.keys c.requires.selected.has))
           (sym (c.in_default-room_for.ensures.exact (g.H.KeyHash.hash_of c.args.self.now.groups.hash)))
-          (λ more are. record { tag = refl; of_kinds = c.requires.selected.has; bytes = c.requires.selected.is; met = c.requires.selected.met; hashed = c.hash-hash.ensures ∙ ap (g.H.KeyHash.hash_of c.args.self.now.groups.hash) c.requires.selected.named })
+          (λ more are. record {
+            tag = refl;
+            of_kinds = c.requires.selected.has;
+            bytes = c.requires.selected.is;
+            met =
+                c.requires.selected.met;
+            hashed = c.hash-hash.ensures
+                ∙ ap (g.H.KeyHash.hash_of c.args.self.now.groups.hash) c.requires.selected.named;
+          })
           c.spill.ensures.rest c.spill.ensures.spilled;
-      refused = IfErr-weaker c.spill.result _ _ (λ error right. record { undamaged = λ can. right; kept = record { plan = refl; table = same_table _ _; lists = c.spill.ensures.rest } }) c.spill.ensures.undamaged;
+      refused = IfErr-weaker c.spill.result _ _
+          (λ error right. record {
+            undamaged = λ can. right;
+            kept = record {
+              plan = refl;
+              table = same_table _ _;
+              lists =
+                  c.spill.ensures.rest;
+            };
+          }) c.spill.ensures.undamaged;
       disk = c.spill.ensures.disk;
     }
 
-pub returns-in_err-enter : goal.returns-in_err-enter
-returns-in_err-enter g c =
-    refused_still c.from_residual-in_err-enter.result NoMemory c.from_residual-in_err-enter.ensures.1
-    (record { undamaged = λ can same. cc; kept = record { plan = refl; table = c.enter.ensures.table c.args.self.now.plan.limit c.in-Some-room_for.ensures.room.within; lists = same_rest _ } })
+pub returns-in_err-insert : goal.returns-in_err-insert
+returns-in_err-insert g c =
+    refused_still c.from_residual-in_err-insert.result NoMemory c.from_residual-in_err-insert.ensures.1
+    (record {
+      undamaged = λ can same. cc;
+      kept = record {
+        plan = refl;
+        table = c.insert.ensures.table c.args.self.now.plan.limit
+            c.in-Some-room_for.ensures.room.within;
+        lists = same_rest _;
+      };
+    })
     (λ same. cc)

@@ -10,6 +10,7 @@ returns-clause-plan c =
       states = c.in_ok-first.ensures;
       few = c.requires.most;
       width = states_long (meaning c.args.query.now) 0 c.in_ok-first.first.items _ c.in_ok-first.ensures;
-      narrow = states_short (meaning c.args.query.now) 0 c.in_ok-first.first.items _ c.schema-schema.ensures.query.well_formed c.in_ok-first.ensures;
+      narrow = states_short (meaning c.args.query.now) 0 c.in_ok-first.first.items _ c.schema-schema.ensures.query.well_formed
+          c.in_ok-first.ensures;
       limit = c.requires.limit;
     }

@@ -22,6 +22,7 @@ returns c = record {
       sorted_once before any c.in_ok-places.places.items c.sort_by.new.self.items
       (c.in_ok-sort_by.ensures.sorted before any (always_returns_same _ _ _ (λ a r f k. search rules)))
       (c.in_ok-sort_by.ensures.stable before any (always_returns_same _ _ _ (λ a r f k. search rules))) in
-      ap (map row) one ∙ sorted_mapped (comes_before terms) row c.in_ok-places.places.items ∙ ap (λ those. sorted_by (comes_before terms) those) c.in_ok-places.ensures.rows;
+      ap (map row) one ∙ sorted_mapped (comes_before terms) row c.in_ok-places.places.items
+      ∙ ap (λ those. sorted_by (comes_before terms) those) c.in_ok-places.ensures.rows;
   below = All-permutation (λ place. place < length c.args.self.now) _ _ c.in_ok-sort_by.ensures.permutation c.in_ok-places.ensures.below;
 }

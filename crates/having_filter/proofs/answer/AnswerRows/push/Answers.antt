@@ -1,7 +1,7 @@
 use Rattle.std.specs.Prelude.{◌++◌, ◌∷◌, [], map}
 use Rattle.std.proofs.Common.{subst, rules}
 use Rattle.having_filter.proofs.Words.{outcome_of, LieAs}
-use Rattle.packed_rows.specs.RowsOnEndLaws.{cut_is, are_rows, pushed}
+use Rattle.packed_rows.specs.ConcatenatedRowsLaws.{cut_is, are_rows, pushed}
 use Rattle.having_filter.proofs.answer.AnswerRows.push.Goals as goal
 
 -- the rows with one more

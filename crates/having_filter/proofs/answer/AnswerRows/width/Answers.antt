@@ -1,20 +1,22 @@
 use Rattle.std.specs.Prelude.{◌≡◌, ◌∷◌, length, slice_index_or}
 use Rattle.std.proofs.Common.{sym, ◌∙◌, ap, subst, arith}
-use Rattle.packed_rows.specs.RowsOnEnd.{LieAs}
-use Rattle.packed_rows.specs.RowsOnEndLaws.{RowAt, cut_long, row_at, row_long}
+use Rattle.packed_rows.specs.ConcatenatedRows.{LieAs}
+use Rattle.packed_rows.specs.ConcatenatedRowsLaws.{RowAt, cut_long, row_at, row_long}
 use Rattle.having_filter.proofs.answer.AnswerRows.width.Goals as goal
 
 pub index-requires : goal.index-requires
 index-requires c =
     let low = c.requires in
-    let long : length c.args.self.now ≡ length c.self.inside.ends.items = ap length (sym c.self.view_is) ∙ cut_long c.self.inside.values 0 c.self.inside.ends.items in
+    let long : length c.args.self.now ≡ length c.self.inside.ends.items = ap length (sym c.self.view_is)
+    ∙ cut_long c.self.inside.values 0 c.self.inside.ends.items in
     let counted = c.self.inside.ends.ok in
     omega (arith, low, long, counted)
 
 pub bound-requires : goal.bound-requires
 bound-requires c =
     let low = c.requires in
-    let long : length c.args.self.now ≡ length c.self.inside.ends.items = ap length (sym c.self.view_is) ∙ cut_long c.self.inside.values 0 c.self.inside.ends.items in
+    let long : length c.args.self.now ≡ length c.self.inside.ends.items = ap length (sym c.self.view_is)
+    ∙ cut_long c.self.inside.values 0 c.self.inside.ends.items in
     let same = ap length c.deref.ensures.value in
     omega (arith, low, long, same)
 

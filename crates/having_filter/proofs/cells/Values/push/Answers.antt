@@ -23,12 +23,14 @@ returns-in_err-cell-clause-refused c =
 pub invariant_of-self-2 : goal.invariant_of-self-2
 invariant_of-self-2 c =
     let old = c.self.inside in
-    all_with (string_bytes old.texts) (string_bytes c.cell_of.new.texts) old.cells.items c.push.new.self.items c.in_ok-cell.cell c.cell_of.ensures.grows c.self.invariant
+    all_with (string_bytes old.texts) (string_bytes c.cell_of.new.texts) old.cells.items c.push.new.self.items c.in_ok-cell.cell
+    c.cell_of.ensures.grows c.self.invariant
     (search rules) c.in_ok-cell.ensures.lies
 
 pub returns-clause-pushed : goal.returns-clause-pushed
 returns-clause-pushed c =
     let old = c.self.inside in
-    outcomes_with (string_bytes old.texts) (string_bytes c.cell_of.new.texts) old.cells.items c.push.new.self.items c.in_ok-cell.cell (outcome_of c.args.value) c.cell_of.ensures.grows c.self.invariant
+    outcomes_with (string_bytes old.texts) (string_bytes c.cell_of.new.texts) old.cells.items c.push.new.self.items c.in_ok-cell.cell
+    (outcome_of c.args.value) c.cell_of.ensures.grows c.self.invariant
     (search rules) c.in_ok-cell.ensures.outcome
     ∙ ap (λ before. before ++ outcome_of c.args.value ∷ []) c.self.view_is

@@ -9,4 +9,5 @@ pub returns : goal.returns
 returns c =
     let value = outcome_at (map outcome_of c.args.key.now) (map outcome_of c.args.results.now) in
     c.is_met.ensures ∙ having_in_steps value c.deref.result.now.plan.having
-    ∙ ap (λ (having : Option (Condition Source)). is_met value having) ((λ i. option_map by_sources (c.deref.ensures i).plan.having) ∙ c.self.invariant.plans.having ∙ ap (λ (q : Checked). (meaning q).having) c.self.view_is)
+    ∙ ap (λ (having : Option (Condition Source)). is_met value having) ((λ i. option_map by_sources (c.deref.ensures i).plan.having)
+    ∙ c.self.invariant.plans.having ∙ ap (λ (q : Checked). (meaning q).having) c.self.view_is)

@@ -13,8 +13,10 @@ returns-in-Some-clause-disagree c =
       Some c.in-Some.number,
       refl,
       (
-        subst (λ (p : Part). p.prefix ≡ c.args.other.now.prefix → p.run ≡ c.args.other.now.run) c.self.view_is (subst (λ (p : Part). a.prefix ≡ p.prefix → a.run ≡ p.run) c.other.view_is same),
-        subst (λ (p : Part). IsFirstDifference (max c.args.self.now.prefix p.prefix) c.args.self.now.early p.early (Some c.in-Some.number)) c.other.view_is
+        subst (λ (p : Part). p.prefix ≡ c.args.other.now.prefix → p.run ≡ c.args.other.now.run) c.self.view_is
+            (subst (λ (p : Part). a.prefix ≡ p.prefix → a.run ≡ p.run) c.other.view_is same),
+        subst (λ (p : Part). IsFirstDifference (max c.args.self.now.prefix p.prefix) c.args.self.now.early p.early (Some c.in-Some.number))
+            c.other.view_is
             (subst (λ (p : Part). IsFirstDifference (max p.prefix b.prefix) p.early b.early (Some c.in-Some.number)) c.self.view_is first),
       ),
     )

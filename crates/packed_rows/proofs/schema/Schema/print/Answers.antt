@@ -17,15 +17,20 @@ loop-column-preserved c =
     let more = printed_more columns i c.name.result.now _ within c.name.ensures c.kind.ensures in
     let before : string_bytes c.if-column-gt0.text ≡ front ++ separator (take i columns) =
     elim c.if-column-gt0.branch [
-      | then-column-gt0+in_ok-push_str w ↦ ap string_bytes w.text-is ∙ w.in_ok-push_str.ensures.bytes ∙ ap (λ (t : List ℕ). t ++ codes ", ") c.loop-column.invariant ∙ ap (λ (t : List ℕ). front ++ t) (sym (later_separator columns i w.if-column-gt0.true within))
-      | else-column-gt0 w ↦ ap string_bytes w.text-is ∙ c.loop-column.invariant ∙ sym (append-nil front) ∙ ap (λ (t : List ℕ). front ++ t) (sym (first_separator columns i (omega (arith, w.if-column-gt0.false))))
+      | then-column-gt0+in_ok-push_str w ↦ ap string_bytes w.text-is ∙ w.in_ok-push_str.ensures.bytes
+          ∙ ap (λ (t : List ℕ). t ++ codes ", ") c.loop-column.invariant
+          ∙ ap (λ (t : List ℕ). front ++ t) (sym (later_separator columns i w.if-column-gt0.true within))
+      | else-column-gt0 w ↦ ap string_bytes w.text-is ∙ c.loop-column.invariant ∙ sym (append-nil front)
+          ∙ ap (λ (t : List ℕ). front ++ t) (sym (first_separator columns i (omega (arith, w.if-column-gt0.false))))
     ] in
-    c.in_ok-push_column.ensures ∙ ap (λ (t : List ℕ). t ++ column_text (record { name = c.name.result.now; kind = kind_of c.kind.result })) before ∙ sym more
+    c.in_ok-push_column.ensures ∙ ap (λ (t : List ℕ). t ++ column_text (record { name = c.name.result.now; kind = kind_of c.kind.result }))
+    before ∙ sym more
 
 pub returns-clause-read_again : goal.returns-clause-read_again
 returns-clause-read_again c =
     let columns = c.args.self.now in
     let width = c.width-column-end.ensures.width in
     let long : length columns ≤ c.loop-column.column = omega (arith, width, c.loop-column-test.false) in
-    subst (λ (text : List ℕ). IsSchemaText text columns) (sym (c.loop-column.invariant ∙ ap printed (take_all c.loop-column.column columns long)))
+    subst (λ (text : List ℕ). IsSchemaText text columns)
+    (sym (c.loop-column.invariant ∙ ap printed (take_all c.loop-column.column columns long)))
     (printed_again columns c.width-column-end.ensures.columns)

@@ -7,8 +7,8 @@ use Rattle.replica_merge.proofs.Words.{World, IsWorld, kinds, meaning, Held, Fit
 use Rattle.replica_merge.proofs.AnswerLaws.{IsOfParts, shows, only_run, whole_run, listed_inputs, listed_few, shown_wide, shown_answer}
 use Rattle.replica_merge.proofs.replica.Replica.answer.Goals as goal
 
-pub show-requires : goal.show-requires
-show-requires c =
+pub finalize_and_project-requires : goal.finalize_and_project-requires
+finalize_and_project-requires c =
     let held : Held = record { query = c.self.inside.query; parts = c.self.inside.parts.entries } in
     let all : brought_by c.deref.result.now ≡ map counted_part held.parts = ap brought_by c.deref.ensures.value ∙ c.in_ok-parts.ensures in
     shows held c.in-Some.run'.now (only_run held c.deref.result.now c.in-Some.run'.now c.self.invariant all c.in-Some.ensures.alone)
@@ -18,43 +18,60 @@ returns-in-Some c = record {
   width =
       let held : Held = record { query = c.self.inside.query; parts = c.self.inside.parts.entries } in
       let all : brought_by c.deref.result.now ≡ map counted_part held.parts = ap brought_by c.deref.ensures.value ∙ c.in_ok-parts.ensures in
-      let of : IsOfParts held c.in-Some.run'.now = only_run held c.deref.result.now c.in-Some.run'.now c.self.invariant all c.in-Some.ensures.alone in
-      subst (λ (h : Held). IfOk c.show.result (All (λ (row : List Outcome). length row ≡ length (meaning h.query).items))) c.self.view_is
-      (IfOk-weaker c.show.result _ _ (λ rows shown. shown_wide held c.in-Some.run'.now rows of shown) c.show.ensures);
+      let of : IsOfParts held c.in-Some.run'.now = only_run held c.deref.result.now c.in-Some.run'.now c.self.invariant all
+      c.in-Some.ensures.alone in
+      subst (λ (h : Held). IfOk c.finalize_and_project.result (All (λ (row : List Outcome). length row ≡ length (meaning h.query).items)))
+      c.self.view_is
+      (IfOk-weaker c.finalize_and_project.result _ _ (λ rows shown. shown_wide held c.in-Some.run'.now rows of shown)
+      c.finalize_and_project.ensures);
   answer =
       let held : Held = record { query = c.self.inside.query; parts = c.self.inside.parts.entries } in
       let all : brought_by c.deref.result.now ≡ map counted_part held.parts = ap brought_by c.deref.ensures.value ∙ c.in_ok-parts.ensures in
-      let of : IsOfParts held c.in-Some.run'.now = only_run held c.deref.result.now c.in-Some.run'.now c.self.invariant all c.in-Some.ensures.alone in
-      subst (λ (h : Held). IfOk c.show.result (λ rows. (world : World) → IsWorld (kinds h.query.columns) world → Fits world h → rows ≡ answer (meaning h.query) world (told h.parts))) c.self.view_is
-      (IfOk-weaker c.show.result _ _ (λ rows shown world is fits. shown_answer held c.in-Some.run'.now rows of shown world fits) c.show.ensures);
+      let of : IsOfParts held c.in-Some.run'.now = only_run held c.deref.result.now c.in-Some.run'.now c.self.invariant all
+      c.in-Some.ensures.alone in
+      subst (λ (h : Held). IfOk c.finalize_and_project.result (λ rows. (world : World) → IsWorld (kinds h.query.columns) world
+      → Fits world h → rows ≡ answer (meaning h.query) world (told h.parts))) c.self.view_is
+      (IfOk-weaker c.finalize_and_project.result _ _ (λ rows shown world is fits. shown_answer held c.in-Some.run'.now rows of shown world
+      fits) c.finalize_and_project.ensures);
 }
 
 pub united-requires-clause-inputs : goal.united-requires-clause-inputs
 united-requires-clause-inputs c =
-    listed_inputs c.self.inside.query c.self.inside.parts.entries (brought_by c.deref-2.result.now) c.self.invariant (ap brought_by c.deref-2.ensures.value ∙ c.in_ok-parts.ensures)
+    listed_inputs c.self.inside.query c.self.inside.parts.entries (brought_by c.deref-2.result.now) c.self.invariant
+    (ap brought_by c.deref-2.ensures.value ∙ c.in_ok-parts.ensures)
 
 pub united-requires-clause-few : goal.united-requires-clause-few
 united-requires-clause-few c =
-    listed_few c.self.inside.query c.self.inside.parts.entries (brought_by c.deref-2.result.now) c.self.invariant (ap brought_by c.deref-2.ensures.value ∙ c.in_ok-parts.ensures)
+    listed_few c.self.inside.query c.self.inside.parts.entries (brought_by c.deref-2.result.now) c.self.invariant
+    (ap brought_by c.deref-2.ensures.value ∙ c.in_ok-parts.ensures)
 
-pub show-requires-2 : goal.show-requires-2
-show-requires-2 c =
+pub finalize_and_project-requires-2 : goal.finalize_and_project-requires-2
+finalize_and_project-requires-2 c =
     let held : Held = record { query = c.self.inside.query; parts = c.self.inside.parts.entries } in
-    let all : brought_by c.deref-2.result.now ≡ map counted_part held.parts = ap brought_by c.deref-2.ensures.value ∙ c.in_ok-parts.ensures in
+    let all : brought_by c.deref-2.result.now ≡ map counted_part held.parts = ap brought_by c.deref-2.ensures.value
+    ∙ c.in_ok-parts.ensures in
     shows held c.in_ok-run.run' (whole_run held (brought_by c.deref-2.result.now) c.in_ok-run.run' c.self.invariant all c.in_ok-run.ensures)
 
 pub returns-clause-width : goal.returns-clause-width
 returns-clause-width c =
     let held : Held = record { query = c.self.inside.query; parts = c.self.inside.parts.entries } in
-    let all : brought_by c.deref-2.result.now ≡ map counted_part held.parts = ap brought_by c.deref-2.ensures.value ∙ c.in_ok-parts.ensures in
-    let of : IsOfParts held c.in_ok-run.run' = whole_run held (brought_by c.deref-2.result.now) c.in_ok-run.run' c.self.invariant all c.in_ok-run.ensures in
-    subst (λ (h : Held). IfOk c.show-2.result (All (λ (row : List Outcome). length row ≡ length (meaning h.query).items))) c.self.view_is
-    (IfOk-weaker c.show-2.result _ _ (λ rows shown. shown_wide held c.in_ok-run.run' rows of shown) c.show-2.ensures)
+    let all : brought_by c.deref-2.result.now ≡ map counted_part held.parts = ap brought_by c.deref-2.ensures.value
+    ∙ c.in_ok-parts.ensures in
+    let of : IsOfParts held c.in_ok-run.run' = whole_run held (brought_by c.deref-2.result.now) c.in_ok-run.run' c.self.invariant all
+    c.in_ok-run.ensures in
+    subst (λ (h : Held). IfOk c.finalize_and_project-2.result (All (λ (row : List Outcome). length row ≡ length (meaning h.query).items)))
+    c.self.view_is
+    (IfOk-weaker c.finalize_and_project-2.result _ _ (λ rows shown. shown_wide held c.in_ok-run.run' rows of shown)
+    c.finalize_and_project-2.ensures)
 
 pub returns-clause-answer : goal.returns-clause-answer
 returns-clause-answer c =
     let held : Held = record { query = c.self.inside.query; parts = c.self.inside.parts.entries } in
-    let all : brought_by c.deref-2.result.now ≡ map counted_part held.parts = ap brought_by c.deref-2.ensures.value ∙ c.in_ok-parts.ensures in
-    let of : IsOfParts held c.in_ok-run.run' = whole_run held (brought_by c.deref-2.result.now) c.in_ok-run.run' c.self.invariant all c.in_ok-run.ensures in
-    subst (λ (h : Held). IfOk c.show-2.result (λ rows. (world : World) → IsWorld (kinds h.query.columns) world → Fits world h → rows ≡ answer (meaning h.query) world (told h.parts))) c.self.view_is
-    (IfOk-weaker c.show-2.result _ _ (λ rows shown world is fits. shown_answer held c.in_ok-run.run' rows of shown world fits) c.show-2.ensures)
+    let all : brought_by c.deref-2.result.now ≡ map counted_part held.parts = ap brought_by c.deref-2.ensures.value
+    ∙ c.in_ok-parts.ensures in
+    let of : IsOfParts held c.in_ok-run.run' = whole_run held (brought_by c.deref-2.result.now) c.in_ok-run.run' c.self.invariant all
+    c.in_ok-run.ensures in
+    subst (λ (h : Held). IfOk c.finalize_and_project-2.result (λ rows. (world : World) → IsWorld (kinds h.query.columns) world
+    → Fits world h → rows ≡ answer (meaning h.query) world (told h.parts))) c.self.view_is
+    (IfOk-weaker c.finalize_and_project-2.result _ _ (λ rows shown world is fits. shown_answer held c.in_ok-run.run' rows of shown world
+    fits) c.finalize_and_project-2.ensures)

@@ -7,6 +7,8 @@ use Rattle.replica_merge.proofs.replica.Replica.known.Goals as goal
 
 pub returns : goal.returns
 returns c =
-    IfOk-weaker c.known_parts.result (λ list. map known_of list.items ≡ map known_part c.self.inside.parts.entries) (λ list. map known_of list.items ≡ known_list (told c.args.self.now.parts))
-    (λ list is. is ∙ sym (known_told c.self.inside.query c.self.inside.parts.entries c.self.invariant) ∙ ap (λ (h : Held). known_list (told h.parts)) c.self.view_is)
+    IfOk-weaker c.known_parts.result (λ list. map known_of list.items ≡ map known_part c.self.inside.parts.entries)
+    (λ list. map known_of list.items ≡ known_list (told c.args.self.now.parts))
+    (λ list is. is ∙ sym (known_told c.self.inside.query c.self.inside.parts.entries c.self.invariant)
+    ∙ ap (λ (h : Held). known_list (told h.parts)) c.self.view_is)
     c.known_parts.ensures

@@ -5,5 +5,6 @@ pub returns-clause-loaded : goal.returns-clause-loaded
 returns-clause-loaded c =
     record {
       summary = c.in_ok-query.ensures.read;
-      only = λ held is. one_held c.args.bytes.now (record { query = c.in_ok-query.query; parts = c.in_ok-query.parts.entries }) held c.in_ok-query.ensures.read is;
+      only = λ held is. one_held c.args.bytes.now (record { query = c.in_ok-query.query; parts = c.in_ok-query.parts.entries }) held
+          c.in_ok-query.ensures.read is;
     }

@@ -24,6 +24,7 @@ returns c =
     let old = c.self.inside.reader in
     let new = c.read_byte_record.new.self in
     let between = c.self.invariant c.if-self.false in
-    let left : records_left c.self.inside ≡ records_left (record c.self.inside { has_ended = false }) = ap (λ (b : Bool). records_left (record c.self.inside { has_ended = b })) c.if-self.false in
+    let left : records_left c.self.inside ≡ records_left (record c.self.inside { has_ended = false }) = ap
+    (λ (b : Bool). records_left (record c.self.inside { has_ended = b })) c.if-self.false in
     reader-read old new c.in-Ok.found (fields_of c.read_byte_record.new.row) c.args.self.now between.0 between.4 between.5
     (c.in-Ok.ensures.reads between.1 between.2) (sym c.self.view_is ∙ left)

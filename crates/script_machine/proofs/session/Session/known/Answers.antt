@@ -4,10 +4,12 @@ use Rattle.script_machine.proofs.StoreLaws.{known_listed, known_nowhere_at, leav
 use Rattle.script_machine.proofs.session.Session.known.Goals as goal
 
 pub returns-in-None-clause-answers : goal.returns-in-None-clause-answers
-returns-in-None-clause-answers c = λ honest owned. leaves_it c.self.view_is (known_nowhere_at _ c.args.name.now owned (sym c.in-None.ensures.value))
+returns-in-None-clause-answers c = λ honest owned. leaves_it c.self.view_is
+    (known_nowhere_at _ c.args.name.now owned (sym c.in-None.ensures.value))
 
 pub returns-in-Ok-clause-answers : goal.returns-in-Ok-clause-answers
-returns-in-Ok-clause-answers c = λ honest owned. leaves_it c.self.view_is (known_listed _ c.args.name.now owned c.in-Some.replica.now c.in-Ok.lines (sym c.in-Some.ensures.value) c.in-Ok.ensures)
+returns-in-Ok-clause-answers c = λ honest owned. leaves_it c.self.view_is (known_listed _ c.args.name.now owned c.in-Some.replica.now
+    c.in-Ok.lines (sym c.in-Some.ensures.value) c.in-Ok.ensures)
 
 pub returns-in-Err-clause-answers : goal.returns-in-Err-clause-answers
 returns-in-Err-clause-answers c = λ honest owned. out_of_memory (ask.Known c.args.name.now) owned c.args.self.now

@@ -13,7 +13,8 @@ returns-then-is_some-clause-answers c = λ honest owned. columns_there c.args.se
 
 pub returns-in-Ok-clause-answers : goal.returns-in-Ok-clause-answers
 returns-in-Ok-clause-answers c = λ honest owned.
-    turns_it c.self.view_is (columns_told _ c.args.text.now owned c.in-Ok.schema c.width-count.result (sym c.is_some.ensures ∙ c.if-is_some.false) c.in-Ok.ensures.parsed c.width-count.ensures.width)
+    turns_it c.self.view_is (columns_told _ c.args.text.now owned c.in-Ok.schema c.width-count.result (sym c.is_some.ensures
+    ∙ c.if-is_some.false) c.in-Ok.ensures.parsed c.width-count.ensures.width)
 
 pub returns-in-Err : goal.returns-in-Err
 returns-in-Err c = record {

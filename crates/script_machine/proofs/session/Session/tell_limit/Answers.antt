@@ -9,8 +9,17 @@ use Rattle.script_machine.proofs.session.Session.tell_limit.Goals as goal
 pub returns-in-Ok-clause-answers : goal.returns-in-Ok-clause-answers
 returns-in-Ok-clause-answers c = λ honest owned.
     let within = c.in-Ok.ensures.within in
-    let old : Store = record { columns = c.self.inside.columns; query = c.self.inside.query; replicas = c.self.inside.replicas.entries; saved = c.self.inside.saved.entries; limit = c.self.inside.means.limit } in
-    turns_it c.self.view_is (subst (λ n. Steps honest (ask.Limit c.args.bytes) owned old (says.Limit c.args.bytes) (record old { limit = n })) (sym (ap (λ (m : MeansState _). m.limit) c.with_seed-self-inside.ensures ∙ ap (λ (m : MeansState _). m.limit) c.in-Ok.ensures.means))
+    let old : Store = record {
+      columns = c.self.inside.columns;
+      query = c.self.inside.query;
+      replicas = c.self.inside.replicas.entries;
+      saved = c.self.inside.saved.entries;
+      limit = c.self.inside.means.limit;
+    } in
+    turns_it c.self.view_is
+    (subst (λ n. Steps honest (ask.Limit c.args.bytes) owned old (says.Limit c.args.bytes) (record old { limit = n }))
+    (sym (ap (λ (m : MeansState _). m.limit) c.with_seed-self-inside.ensures
+    ∙ ap (λ (m : MeansState _). m.limit) c.in-Ok.ensures.means))
     (limit_told old c.args.bytes owned within.0 within.1))
 
 pub returns-in-Err-clause-answers : goal.returns-in-Err-clause-answers

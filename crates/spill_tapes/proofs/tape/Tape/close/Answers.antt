@@ -9,5 +9,6 @@ returns-clause-pages c = record {
   count = c.give_back_all.ensures.count;
   balanced =
       balanced_all c.args.pool.now c.give_back_all.new.self c.args.self.now.pages []
-      (c.give_back_all.ensures.free ∙ ap (λ (t : TapeState). c.args.pool.now.free ++ t.pages) c.self.view_is) c.give_back_all.ensures.count refl;
+      (c.give_back_all.ensures.free ∙ ap (λ (t : TapeState). c.args.pool.now.free ++ t.pages) c.self.view_is) c.give_back_all.ensures.count
+      refl;
 }

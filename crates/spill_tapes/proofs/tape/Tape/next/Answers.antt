@@ -15,18 +15,31 @@ returns-then-self-clause-undamaged g c =
 
 pub returns-then-not-can_have-clause-undamaged : goal.returns-then-not-can_have-clause-undamaged
 returns-then-not-can_have-clause-undamaged g c = λ honest rs had same.
-    let stands = can_stand (g.D.TapeDisk.last c.next_header.new.disk) c.next_header.new.self c.in_ok-header.header rs (c.in_ok-header.ensures.header honest rs had) in
+    let stands = can_stand (g.D.TapeDisk.last c.next_header.new.disk) c.next_header.new.self c.in_ok-header.header rs
+    (c.in_ok-header.ensures.header honest rs had) in
     absurd (true≢false (sym stands ∙ sym c.can_have.ensures ∙ c.if-not-can_have.true))
 
 pub returns-clause-given : goal.returns-clause-given
 returns-clause-given g c =
-    let one = c.in_ok-header.ensures in let two = c.in_ok-next_bytes.ensures in let header = c.in_ok-header.header in let end = c.end_reading.ensures in let t = c.next_bytes.new.self in
+    let one = c.in_ok-header.ensures in let two = c.in_ok-next_bytes.ensures in let header = c.in_ok-header.header in let end =
+    c.end_reading.ensures in let t = c.next_bytes.new.self in
     let phase = two.part.phase ∙ one.part.phase ∙ c.requires.phase in
-    let is = stands header.tag header.len c.next_header.new.self.left c.next_header.new.self.records (sym c.can_have.ensures ∙ c.if-not-can_have.false) in
+    let is = stands header.tag header.len c.next_header.new.self.left c.next_header.new.self.records (sym c.can_have.ensures
+    ∙ c.if-not-can_have.false) in
     record {
       good = subst IsGood (sym end) (ended_as t phase (subst (λ p. IsGoodIn p t) (sym phase) two.part.good)).2;
-      gives = λ honest rs had. ended_gives (g.D.TapeDisk.last c.next_bytes.new.disk) t c.end_reading.new.self rs c.next_bytes.new.bytes.items (Some (header.hash, header.tag)) end (two.gives (subst IsTrue (sym one.part.disk.honesty) honest) rs (one.header honest rs had));
-      counted = omega (arith, one.records, two.records, ap (λ (x : TapeState). x.records) end, ended_count t, ap (λ (x : TapeState). x.records) c.self.view_is);
+      gives = λ honest rs had. ended_gives (g.D.TapeDisk.last c.next_bytes.new.disk) t c.end_reading.new.self rs
+          c.next_bytes.new.bytes.items (Some (header.hash, header.tag)) end (two.gives (subst IsTrue (sym one.part.disk.honesty) honest) rs
+          (one.header honest rs had));
+      counted = omega (
+        arith,
+        one.records,
+        two.records,
+        ap (λ (x : TapeState). x.records) end,
+        ended_count t,
+        ap
+            (λ (x : TapeState). x.records) c.self.view_is,
+      );
       none = tt;
       framed = (is.0, omega (arith, two.len, is.1));
     }

@@ -6,5 +6,8 @@ use Rattle.summary_codec.proofs.fields.Fields.is_front.Goals as goal
 
 pub returns : goal.returns
 returns c =
-    let same : c.starts_with.result ≡ starts_with nat_eq (opening c.args.version) c.args.self.now = search rules in
-    ((λ is. front_goes_on (opening c.args.version) c.args.self.now (sym same ∙ is)), (λ more. same ∙ goes_on_front (opening c.args.version) c.args.self.now more))
+    let same : c.starts_with.result ≡ starts_with nat_eq (opening c.args.version) c.args.self.now = search rules in (
+      (λ is. front_goes_on (opening c.args.version) c.args.self.now (sym same ∙ is)),
+      (λ more. same
+          ∙ goes_on_front (opening c.args.version) c.args.self.now more),
+    )

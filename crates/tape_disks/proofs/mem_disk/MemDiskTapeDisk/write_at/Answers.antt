@@ -14,7 +14,9 @@ loop-done-preserved c =
     let same : (k : ℕ) → k < n → get_or part k 0 ≡ get_or c.args.bytes.now (done + k) 0 = λ k h. grind (arith, places) in
     record {
       within = omega arith;
-      written = written_more c.loop-done.self c.write_part.new.self c.args.at done n c.args.bytes.now part c.loop-done.invariant.written c.in_ok-write_part.ensures.written same len c.write_part.ensures.same;
-      same = same_more c.args.self.now c.loop-done.self c.write_part.new.self c.args.at done n c.loop-done.invariant.same (subst (λ x. IsSameBeside c.loop-done.self c.write_part.new.self (c.args.at + done) x) len c.write_part.ensures.same);
+      written = written_more c.loop-done.self c.write_part.new.self c.args.at done n c.args.bytes.now part c.loop-done.invariant.written
+          c.in_ok-write_part.ensures.written same len c.write_part.ensures.same;
+      same = same_more c.args.self.now c.loop-done.self c.write_part.new.self c.args.at done n c.loop-done.invariant.same
+          (subst (λ x. IsSameBeside c.loop-done.self c.write_part.new.self (c.args.at + done) x) len c.write_part.ensures.same);
       count = c.write_part.ensures.count ∙ c.loop-done.invariant.count;
     }

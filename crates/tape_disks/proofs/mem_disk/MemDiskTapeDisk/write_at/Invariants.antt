@@ -3,7 +3,13 @@ use Rattle.tape_disks.specs.Memory.{byte_at, IsSameBeside}
 use Rattle.tape_disks.proofs.mem_disk.MemDiskTapeDisk.write_at.Given as goal
 
 abbrev pub invariant-loop-done : goal.invariant-loop-done
-invariant-loop-done l = record { within : l.done ≤ length l.bytes; written : (k : ℕ) → k < l.done → byte_at l.self (l.at + k) ≡ get_or l.bytes k 0; same : IsSameBeside l.initial.self l.self l.at l.done; count : l.self.count ≡ l.initial.self.count }
+invariant-loop-done l = record {
+  within : l.done ≤ length l.bytes;
+  written : (k : ℕ) → k < l.done → byte_at l.self (l.at + k)
+      ≡ get_or l.bytes k 0;
+  same : IsSameBeside l.initial.self l.self l.at l.done;
+  count : l.self.count ≡ l.initial.self.count;
+}
 
 abbrev pub decreases-loop-done : goal.decreases-loop-done
 decreases-loop-done l = length l.bytes - l.done

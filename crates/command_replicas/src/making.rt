@@ -1,0 +1,73 @@
+//! New replicas, and replicas as summary files.
+
+ghost use Rattle.std.specs.Prelude.{◌≡◌, ◌≢◌, ◌≤◌, IfOk, IfErr, length};
+ghost use Rattle.grouping_model.specs.World.{World};
+ghost use Rattle.grouping_model.specs.declared.limits.TheConstants.{MAX_INPUT_LEN};
+ghost use Rattle.summary_codec.specs.Reading.{IsSaved};
+ghost use Rattle.summary_codec.specs.WorldFile.{world_file};
+ghost use Rattle.replica_merge.specs.Replicas.{IsLoaded, told, Fits};
+ghost use Rattle.replies.specs.declared.refusal.Refusal.TheVariants.{NoMemory};
+ghost use Rattle.command_replicas.specs.Commands.{IsNew, IsNotNew, IsNoSummary, IsTooLong};
+
+use crate::summary::SummaryFile;
+use group_parser::parse;
+use grouping_model::limits::MAX_INPUT_LEN;
+use having_filter::Query;
+use packed_rows::Schema;
+use replica_merge::Replica;
+use replies::{Refusal, RunError};
+use std::alloc::Global;
+
+/// A replica that knows nothing, of the query that one text says over the columns that another tells, as `columns` and
+/// `query` do in a script.
+///
+/// # Errors
+///
+/// `BadSchema`, and then the errors of [`parse`].
+pub fn create(alloc: Global, columns: &str, query: &str) -> Result<Replica, Refusal>
+    ensures made { IfOk result (IsNew columns.now query.now) }
+    ensures why { IfErr result (λ why. why ≢ NoMemory → IsNotNew columns.now query.now why) }
+{
+    let schema = Schema::parse(alloc, columns)?;
+    let query = parse(alloc, &schema, query)?;
+    Ok(Replica::new(alloc, query))
+}
+
+/// The replica that a summary file of either version is of: what a replica saved is that replica. Any bytes are read: those that are no
+/// summary file are refused by their first fault. Want of memory is `NoMemory`.
+pub fn load(alloc: Global, file: &[u8]) -> Result<Replica, Refusal>
+    ensures loaded { IfOk result (IsLoaded file.now) }
+    ensures why { IfErr result (IsNoSummary file.now) }
+{
+    load_sharing(alloc, None, file)
+}
+
+/// What [`load`] gives. Where a query is told that the file is of, the replica shares that.
+pub(crate) fn load_sharing(
+    alloc: Global,
+    known: Option<&Query>,
+    file: &[u8],
+) -> Result<Replica, Refusal>
+    ensures loaded { IfOk result (IsLoaded file.now) }
+    ensures why { IfErr result (IsNoSummary file.now) }
+{
+    Ok(Replica::load_sharing(alloc, known, file)?)
+}
+
+/// The summary file of a replica: the one spelling of its query and of what it knows, in the second version. A file that would be longer
+/// than the
+/// 67,108,864 bytes that are read is `InputTooLong`, want of memory `NoMemory`.
+pub fn save(replica: &Replica) -> Result<SummaryFile, Refusal>
+    ensures file { IfOk result (λ file. IsSaved file replica.now.query replica.now.parts) }
+    ensures short { IfOk result (λ file. length file ≤ MAX_INPUT_LEN) }
+    // So replicas that tell the same batches of a world are saved as equal bytes.
+    ensures world { IfOk result (λ file. (world : World) → Fits world replica.now →
+        file ≡ world_file replica.now.query world (told replica.now.parts)) }
+    ensures why { IfErr result (IsTooLong replica.now) }
+{
+    let file = replica.save()?;
+    if file.len() > MAX_INPUT_LEN {
+        return Err(Refusal::Run(RunError::InputTooLong));
+    }
+    Ok(SummaryFile::new(file))
+}

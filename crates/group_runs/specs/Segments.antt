@@ -1,0 +1,47 @@
+-- Runs in segments. All of this is our own.
+use Rattle.std.specs.Prelude.{◌≡◌, ℕ, ◌+◌, ◌<◌, ◌≤◌, List, [], ◌∷◌, length, take, drop, Some, slice_get, slice_set}
+use Rattle.std.specs.List.{AllByRecursion}
+use Rattle.packed_rows.specs.ConcatenatedRows.{concatenated, ends_of}
+use Rattle.grouping_model.specs.Query.{Query}
+use Rattle.group_runs.specs.Runs.{Entry, Rises}
+use Rattle.group_runs.specs.Places.{AllBelow}
+use Rattle.group_runs.specs.Steps.{AddsRun}
+
+-- segments make up a run, and this is where each ends
+pub record AreSegments (segments : List (List Entry)) (ends : List ℕ) : Type 0 where
+  pub ends_are : ends ≡ ends_of 0 segments
+  pub rises : Rises (concatenated segments)
+
+-- the group at a place is in this segment
+pub record IsAmong (segments : List (List Entry)) (place at : ℕ) : Type 0 where
+  pub segment : List Entry
+  pub is : slice_get segments at ≡ Some segment
+  pub behind : length (concatenated (take at segments)) ≤ place
+  pub within : place < length (concatenated (take at segments)) + length segment
+
+-- each of these groups has a key below that of each of the others
+abbrev pub AreBefore : List Entry → List Entry → Type 0
+AreBefore groups others = AllByRecursion (λ (e : Entry). AllBelow e.0 groups) others
+
+-- of more groups those from a place up to another come into this segment, which isn't one of the first: those before them come
+-- into segments before it, and those from there on into segments behind it
+pub record ComeInto (segments : List (List Entry)) (first : ℕ) (more : List Entry) (from at to : ℕ) : Type 0 where
+  pub segment : List Entry
+  pub is : slice_get segments at ≡ Some segment
+  pub order : first ≤ at
+  pub some : from < to
+  pub within : to ≤ length more
+  pub before : AreBefore (concatenated (take at segments)) (drop from more)
+  pub behind : AreBefore (take to more) (concatenated (drop (at + 1) segments))
+  pub beyond : AreBefore (concatenated (take (at + 1) segments)) (drop to more)
+  pub left : to < length more → at + 1 < length segments
+
+-- segments, with others in the place of some
+abbrev pub replaced : List (ℕ × List Entry) → List (List Entry) → List (List Entry)
+replaced [] segments = segments
+replaced (one ∷ fresh) segments = slice_set (replaced fresh segments) one.0 one.1
+
+-- with these in the place of some, segments have more groups
+pub record AddSegments (query : Query) (segments : List (List Entry)) (more : List Entry) (fresh : List (ℕ × List Entry)) : Type 0 where
+  pub there : AllByRecursion (λ (one : ℕ × List Entry). one.0 < length segments) fresh
+  pub added : AddsRun query (concatenated segments) more (concatenated (replaced fresh segments))

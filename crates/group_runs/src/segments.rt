@@ -1,0 +1,309 @@
+//! The segments of a run.
+
+ghost use Rattle.std.specs.Prelude.{◌≡◌, ℕ, ◌+◌, ◌^◌, ◌<◌, ◌≤◌, ◌++◌, ◌∷◌, List, [], length, take, slice_get, slice_index_or, Some, IsTrue};
+ghost use Rattle.std.specs.Prelude.{IfOk, OnOk, OnErr};
+ghost use Rattle.std.specs.List.{AllByRecursion};
+ghost use Rattle.grouping_model.specs.Parts.{functions};
+ghost use Rattle.having_filter.specs.Meaning.{meaning};
+ghost use Rattle.group_runs.specs.Runs.{Entry, Rises};
+ghost use Rattle.group_runs.specs.Places.{HasStatesFor, CombinesAt};
+ghost use Rattle.packed_rows.specs.ConcatenatedRows.{concatenated, ends_of};
+ghost use Rattle.group_runs.specs.Segments.{IsAmong, replaced};
+
+use crate::segment::Segment;
+use having_filter::Query;
+use packed_rows::bound;
+use std::alloc::{AllocError, Global};
+use std::marker::Model;
+
+/// The most groups of a segment. A group that enters a run copies the segment that it comes into, some ten kilobytes, and one in a
+/// hundred or so moves what is kept of each segment beside its groups, some seventy bytes: with half or twice as many groups a segment,
+/// one of both costs more.
+pub(crate) const MAX_GROUPS: usize = 256;
+
+/// Groups in the order of their keys, in segments, one behind the other: in a clause, the list of the segments.
+///
+/// A segment that has more groups than it may is cut before others enter it. None has no group.
+#[derive(Drop)]
+pub(crate) struct Segments {
+    segments: Vec<Segment>,
+    /// How many groups there are up to the end of each segment.
+    ends: Vec<usize>,
+    /// How many groups, and bytes of keys and of states, the first segment begins with room for.
+    room: (usize, usize, usize),
+}
+
+impl Model for Segments {
+    ghost use Rattle.std.specs.Prelude.{List};
+    ghost use Rattle.group_runs.specs.Runs.{Entry};
+    ghost use Rattle.group_runs.specs.Segments.{AreSegments};
+
+    ghost Value = { List (List Entry) };
+
+    ghost view = { λ c. c.segments.items };
+
+    ghost invariant = { λ c. AreSegments c.segments.items c.ends.items };
+}
+
+/// The segment that has the group at a place, by how many groups there are up to the end of each.
+fn locate(ends: &[usize], place: usize) -> usize
+    requires some { 0 < length ends.now }
+    requires within { place < slice_index_or (0 ∷ ends.now) (length ends.now) 0 }
+    ensures there { result < length ends.now }
+    ensures behind { slice_index_or (0 ∷ ends.now) result 0 ≤ place }
+    ensures before { place < slice_index_or (0 ∷ ends.now) (result + 1) 0 }
+{
+    let full = place / MAX_GROUPS; // It is this one where each segment before it is full, as in a run that was put in order.
+    if full < ends.len() && bound(ends, full) <= place && place < ends[full] {
+        return full;
+    }
+    let mut low = 0;
+    let mut high = ends.len() - 1;
+    while low < high {
+        let middle = low + (high - low) / 2;
+        if ends[middle] <= place {
+            low = middle + 1;
+        } else {
+            high = middle;
+        }
+    }
+    low
+}
+
+/// Counts the groups up to the end of each segment.
+fn count_all(segments: &[Segment], ends: &mut Vec<usize>)
+    requires one_each { length ends.old.items ≡ length segments.now }
+    requires few { length (concatenated segments.now) < 2 ^ 64 }
+    ensures { ends.new.items ≡ ends_of 0 segments.now }
+{
+    let mut count = 0;
+    for at in 0..segments.len() {
+        count += segments[at].len();
+        ends[at] = count;
+    }
+}
+
+/// Puts segments in the place of others.
+fn put_all(segments: &mut Vec<Segment>, fresh: Vec<(usize, Segment)>)
+    requires { AllByRecursion (λ (one : ℕ × List Entry). one.0 < length segments.old.items) fresh.items }
+    ensures { segments.new.items ≡ replaced fresh.items segments.old.items }
+{
+    let mut fresh = fresh;
+    while let Some((at, segment)) = fresh.pop() {
+        segments[at] = segment;
+    }
+}
+
+impl Segments {
+    /// No segments.
+    pub(crate) fn new(alloc: Global) -> Segments
+        ensures { result ≡ [] }
+    {
+        Segments {
+            segments: Vec::new(alloc),
+            ends: Vec::new(alloc),
+            room: (0, 0, 0),
+        }
+    }
+
+    /// No segments, with room for those of so many groups, whose keys and states have so many bytes. The only error is a failed
+    /// allocation.
+    pub(crate) fn with_capacity(
+        alloc: Global,
+        groups: usize,
+        keys: usize,
+        states: usize,
+    ) -> Result<Segments, AllocError>
+        ensures { IfOk result (λ segments. segments ≡ []) }
+    {
+        let count = groups / MAX_GROUPS + 1;
+        Ok(Segments {
+            segments: Vec::with_capacity(alloc, count)?,
+            ends: Vec::with_capacity(alloc, count)?,
+            room: (groups.min(MAX_GROUPS), keys / count, states / count),
+        })
+    }
+
+    /// How many segments there are.
+    pub(crate) fn count(&self) -> usize
+        ensures { result ≡ length self.now }
+    {
+        self.segments.len()
+    }
+
+    /// How many groups there are.
+    pub(crate) fn len(&self) -> usize
+        ensures length { result ≡ length (concatenated self.now) }
+        ensures rises { Rises (concatenated self.now) }
+    {
+        bound(&self.ends, self.ends.len())
+    }
+
+    /// How many groups there are in the first segments, so many of them.
+    pub(crate) fn start(&self, segments: usize) -> usize
+        requires { segments ≤ length self.now }
+        ensures { result ≡ length (concatenated (take segments self.now)) }
+    {
+        bound(&self.ends, segments)
+    }
+
+    /// Which segment has the group at a place.
+    pub(crate) fn segment_of(&self, place: usize) -> usize
+        requires { place < length (concatenated self.now) }
+        ensures { IsAmong self.now place result }
+    {
+        locate(&self.ends, place)
+    }
+
+    /// The segment at a place.
+    pub(crate) fn segment(&self, at: usize) -> &Segment
+        requires { at < length self.now }
+        ensures { slice_get self.now at ≡ Some result.now }
+    {
+        &self.segments[at]
+    }
+
+    /// The bytes of the key and of the states of a group, the first group being 0.
+    pub(crate) fn group(&self, place: usize) -> (&[u8], &[u8])
+        requires { place < length (concatenated self.now) }
+        ensures { slice_get (concatenated self.now) place ≡ Some (result.0.now, result.1.now) }
+    {
+        let at = self.segment_of(place);
+        let start = self.start(at);
+        self.segment(at).group(place - start)
+    }
+
+    /// Adds a segment at the end. Its keys are above the last one. The only error is a failed allocation, which changes nothing.
+    fn push_segment(&mut self, segment: Segment) -> Result<(), AllocError>
+        requires rises { Rises (concatenated self.old ++ segment) }
+        requires few { length (concatenated self.old) + length segment < 2 ^ 64 }
+        ensures pushed { OnOk result (self.new ≡ self.old ++ segment ∷ []) }
+        ensures refused { OnErr result (self.new ≡ self.old) }
+    {
+        let end = self.len() + segment.len();
+        self.ends.reserve(1)?;
+        self.segments.push(segment)?;
+        self.ends.push(end)?;
+        Ok(())
+    }
+
+    /// An empty segment that is to be the last one. The only error is a failed allocation.
+    fn next_segment(&self) -> Result<Segment, AllocError>
+        ensures { IfOk result (λ segment. segment ≡ []) }
+    {
+        let alloc = *self.segments.allocator();
+        match self.segments.last() {
+            Some(last) => Segment::with_room_of(alloc, last, 0),
+            None => Segment::with_capacity(alloc, self.room.0, self.room.1, self.room.2),
+        }
+    }
+
+    /// Adds a group to the last segment. The only error is a failed allocation, which changes nothing.
+    fn push_last(&mut self, key: &[u8], states: &[u8]) -> Result<(), AllocError>
+        requires some { 0 < length self.old }
+        requires rises { Rises (concatenated self.old ++ (key.now, states.now) ∷ []) }
+        requires few { length (concatenated self.old) + 1 < 2 ^ 64 }
+        ensures pushed { OnOk result (concatenated self.new ≡ concatenated self.old ++ (key.now, states.now) ∷ []) }
+        ensures refused { OnErr result (self.new ≡ self.old) }
+    {
+        let end = self.len() + 1;
+        let last = self.segments.len() - 1;
+        self.segments[last].push(key, states)?;
+        self.ends[last] = end;
+        Ok(())
+    }
+
+    /// Whether the last segment takes one more group.
+    fn has_place(&self) -> bool
+        ensures { IsTrue result → 0 < length self.now }
+    {
+        match self.segments.last() {
+            Some(last) => last.len() < MAX_GROUPS,
+            None => false,
+        }
+    }
+
+    /// Adds a group at the end. Its key is above the last one. The only error is a failed allocation, which changes nothing.
+    pub(crate) fn push(&mut self, key: &[u8], states: &[u8]) -> Result<(), AllocError>
+        requires { Rises (concatenated self.old ++ (key.now, states.now) ∷ []) }
+        ensures pushed { OnOk result (concatenated self.new ≡ concatenated self.old ++ (key.now, states.now) ∷ []) }
+        ensures refused { OnErr result (self.new ≡ self.old) }
+    {
+        if self.len() == usize::MAX {
+            return Err(AllocError); // No memory has so many groups.
+        }
+        if self.has_place() {
+            return self.push_last(key, states);
+        }
+        let mut segment = self.next_segment()?;
+        segment.push(key, states)?;
+        self.push_segment(segment)
+    }
+
+    /// Combines the states of a group with others of its key, which come behind.
+    pub(crate) fn combine_at(&mut self, query: &Query, place: usize, more: &[u8])
+        requires { HasStatesFor (functions (meaning query.now)) (concatenated self.old) place more.now }
+        ensures { CombinesAt (functions (meaning query.now)) (concatenated self.old) place more.now (concatenated self.new) }
+    {
+        let at = self.segment_of(place);
+        let start = self.start(at);
+        self.segments[at].combine_at(query, place - start, more);
+    }
+
+    /// The same segments again. The only error is a failed allocation.
+    pub(crate) fn try_clone(&self, alloc: Global) -> Result<Segments, AllocError>
+        ensures { IfOk result (λ copy. copy ≡ self.now) }
+    {
+        let mut segments = Vec::with_capacity(alloc, self.segments.len())?;
+        for segment in &self.segments {
+            segments.push(segment.try_clone(alloc)?)?;
+        }
+        Ok(Segments {
+            segments,
+            ends: self.ends.as_slice().to_vec(alloc)?,
+            room: self.room,
+        })
+    }
+
+    /// Puts segments in the place of others.
+    pub(crate) fn replace(&mut self, fresh: Vec<(usize, Segment)>)
+        requires there { AllByRecursion (λ (one : ℕ × List Entry). one.0 < length self.old) fresh.items }
+        requires rises { Rises (concatenated (replaced fresh.items self.old)) }
+        requires few { length (concatenated (replaced fresh.items self.old)) < 2 ^ 64 }
+        ensures { self.new ≡ replaced fresh.items self.old }
+    {
+        put_all(&mut self.segments, fresh);
+        count_all(&self.segments, &mut self.ends);
+    }
+
+    /// Cuts a segment in two. The only error is a failed allocation, which changes nothing.
+    fn cut(&mut self, at: usize) -> Result<(), AllocError>
+        requires { at < length self.old }
+        ensures same { concatenated self.new ≡ concatenated self.old }
+        ensures many { length self.old ≤ length self.new }
+    {
+        let _count = self.len();
+        let (first, second) = self.segment(at).halves(*self.segments.allocator())?;
+        self.ends.reserve(1)?;
+        self.segments.insert(at + 1, second)?;
+        self.segments[at] = first;
+        self.ends.push(0)?;
+        count_all(&self.segments, &mut self.ends);
+        Ok(())
+    }
+
+    /// Cuts the segments that have more groups than they may. The only error is a failed allocation, which changes no group.
+    pub(crate) fn cut_large(&mut self) -> Result<(), AllocError>
+        ensures same { concatenated self.new ≡ concatenated self.old }
+        ensures many { length self.old ≤ length self.new }
+    {
+        let mut at = self.count();
+        while at > 0 {
+            at -= 1;
+            if self.segment(at).len() > MAX_GROUPS {
+                self.cut(at)?;
+            }
+        }
+        Ok(())
+    }
+}

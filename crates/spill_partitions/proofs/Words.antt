@@ -1,0 +1,13 @@
+-- The words that the proofs cite, of this crate and of those below, in one place to import them from.
+pub use Rattle.list_laws.specs.Each.{each_append, each_behind, each_front, each_weaker}
+pub use Rattle.spill_tapes.specs.Records.{Record}
+pub use Rattle.spill_tapes.specs.Tape.{Gives, is_in}
+pub use Rattle.spill_tapes.specs.Tapes.{IsTape, KeepsOthers, TapesState, is_open, is_read, is_written, phase_of, written_len}
+pub use Rattle.spill_tapes.specs.declared.tape.Phase.TheVariants.{Closed, Read, Written}
+pub use Rattle.spill_tapes.specs.declared.tape_id.TapeId.{TapeId}
+pub use Rattle.spill_partitions.specs.Fields.{lists_of, one_or_none}
+pub use Rattle.spill_partitions.specs.Lists.{PendingPartition, deeper, is_none, left_by, list_of, lists, on_list}
+pub use Rattle.spill_partitions.specs.Standing.{AreAhead, AreApart, AreLists, AreOn, AreRead, AreSpilled, AreWritten, BeginsLast, HasLists}
+pub use Rattle.spill_partitions.specs.Standing.{HaveRecords, IsNewList, PartitionsState, count_of, full_pages, list_pages, once, pages_of}
+pub use Rattle.spill_partitions.specs.Standing.{spilled_number, those_with_records, times, written_pages}
+pub use Rattle.spill_partitions.specs.declared.lists.OnTape.{OnTape}

@@ -1,0 +1,376 @@
+use csv::ByteRecord;
+use script_io::{Fused, InputError, Records, put_all, read_input};
+use std::alloc::{AllocError, Global};
+use std::io;
+use std::io::{Error, ErrorKind, Read, Write};
+use std::test::*;
+use test_cases::{cut, expect_told_lines};
+
+// A reader that gives a byte a call, up to a number of bytes, and then answers an error of this kind, once.
+#[derive(Drop)]
+struct StutteringReader {
+    given: usize,
+    sound: usize,
+    kind: ErrorKind,
+}
+
+impl Read for StutteringReader {
+    fn read(&mut self, buf: &mut [u8]) -> io::Result<usize> {
+        if buf.is_empty() {
+            return Ok(0);
+        }
+        let given = self.given;
+        self.given = given.wrapping_add(1);
+        if given == self.sound {
+            return Err(Error::from(self.kind));
+        }
+        if given > self.sound {
+            return Ok(0);
+        }
+        buf[0] = b'x';
+        Ok(1)
+    }
+}
+
+// What a writer does once it has as many bytes as it takes.
+#[derive(Clone, Copy)]
+enum AtRoom {
+    Fail(ErrorKind),
+    TakeNone,
+}
+
+// A writer that takes a few bytes, at most so many a call. One that takes none has nothing to send out, and fails at that, too.
+#[derive(Drop)]
+struct ShortWriter {
+    taken: Vec<u8>,
+    room: usize,
+    a_call: usize,
+    calls: usize,
+    flushes: usize,
+    at_room: AtRoom,
+}
+
+impl ShortWriter {
+    /// One that took nothing yet.
+    fn new(alloc: Global, room: usize, a_call: usize, at_room: AtRoom) -> ShortWriter {
+        ShortWriter {
+            taken: Vec::new(alloc),
+            room,
+            a_call,
+            calls: 0,
+            flushes: 0,
+            at_room,
+        }
+    }
+}
+
+impl Write for ShortWriter {
+    fn write(&mut self, buf: &[u8]) -> io::Result<usize> {
+        self.calls = self.calls.wrapping_add(1);
+        let count = buf
+            .len()
+            .min(self.a_call)
+            .min(self.room.saturating_sub(self.taken.len()));
+        if count == 0 && !buf.is_empty() {
+            return match self.at_room {
+                AtRoom::Fail(kind) => Err(Error::from(kind)),
+                AtRoom::TakeNone => Ok(0),
+            };
+        }
+        self.taken.extend_from_slice(&buf[..count])?;
+        Ok(count)
+    }
+
+    fn flush(&mut self) -> io::Result<()> {
+        self.flushes = self.flushes.wrapping_add(1);
+        match self.at_room {
+            AtRoom::Fail(kind) if self.room == 0 => Err(Error::from(kind)),
+            _ => Ok(()),
+        }
+    }
+}
+
+/// How many bytes are taken of so many, up to a limit, where they are over it, or else whether they came as they are.
+fn taken_of(alloc: Global, size: u32, most: u32) -> Result<String, AllocError> {
+    let script = [b'x'; 20001];
+    let script = script.get(..size as usize).unwrap_or(b"too long");
+    let mut left = script;
+    let mut reader = Fused::new(&mut left);
+    let read = read_input(alloc, &mut reader, most as usize);
+    let is_sound = reader.fault().is_none();
+    let taken = script.len().saturating_sub(left.len());
+    match read {
+        Ok(text) => format!(in alloc; "{}", is_sound && text.as_slice() == script),
+        Err(InputError::TooLong) => format!(in alloc; "{taken}"),
+        Err(error) => format!(in alloc; "{error:?}"),
+    }
+}
+
+/// The bytes that a reader has, the limit, and how many are taken where they are over it, or that all come as they are.
+const SIZES: &str = "\
+0 0 => true
+1 0 => 1
+5 5 => true
+6 5 => 6
+8191 8192 => true
+8192 8192 => true
+8193 8192 => 8193
+20000 20000 => true
+20001 20000 => 20001";
+
+/// The same of a size and a limit.
+fn taken(alloc: Global, case: &str) -> Result<String, AllocError> {
+    let (size, most) = cut(case, " ");
+    taken_of(alloc, size.parse().unwrap_or(0), most.parse().unwrap_or(0))
+}
+
+#[test]
+fn reads_up_to_the_limit(rt: HostRuntime) -> Result<(), Fail> {
+    expect_told_lines(rt, SIZES, taken)
+}
+
+/// Whether a reader without an end is refused.
+fn is_refused(alloc: Global, most: u32) -> bool {
+    let mut reader = Fused::new(io::repeat(b'x'));
+    let result = read_input(alloc, &mut reader, most as usize);
+    matches!(&result, Err(InputError::TooLong)) && reader.fault().is_none()
+}
+
+#[test]
+fn refuses_a_reader_without_an_end(rt: HostRuntime) {
+    for most in [0u32, 1, 8191, 8192, 100_000] {
+        assert!(rt; is_refused(rt.alloc(), most), "at {most}");
+    }
+}
+
+/// Whether what a reader has left can't be read, for a fault of this kind.
+fn fails(alloc: Global, reader: &mut Fused<&mut StutteringReader>, kind: ErrorKind) -> bool {
+    let result = read_input(alloc, reader, 10);
+    let is_kind = match reader.fault() {
+        Some(error) => error.kind() == kind,
+        None => false,
+    };
+    is_kind && matches!(&result, Err(InputError::ReadFault))
+}
+
+/// Whether reading ends at the fault of a reader that gives so many bytes, and again where it is tried once more, and behind the fault no
+/// more is asked.
+fn stops(alloc: Global, sound: usize, kind: ErrorKind) -> bool {
+    let mut stuttering = StutteringReader {
+        given: 0,
+        sound,
+        kind,
+    };
+    let mut reader = Fused::new(&mut stuttering);
+    let stops = fails(alloc, &mut reader, kind) && fails(alloc, &mut reader, kind);
+    stops && stuttering.given == sound.wrapping_add(1)
+}
+
+/// The same of each kind of fault.
+fn stops_at_each(alloc: Global, sound: usize) -> bool {
+    stops(alloc, sound, ErrorKind::Other)
+        && stops(alloc, sound, ErrorKind::Interrupted)
+        && stops(alloc, sound, ErrorKind::UnexpectedEof)
+}
+
+#[test]
+fn stops_at_a_fault_of_the_reader(rt: HostRuntime) {
+    for sound in [0usize, 1, 5] {
+        assert!(rt; stops_at_each(rt.alloc(), sound), "at {sound}");
+    }
+}
+
+/// Tells the fields of a record, with `|` after each.
+fn tell_record(record: &ByteRecord, text: &mut String) -> Result<(), AllocError> {
+    for place in 0..record.len() {
+        let field = record.get(place).unwrap_or(b"no field");
+        text.push_str(str::from_utf8(field).unwrap_or("not UTF-8"))?;
+        text.push('|')?;
+    }
+    Ok(())
+}
+
+/// Tells the records that are left, up to nine, with `;` after each. They are read into one place.
+fn tell_records(
+    records: &mut Records<'_>,
+    record: &mut ByteRecord,
+    text: &mut String,
+) -> Result<(), AllocError> {
+    for _ in 0..9 {
+        if !records.read(record)? {
+            break;
+        }
+        tell_record(record, text)?;
+        text.push(';')?;
+    }
+    Ok(())
+}
+
+/// Tells the records that are left, up to nine, and whether one comes behind the last.
+fn tell_all(alloc: Global, records: &mut Records<'_>, text: &mut String) -> Result<(), AllocError> {
+    let mut record = ByteRecord::new(alloc);
+    let told = tell_records(records, &mut record, text);
+    drop(record);
+    told?;
+    if records.next()?.is_some() {
+        return text.push_str("a record behind the last");
+    }
+    Ok(())
+}
+
+/// The records of a script.
+fn records_told(alloc: Global, script: &str) -> Result<String, AllocError> {
+    let mut records = Records::new(alloc, script.as_bytes());
+    let mut text = String::new(alloc);
+    let told = tell_all(alloc, &mut records, &mut text);
+    drop(records);
+    told?;
+    text.replace(alloc, "\n", "/")
+}
+
+/// The records of a script, in which `/` stands for the end of a line.
+fn records_of(alloc: Global, script: &str) -> Result<String, AllocError> {
+    let script = script.replace(alloc, "/", "\n")?;
+    records_told(alloc, &script)
+}
+
+/// Scripts and their records.
+const RECORDS: &str = "\
+/\r// => 
+ => 
+a,b/c/ => a|b|;c|;
+a,b\r/c,d,e\r/\r/f => a|b|;c|d|e|;f|;
+a\rb => a|;b|;
+,/ => ||;
+\"\"/ => |;
+\"a,\"\"b\"\"/c\",d/ => a,\"b\"/c|d|;
+a\"b\",\" c \"/ => a\"b\"| c |;
+\"open,//to the end => open,//to the end|;
+\u{feff}a,b/ => a|b|;
+a/\u{feff}b/ => a|;\u{feff}b|;";
+
+#[test]
+fn reads_the_records(rt: HostRuntime) -> Result<(), Fail> {
+    expect_told_lines(rt, RECORDS, records_of)
+}
+
+/// How many of five records are passed over in turn, and which are left.
+const PASSED: &str = "\
+0 0 => a|;b|;c|;d|;e|;
+2 0 => c|;d|;e|;
+2 2 => e|;
+2 9 => 
+5 1 => 
+18446744073709551615 18446744073709551615 => ";
+
+/// Tells the records that are left where so many are passed over, and then so many again.
+fn tell_left(
+    alloc: Global,
+    records: &mut Records<'_>,
+    first: usize,
+    second: usize,
+    text: &mut String,
+) -> Result<(), AllocError> {
+    records.skip(first)?;
+    records.skip(second)?;
+    tell_all(alloc, records, text)
+}
+
+/// The records that are left of five.
+fn left(alloc: Global, case: &str) -> Result<String, AllocError> {
+    let (first, second) = cut(case, " ");
+    let (first, second) = (first.parse().unwrap_or(7), second.parse().unwrap_or(7));
+    let mut records = Records::new(alloc, b"a\nb\n\nc\nd\ne");
+    let mut text = String::new(alloc);
+    let told = tell_left(alloc, &mut records, first, second, &mut text);
+    drop(records);
+    told?;
+    Ok(text)
+}
+
+#[test]
+fn passes_over_records_past_the_end(rt: HostRuntime) -> Result<(), Fail> {
+    expect_told_lines(rt, PASSED, left)
+}
+
+/// Whether a text is written to a writer with so much room, or else its front, and a fault is told then, and stays.
+fn fills(rt: HostRuntime, text: &[u8], room: usize, a_call: usize, at_room: AtRoom) -> bool {
+    let mut short = ShortWriter::new(rt.alloc(), room, a_call, at_room);
+    let mut writer = Fused::new(&mut short);
+    let is_whole = put_all(&mut writer, text).is_ok();
+    let is_told = is_whole == writer.fault().is_none() && is_whole == writer.flush().is_ok();
+    let stays = is_whole || put_all(&mut writer, b"more").is_err();
+    is_whole == (room >= text.len())
+        && is_told
+        && stays
+        && short.taken.len() == room.min(text.len())
+        && text.starts_with(short.taken.as_slice())
+}
+
+/// Whether the same holds of a text whatever the room.
+fn fills_any(rt: HostRuntime, a_call: usize, at_room: AtRoom) -> bool {
+    for room in 0..16usize {
+        if !fills(rt, b"new a\ncount 0\n", room, a_call, at_room) {
+            return false;
+        }
+    }
+    true
+}
+
+/// The same whatever the writer does once it has as many bytes as it takes.
+fn fills_at_each_end(rt: HostRuntime, a_call: usize) -> bool {
+    fills_any(rt, a_call, AtRoom::TakeNone)
+        && fills_any(rt, a_call, AtRoom::Fail(ErrorKind::StorageFull))
+        && fills_any(rt, a_call, AtRoom::Fail(ErrorKind::Interrupted))
+}
+
+#[test]
+fn writes_all_or_the_front(rt: HostRuntime) {
+    for a_call in [1usize, 3, 100] {
+        assert!(rt; fills_at_each_end(rt, a_call), "at {a_call}");
+    }
+}
+
+/// Whether a writer of so much room is flushed when it is asked to, and then alone, and how often it is if that is asked twice.
+fn flushes(rt: HostRuntime, room: usize) -> (bool, usize) {
+    let at_room = AtRoom::Fail(ErrorKind::StorageFull);
+    let mut short = ShortWriter::new(rt.alloc(), room, 3, at_room);
+    let mut writer = Fused::new(&mut short);
+    let text = b"count 0\n".get(..room).unwrap_or(b"count 0\n");
+    let is_written = put_all(&mut writer, text).is_ok();
+    let first = writer.flush().is_ok();
+    let again = writer.flush().is_ok();
+    let is_told = first == again && first == writer.fault().is_none();
+    (is_written && is_told, short.flushes)
+}
+
+#[test]
+fn flushes_the_writer_behind(rt: HostRuntime) {
+    assert!(rt;
+        flushes(rt, 8) == (true, 2),
+        "twice, and not by what writes"
+    );
+    assert!(rt;
+        flushes(rt, 0) == (true, 1),
+        "a flush that failed is not tried again"
+    );
+}
+
+#[test]
+fn writes_nothing_without_a_call(rt: HostRuntime) {
+    let mut short = ShortWriter::new(rt.alloc(), 0, 1, AtRoom::TakeNone);
+    let mut writer = Fused::new(&mut short);
+    assert!(rt; put_all(&mut writer, b"").is_ok());
+    assert!(rt; writer.fault().is_none());
+    assert_eq!(rt; short.calls, 0);
+}
+
+#[test]
+fn asks_a_failed_writer_no_more(rt: HostRuntime) {
+    let mut short = ShortWriter::new(rt.alloc(), 0, 1, AtRoom::TakeNone);
+    let mut writer = Fused::new(&mut short);
+    assert!(rt; put_all(&mut writer, b"x").is_err());
+    assert!(rt; put_all(&mut writer, b"x").is_err());
+    assert!(rt; writer.flush().is_err());
+    assert_eq!(rt; short.calls, 1);
+}

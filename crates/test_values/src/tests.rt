@@ -1,0 +1,7 @@
+mod aggregates;
+mod concatenated;
+mod files;
+mod longest;
+mod rows;
+mod schemas;
+mod tokens;
