@@ -10,7 +10,7 @@ use Rattle.packed_rows.specs.Packing.{packing}
 use Rattle.packed_rows.specs.View.{bytes_of}
 use Rattle.having_filter.specs.Kept.{key_kinds}
 use Rattle.hash_agg.specs.declared.input.Input.{Input}
-use Rattle.hash_agg.specs.declared.input.Input.TheVariants.{Rows, Flat, Groups}
+use Rattle.hash_agg.specs.declared.input.Input.TheVariants as code
 use Rattle.hash_agg.specs.declared.input.Packings.{Packings}
 use Rattle.hash_agg.specs.declared.input.Packings.TheVariants.{Apart, Concatenated}
 use Rattle.group_runs.specs.Runs.{Entry, packed_keys}
@@ -23,9 +23,9 @@ pub data Brought : Type 0 where
 
 -- what an input of the code brings
 abbrev pub brought : Input → Brought
-brought (Rows packed) = Packed (bytes_of packed.now)
-brought (Flat packed) = Packed packed.now
-brought (Groups run rows) = Counted run.now rows
+brought (code.Rows packed) = Packed (bytes_of packed.now)
+brought (code.Packed packed) = Packed packed.now
+brought (code.Groups run rows) = Counted run.now rows
 
 -- packed rows, as a list
 abbrev pub packings_in : Packings → List (List ℕ)

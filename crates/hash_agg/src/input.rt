@@ -12,7 +12,7 @@ pub enum Input<'a> {
     /// Rows of the query's table, packed.
     Rows(&'a [Vec<u8>]),
     /// The same, one behind the other in one run of bytes.
-    Flat(&'a PackedRows),
+    Packed(&'a PackedRows),
     /// Groups, of which no state counts more than so many rows.
     Groups { run: &'a Run, rows: u64 },
 }

@@ -69,10 +69,10 @@ pub(crate) fn united(alloc: Global, query: &Query, parts: &[&OriginPart]) -> Res
     let mut all = united(alloc, query, front)?;
     // The run of a single part is added as it stands.
     if let Some(run) = run_alone(back) {
-        all.absorb(alloc, query, run)?;
+        all.merge_from(alloc, query, run)?;
         return Ok(all);
     }
     let more = united(alloc, query, back)?;
-    all.absorb(alloc, query, &more)?;
+    all.merge_from(alloc, query, &more)?;
     Ok(all)
 }

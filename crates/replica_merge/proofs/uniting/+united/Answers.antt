@@ -13,8 +13,8 @@ united-requires t c = (
   ),
 )
 
-pub absorb-requires : goal.absorb-requires
-absorb-requires t c =
+pub merge_from-requires : goal.merge_from-requires
+merge_from-requires t c =
     halves_room (meaning c.args.query.now) c.args.parts.now c.split_at.result.0.now c.split_at.result.1.now c.in_ok-all.all
     c.in-Some.run'.now c.split_at.ensures.by_index.0 c.requires.few
     c.in_ok-all.ensures
@@ -25,12 +25,12 @@ absorb-requires t c =
 pub returns-in-Some : goal.returns-in-Some
 returns-in-Some t c =
     halves_united (meaning c.args.query.now) c.args.parts.now c.split_at.result.0.now c.split_at.result.1.now c.in_ok-all.all
-    c.in-Some.run'.now c.absorb.new.self c.split_at.ensures.by_index.0 c.requires.few
+    c.in-Some.run'.now c.merge_from.new.self c.split_at.ensures.by_index.0 c.requires.few
     c.in_ok-all.ensures
     (one_part (meaning c.args.query.now) c.split_at.result.1.now c.in-Some.run'.now
     (back_inputs (meaning c.args.query.now) c.args.parts.now c.split_at.result.0.now c.split_at.result.1.now c.split_at.ensures.by_index.0
     c.requires.inputs) c.in-Some.ensures.alone)
-    c.in_ok-absorb.ensures.added
+    c.in_ok-merge_from.ensures.added
 
 pub united-requires-2 : goal.united-requires-2
 united-requires-2 t c = (
@@ -42,8 +42,8 @@ united-requires-2 t c = (
   ),
 )
 
-pub absorb-requires-2 : goal.absorb-requires-2
-absorb-requires-2 t c =
+pub merge_from-requires-2 : goal.merge_from-requires-2
+merge_from-requires-2 t c =
     halves_room (meaning c.args.query.now) c.args.parts.now c.split_at.result.0.now c.split_at.result.1.now c.in_ok-all.all
     c.in_ok-more.more c.split_at.ensures.by_index.0 c.requires.few
     c.in_ok-all.ensures c.in_ok-more.ensures
@@ -51,5 +51,5 @@ absorb-requires-2 t c =
 pub returns : goal.returns
 returns t c =
     halves_united (meaning c.args.query.now) c.args.parts.now c.split_at.result.0.now c.split_at.result.1.now c.in_ok-all.all
-    c.in_ok-more.more c.absorb-2.new.self c.split_at.ensures.by_index.0 c.requires.few
-    c.in_ok-all.ensures c.in_ok-more.ensures c.in_ok-absorb-2.ensures.added
+    c.in_ok-more.more c.merge_from-2.new.self c.split_at.ensures.by_index.0 c.requires.few
+    c.in_ok-all.ensures c.in_ok-more.ensures c.in_ok-merge_from-2.ensures.added

@@ -19,11 +19,11 @@ returns-in-Rows g c =
     subst (λ (input : Input). Adds Added g.H.KeyHash.hash_of g.D.TapeDisk (source_of (brought input)) c.args.self.now c.args.disk.now
     c.add_rows.result c.add_rows.new.self c.add_rows.new.disk) (sym c.in-Rows.is) c.add_rows.ensures
 
-pub returns-in-Flat : goal.returns-in-Flat
-returns-in-Flat g c =
+pub returns-in-Packed : goal.returns-in-Packed
+returns-in-Packed g c =
     subst (λ (input : Input). Adds Added g.H.KeyHash.hash_of g.D.TapeDisk (source_of (brought input)) c.args.self.now c.args.disk.now
-    c.add_rows-in-Flat.result c.add_rows-in-Flat.new.self c.add_rows-in-Flat.new.disk) (sym c.in-Flat.is)
-    c.add_rows-in-Flat.ensures
+    c.add_rows-in-Packed.result c.add_rows-in-Packed.new.self c.add_rows-in-Packed.new.disk) (sym c.in-Packed.is)
+    c.add_rows-in-Packed.ensures
 
 pub returns-in-Groups : goal.returns-in-Groups
 returns-in-Groups g c =
