@@ -1,6 +1,6 @@
 //! What each command does.
 
-use crate::files::{read, write_out};
+use crate::files::{occupant_of_out, read, write_out};
 use clap::ArgMatches;
 use command_streams::{
     Diagnostic, OutputStatus, Problem, Streams, open_disk, reason_of, remove_disk, system_seed,
@@ -14,16 +14,15 @@ use file_sentences::{
     saving_reason, summary_reason, text_of,
 };
 use hash_agg::{Fnv1a, Means, TapeDisk, Work};
-use holding_sentences::holding_lines;
+use holding_sentences::{answer_line, holding_lines};
 use replica_merge::Replica;
 use replies::{ExitKind, Format, Refusal, Reply, origin_lines, put_reply, refusal_ending, table};
-use script_io::{put_all, read_limit};
+use script_io::{Occupant, put_all, read_limit};
 use spill_tapes::{MemDisk, SpillDisk};
 use std::alloc::{AllocError, Global};
 use std::io::Write;
 use std::random::RandomSource;
 use std::rt::Files;
-use whole_files::is_another;
 
 /// The format of a table, by its name on the command line.
 fn format_named(text: &str) -> Format {
@@ -65,10 +64,10 @@ fn new_replica<'p>(alloc: Global, matches: &ArgMatches<'p>) -> Result<Replica, P
 /// The replica that a command begins with.
 fn first_replica<'p, R: Files + AllocGlobal>(
     rt: &R,
-    task: Subcommand,
+    subcommand: Subcommand,
     matches: &ArgMatches<'p>,
 ) -> Result<Replica, Problem<'p>> {
-    match task {
+    match subcommand {
         Subcommand::New => new_replica(rt.alloc(), matches),
         Subcommand::Feed | Subcommand::Merge | Subcommand::Known | Subcommand::Answer => {
             open_replica(rt, value(matches, IN))
@@ -77,7 +76,7 @@ fn first_replica<'p, R: Files + AllocGlobal>(
 }
 
 /// The means of a limit that a text tells.
-fn means_told(text: &str) -> Result<Means<Fnv1a>, Refusal> {
+fn means_of_limit(text: &str) -> Result<Means<Fnv1a>, Refusal> {
     match read_limit(text.as_bytes()) {
         Some(limit) => Ok(Means::new(limit, Fnv1a)?),
         None => Err(Refusal::BadCommand),
@@ -85,12 +84,12 @@ fn means_told(text: &str) -> Result<Means<Fnv1a>, Refusal> {
 }
 
 /// The means that a command tells, or the usual ones.
-fn means_of(task: Subcommand, matches: &ArgMatches<'_>) -> Result<Means<Fnv1a>, Refusal> {
-    if !task.groups_rows() {
+fn means_of(subcommand: Subcommand, matches: &ArgMatches<'_>) -> Result<Means<Fnv1a>, Refusal> {
+    if !subcommand.takes_limit() {
         return Ok(Means::usual(Fnv1a));
     }
     match matches.get_str(LIMIT) {
-        Some(text) => means_told(text),
+        Some(text) => means_of_limit(text),
         None => Ok(Means::usual(Fnv1a)),
     }
 }
@@ -137,21 +136,8 @@ fn take_file<'p, R: Files + AllocGlobal, D: TapeDisk>(
     }
 }
 
-/// Whether a file is there in the place of OUT which is none of those that are read. Where there is no memory to look, none is.
-fn is_standing<R: Files + AllocGlobal>(
-    rt: &R,
-    task: Subcommand,
-    matches: &ArgMatches<'_>,
-    out: &str,
-) -> bool {
-    match task.files_read(rt.alloc(), matches) {
-        Ok(paths) => is_another(rt, out, &paths),
-        Err(_) => false,
-    }
-}
-
 /// A command that runs: the files that it reaches, its streams, its disk of tapes and whether that lies in a file, what its grouping
-/// took, how many files were taken or passed over, and whether OUT was written.
+/// took, how many files were taken or passed over, whether OUT is to be a new file, and whether it was written.
 #[derive(Drop)]
 pub struct Session<'c, R: Files, W, E> {
     rt: &'c R,
@@ -163,6 +149,7 @@ pub struct Session<'c, R: Files, W, E> {
     passed: usize,
     files: usize,
     tells_progress: bool,
+    is_new: bool,
     is_written: bool,
 }
 
@@ -179,6 +166,7 @@ impl<'c, R: Files + AllocGlobal + RandomSource, W: Write, E: Write> Session<'c, 
             passed: 0,
             files: 0,
             tells_progress: false,
+            is_new: false,
             is_written: false,
         }
     }
@@ -200,9 +188,9 @@ impl<'c, R: Files + AllocGlobal + RandomSource, W: Write, E: Write> Session<'c, 
     }
 
     /// Says what was refused, and what became of OUT.
-    fn complain<'t>(&mut self, problem: &'t Problem<'_>, fate: Option<OutputStatus<'t>>) {
+    fn complain<'t>(&mut self, problem: &'t Problem<'_>, output: Option<OutputStatus<'t>>) {
         if !problem.is_unread() {
-            self.streams.say(&Diagnostic { problem, fate });
+            self.streams.say(&Diagnostic { problem, output });
         }
     }
 
@@ -241,11 +229,11 @@ impl<'c, R: Files + AllocGlobal + RandomSource, W: Write, E: Write> Session<'c, 
     }
 
     /// Removes the file in which the tapes lay, when nothing is spilled any more.
-    fn remove_spill(&mut self, task: Subcommand, matches: &ArgMatches<'_>) {
+    fn remove_spill(&mut self, subcommand: Subcommand, matches: &ArgMatches<'_>) {
         if self.in_file {
             self.in_file = false;
             let alloc = self.streams.alloc;
-            let spill = task.spill(matches);
+            let spill = subcommand.spill(matches);
             remove_disk(self.rt, alloc, spill, self.streams.errors);
         }
     }
@@ -259,7 +247,7 @@ impl<'c, R: Files + AllocGlobal + RandomSource, W: Write, E: Write> Session<'c, 
                 return Err(Problem::because(path, why, reason));
             }
         };
-        write_out(self.rt, path, &file)?;
+        write_out(self.rt, path, &file, self.is_new)?;
         self.is_written = true;
         self.reply(&Reply::Saved(file.bytes().len()))
     }
@@ -300,6 +288,13 @@ impl<'c, R: Files + AllocGlobal + RandomSource, W: Write, E: Write> Session<'c, 
         }
     }
 
+    /// Tells what an answer was made of. Nothing is told where there is no memory for that.
+    fn explain_answer(&mut self, replica: &Replica) {
+        if let Ok(Some(line)) = answer_line(self.streams.alloc, replica) {
+            self.streams.say(&line);
+        }
+    }
+
     /// Prints the answer of a replica.
     fn answer<'p>(
         &mut self,
@@ -317,19 +312,25 @@ impl<'c, R: Files + AllocGlobal + RandomSource, W: Write, E: Write> Session<'c, 
     fn perform<'p>(
         &mut self,
         replica: &mut Replica,
-        task: Subcommand,
+        subcommand: Subcommand,
         matches: &ArgMatches<'p>,
         means: &Means<Fnv1a>,
     ) -> Result<(), Problem<'p>> {
-        match task {
+        match subcommand {
             Subcommand::Known => {
                 self.list(replica, value(matches, IN))?;
-                if task.is_told(matches, EXPLAIN) {
+                if subcommand.is_told(matches, EXPLAIN) {
                     self.explain_holding(replica);
                 }
                 return Ok(());
             }
-            Subcommand::Answer => return self.answer(replica, matches),
+            Subcommand::Answer => {
+                self.answer(replica, matches)?;
+                if subcommand.is_told(matches, EXPLAIN) {
+                    self.explain_answer(replica);
+                }
+                return Ok(());
+            }
             Subcommand::Feed => {
                 let paths = matches.get_strs(BATCH).unwrap_or_default();
                 self.take_files(FileKind::Batch, replica, paths, means)?;
@@ -343,19 +344,19 @@ impl<'c, R: Files + AllocGlobal + RandomSource, W: Write, E: Write> Session<'c, 
             Subcommand::New => {}
         }
         // OUT may have the path of the file for what is spilled, which is no longer wanted.
-        self.remove_spill(task, matches);
+        self.remove_spill(subcommand, matches);
         self.save(replica, value(matches, OUT))
     }
 
     /// Runs a command on files: each begins with one replica.
     fn run_command<'p>(
         &mut self,
-        task: Subcommand,
+        subcommand: Subcommand,
         matches: &ArgMatches<'p>,
         means: &Means<Fnv1a>,
     ) -> Result<(), Problem<'p>> {
-        let mut replica = first_replica(self.rt, task, matches)?;
-        let done = self.perform(&mut replica, task, matches, means);
+        let mut replica = first_replica(self.rt, subcommand, matches)?;
+        let done = self.perform(&mut replica, subcommand, matches, means);
         drop(replica);
         done
     }
@@ -372,8 +373,12 @@ impl<'c, R: Files + AllocGlobal + RandomSource, W: Write, E: Write> Session<'c, 
     }
 
     /// What became of OUT, if a command writes one.
-    fn fate<'p>(&self, task: Subcommand, matches: &ArgMatches<'p>) -> Option<OutputStatus<'p>> {
-        match task.out(matches) {
+    fn output_status<'p>(
+        &self,
+        subcommand: Subcommand,
+        matches: &ArgMatches<'p>,
+    ) -> Option<OutputStatus<'p>> {
+        match subcommand.out(matches) {
             Some(out) => Some(OutputStatus {
                 out,
                 is_written: self.is_written,
@@ -383,8 +388,8 @@ impl<'c, R: Files + AllocGlobal + RandomSource, W: Write, E: Write> Session<'c, 
     }
 
     /// Ends a command that stopped.
-    fn stop(&mut self, problem: Problem<'_>, fate: Option<OutputStatus<'_>>) -> ExitKind {
-        self.complain(&problem, fate);
+    fn stop(&mut self, problem: Problem<'_>, output: Option<OutputStatus<'_>>) -> ExitKind {
+        self.complain(&problem, output);
         match self.reply(&Reply::Refused(problem.why)) {
             Ok(()) => refusal_ending(problem.why),
             Err(_) => ExitKind::Fault,
@@ -393,12 +398,12 @@ impl<'c, R: Files + AllocGlobal + RandomSource, W: Write, E: Write> Session<'c, 
 
     /// Says why a limit is none.
     fn limit_reason(&self, matches: &ArgMatches<'_>, why: Refusal) -> Result<String, AllocError> {
-        let told = Quoted(matches.get_str(LIMIT).unwrap_or("").as_bytes());
+        let given = Quoted(matches.get_str(LIMIT).unwrap_or("").as_bytes());
         if matches!(why, Refusal::BadCommand) {
-            format!(in self.streams.alloc; "{told}: a number of bytes has 1 to 19 digits")
+            format!(in self.streams.alloc; "{given}: a number of bytes has 1 to 19 digits")
         } else {
             format!(in self.streams.alloc;
-                "{told} is out of range, which is 65,536 to 1,099,511,627,776 bytes"
+                "{given} is out of range, which is 65,536 to 1,099,511,627,776 bytes"
             )
         }
     }
@@ -406,7 +411,7 @@ impl<'c, R: Files + AllocGlobal + RandomSource, W: Write, E: Write> Session<'c, 
     /// Ends a command whose limit was refused. A text that is no number of bytes is no command line.
     fn refuse_limit(
         &mut self,
-        task: Subcommand,
+        subcommand: Subcommand,
         matches: &ArgMatches<'_>,
         why: Refusal,
     ) -> ExitKind {
@@ -415,67 +420,88 @@ impl<'c, R: Files + AllocGlobal + RandomSource, W: Write, E: Write> Session<'c, 
             Err(error) => Err(error),
         };
         let problem = Problem::because("--limit", why, reason);
-        let fate = self.fate(task, matches);
+        let output = self.output_status(subcommand, matches);
         if matches!(why, Refusal::BadCommand) {
-            self.complain(&problem, fate);
+            self.complain(&problem, output);
             return ExitKind::BadUsage;
         }
-        self.stop(problem, fate)
+        self.stop(problem, output)
     }
 
-    /// OUT, where a file is there which is none of those that are read.
-    fn standing<'p>(&self, task: Subcommand, matches: &ArgMatches<'p>) -> Option<&'p str> {
-        let out = task.out(matches)?;
-        if is_standing(self.rt, task, matches, out) {
-            Some(out)
-        } else {
-            None
-        }
-    }
-
-    /// Says that a file in the place of OUT is kept, or that it is replaced.
-    fn tell_standing(&mut self, standing: Option<&str>, is_kept: bool) {
-        if let Some(out) = standing {
-            self.streams.say(&Standing { out, is_kept });
+    /// OUT, where a file is there which is none of those that are read. Where that can't be found out, it is a problem only to one that
+    /// keeps such a file.
+    fn standing<'p>(
+        &mut self,
+        subcommand: Subcommand,
+        matches: &ArgMatches<'p>,
+    ) -> Result<Option<&'p str>, Problem<'p>> {
+        let Some(out) = subcommand.out(matches) else {
+            return Ok(None);
+        };
+        let keeps = subcommand.is_told(matches, NO_CLOBBER);
+        match occupant_of_out(self.rt, subcommand, matches, out) {
+            Ok(Occupant::Another) => Ok(Some(out)),
+            Ok(Occupant::Listed) => Ok(None),
+            Ok(Occupant::Nothing) => {
+                self.is_new = keeps;
+                Ok(None)
+            }
+            Err(problem) if keeps => Err(problem),
+            Err(_) => Ok(None),
         }
     }
 
     /// Sends out what was gathered, and tells how the command ended.
-    fn finish(&mut self, ending: ExitKind, fate: Option<OutputStatus<'_>>) -> ExitKind {
+    fn finish(&mut self, exit: ExitKind, output: Option<OutputStatus<'_>>) -> ExitKind {
         match self.streams.writer.flush() {
-            Ok(()) => ending,
+            Ok(()) => exit,
             Err(_) => {
-                if ending != ExitKind::Fault {
+                if exit != ExitKind::Fault {
                     let problem = self.streams.output_fault();
-                    self.complain(&problem, fate);
+                    self.complain(&problem, output);
                 }
                 ExitKind::Fault
             }
         }
     }
 
-    /// Runs a command on files, and tells how it ended.
-    pub fn run(mut self, task: Subcommand, matches: &ArgMatches<'_>) -> ExitKind {
-        let standing = self.standing(task, matches);
-        if task.is_told(matches, NO_CLOBBER) && standing.is_some() {
-            self.tell_standing(standing, true);
-            return ExitKind::BadUsage;
+    /// Runs a command on files which may write OUT, and tells how it ended.
+    fn run_beside(
+        &mut self,
+        subcommand: Subcommand,
+        matches: &ArgMatches<'_>,
+        standing: Option<&str>,
+    ) -> ExitKind {
+        match means_of(subcommand, matches) {
+            Ok(means) => self.run_with(subcommand, matches, means, standing),
+            Err(why) => self.refuse_limit(subcommand, matches, why),
         }
-        let ending = match means_of(task, matches) {
-            Ok(means) => self.run_with(task, matches, means, standing),
-            Err(why) => self.refuse_limit(task, matches, why),
+    }
+
+    /// Runs a command on files, and tells how it ended.
+    pub fn run(mut self, subcommand: Subcommand, matches: &ArgMatches<'_>) -> ExitKind {
+        let exit = match self.standing(subcommand, matches) {
+            Ok(Some(out)) if subcommand.is_told(matches, NO_CLOBBER) => {
+                self.streams.say(&Standing { out, is_kept: true });
+                return ExitKind::BadUsage;
+            }
+            Ok(standing) => self.run_beside(subcommand, matches, standing),
+            Err(problem) => {
+                let output = self.output_status(subcommand, matches);
+                self.stop(problem, output)
+            }
         };
-        let fate = self.fate(task, matches);
-        self.finish(ending, fate)
+        let output = self.output_status(subcommand, matches);
+        self.finish(exit, output)
     }
 
     /// The means of a command that aggregates, with a seed of the system's.
     fn seeded(
         &self,
-        task: Subcommand,
+        subcommand: Subcommand,
         means: Means<Fnv1a>,
     ) -> Result<Means<Fnv1a>, Problem<'static>> {
-        if !task.aggregates() {
+        if !subcommand.aggregates() {
             return Ok(means);
         }
         let seed = system_seed(self.rt)?;
@@ -485,36 +511,42 @@ impl<'c, R: Files + AllocGlobal + RandomSource, W: Write, E: Write> Session<'c, 
     /// Runs a command on files by means, with the disk of tapes that it tells, and tells how it ended.
     fn run_with(
         &mut self,
-        task: Subcommand,
+        subcommand: Subcommand,
         matches: &ArgMatches<'_>,
         means: Means<Fnv1a>,
         standing: Option<&str>,
     ) -> ExitKind {
-        self.tells_progress = task.is_told(matches, PROGRESS) || self.streams.terminals.errors;
-        let spill = task.spill(matches);
+        self.tells_progress = subcommand.is_told(matches, PROGRESS)
+            || self.streams.terminals.errors;
+        let spill = subcommand.spill(matches);
         match open_disk(self.rt, spill) {
             Ok(disk) => self.disk = disk,
             Err(problem) => {
-                let fate = self.fate(task, matches);
-                return self.stop(problem, fate);
+                let output = self.output_status(subcommand, matches);
+                return self.stop(problem, output);
             }
         }
         self.in_file = spill.is_some();
-        self.tell_standing(standing, false);
-        let ending = match self.seeded(task, means) {
-            Ok(means) => self.run_by(task, matches, &means),
+        if let Some(out) = standing {
+            self.streams.say(&Standing {
+                out,
+                is_kept: false,
+            });
+        }
+        let exit = match self.seeded(subcommand, means) {
+            Ok(means) => self.run_by(subcommand, matches, &means),
             Err(problem) => {
-                let fate = self.fate(task, matches);
-                self.stop(problem, fate)
+                let output = self.output_status(subcommand, matches);
+                self.stop(problem, output)
             }
         };
-        self.remove_spill(task, matches);
-        ending
+        self.remove_spill(subcommand, matches);
+        exit
     }
 
     /// Says that files were passed over, though OUT was written.
-    fn tell_passed(&mut self, task: Subcommand, matches: &ArgMatches<'_>) {
-        if let Some(out) = task.out(matches) {
+    fn tell_passed(&mut self, subcommand: Subcommand, matches: &ArgMatches<'_>) {
+        if let Some(out) = subcommand.out(matches) {
             self.streams.say(&PassedOver {
                 out,
                 passed: self.passed,
@@ -526,23 +558,23 @@ impl<'c, R: Files + AllocGlobal + RandomSource, W: Write, E: Write> Session<'c, 
     /// Runs a command on files by means, and tells how it ended.
     fn run_by(
         &mut self,
-        task: Subcommand,
+        subcommand: Subcommand,
         matches: &ArgMatches<'_>,
         means: &Means<Fnv1a>,
     ) -> ExitKind {
-        let done = self.run_command(task, matches, means);
-        if done.is_ok() && task.groups_rows() && task.is_told(matches, EXPLAIN) {
+        let done = self.run_command(subcommand, matches, means);
+        if done.is_ok() && subcommand.aggregates() && subcommand.is_told(matches, EXPLAIN) {
             self.explain(means.limit());
         }
         match done {
             Ok(()) if self.passed > 0 => {
-                self.tell_passed(task, matches);
+                self.tell_passed(subcommand, matches);
                 ExitKind::Refused
             }
             Ok(()) => ExitKind::Done,
             Err(problem) => {
-                let fate = self.fate(task, matches);
-                self.stop(problem, fate)
+                let output = self.output_status(subcommand, matches);
+                self.stop(problem, output)
             }
         }
     }

@@ -57,14 +57,14 @@ fn end_without_command<W: Write, E: Write>(
 }
 
 /// Runs a command on files, by its name.
-fn run_task<'c, R: Files + AllocGlobal + RandomSource, W: Write, E: Write>(
+fn run_subcommand<'c, R: Files + AllocGlobal + RandomSource, W: Write, E: Write>(
     rt: &'c R,
     name: &str,
     matches: &ArgMatches<'_>,
     streams: Streams<'c, W, E>,
 ) -> ExitKind {
     match Subcommand::named(name) {
-        Some(task) => Session::new(rt, streams).run(task, matches),
+        Some(subcommand) => Session::new(rt, streams).run(subcommand, matches),
         // The parser knows no other.
         None => ExitKind::BadUsage,
     }
@@ -91,7 +91,7 @@ fn run_words<R: Files + AllocGlobal + RandomSource, I: Read, W: Write, E: Write>
             Some(("script", matches)) => {
                 run_script(rt, matches.get_str(SPILL), reader, &mut streams)
             }
-            Some((name, matches)) => run_task(rt, name, matches, streams),
+            Some((name, matches)) => run_subcommand(rt, name, matches, streams),
             // The parser wants a command.
             None => ExitKind::BadUsage,
         },
@@ -103,14 +103,14 @@ fn run_words<R: Files + AllocGlobal + RandomSource, I: Read, W: Write, E: Write>
 fn send_out<W: Write, E: Write>(
     alloc: Global,
     gathered: &mut Fused<W>,
-    ending: ExitKind,
+    exit: ExitKind,
     errors: &mut E,
 ) -> ExitKind {
     match gathered.flush() {
-        Ok(()) => ending,
+        Ok(()) => exit,
         Err(cause) => {
             let problem = Problem::output(Some(cause));
-            if ending != ExitKind::Fault && !problem.is_unread() {
+            if exit != ExitKind::Fault && !problem.is_unread() {
                 say(alloc, errors, &problem);
             }
             ExitKind::Fault
@@ -128,8 +128,8 @@ fn run_through<R: Files + AllocGlobal + RandomSource, I: Read, W: Write + Drop, 
     terminals: Terminals,
 ) -> ExitKind {
     let mut gathered = Fused::new(writer);
-    let ending = run_words(rt, words, reader, &mut gathered, errors, terminals);
-    send_out(rt.alloc(), &mut gathered, ending, errors)
+    let exit = run_words(rt, words, reader, &mut gathered, errors, terminals);
+    send_out(rt.alloc(), &mut gathered, exit, errors)
 }
 
 /// Runs the command of some words, over a writer. Where a person looks at the replies, and where there is no memory to gather them in, they
@@ -167,8 +167,8 @@ pub fn command(
     mut errors: &mut dyn Write,
     terminals: Terminals,
 ) -> u8
-    ensures status { (ending : ExitKind) × (result ≡ status_of ending) }
+    ensures status { (exit : ExitKind) × (result ≡ status_of exit) }
 {
-    let ending = run_gathered(rt, words, &mut reader, &mut writer, &mut errors, terminals);
-    status(ending)
+    let exit = run_gathered(rt, words, &mut reader, &mut writer, &mut errors, terminals);
+    status(exit)
 }

@@ -194,8 +194,8 @@ pub fn run_script<R: Files + AllocGlobal + RandomSource, I: Read, W: Write, E: W
         Ok(disk) => disk,
         Err(problem) => return stop(problem, streams),
     };
-    let ending = run_seeded(rt, reader, streams, &mut disk);
+    let exit = run_seeded(rt, reader, streams, &mut disk);
     drop(disk);
     remove_disk(rt, rt.alloc(), spill, streams.errors);
-    ending
+    exit
 }

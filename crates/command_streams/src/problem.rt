@@ -110,7 +110,7 @@ pub struct OutputStatus<'o> {
 #[derive(Clone, Copy)]
 pub struct Diagnostic<'t, 'p> {
     pub problem: &'t Problem<'p>,
-    pub fate: Option<OutputStatus<'t>>,
+    pub output: Option<OutputStatus<'t>>,
 }
 
 impl fmt::Display for OutputStatus<'_> {
@@ -143,8 +143,8 @@ impl fmt::Display for Diagnostic<'_, '_> {
     fn fmt<W: fmt::Write>(&self, f: &mut fmt::Formatter<W>) -> fmt::Result {
         let problem = self.problem;
         write!(f, "{problem}")?;
-        if let Some(fate) = &self.fate {
-            write!(f, "{fate}")?;
+        if let Some(output) = &self.output {
+            write!(f, "{output}")?;
         }
         match &problem.reason {
             Some(reason) => f.write_str(&reason.picture),

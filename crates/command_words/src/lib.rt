@@ -1,13 +1,13 @@
 //! The words of the command line, and what help says of them.
 #![tactic(auto)]
 
-mod tasks;
+mod subcommands;
 
 use clap::builder::ValueParser;
 use clap::{Arg, ArgAction, ArgMatches, Command, Error};
 use std::alloc::{AllocError, Global};
 use std::convert::AsStr;
-pub use tasks::{Subcommand, value};
+pub use subcommands::{Subcommand, value};
 
 /// The summary file that is written.
 pub const OUT: &str = "OUT";
@@ -33,7 +33,7 @@ pub const LIMIT: &str = "limit";
 /// A file for what is spilled.
 pub const SPILL: &str = "spill";
 
-/// Whether it is told what the work took, or what a summary holds.
+/// Whether it is told what the grouping took, what a summary holds, or what an answer is made of.
 pub const EXPLAIN: &str = "explain";
 
 /// Whether a file is kept that OUT would replace.
@@ -115,14 +115,13 @@ or int8, boolean or bool, or text. TEXT is one query, with or without a last ;
       [GROUP BY COLUMN, ..] [HAVING CONDITION] [ORDER BY TERM, ..]
 
 An ITEM is a column of GROUP BY or a call, and may have another name behind AS.
-A call is count(*) or a function of a column, as sum(sales); the manual page
-agg_tool-script(5) lists the functions, and so does what is said of a wrong one.
-Behind a call FILTER (WHERE CONDITION) may tell which rows it takes. A CONDITION
-has columns, integers, 'texts', TRUE, FALSE, NULL, = <> != < <= > >=, NOT, AND,
-OR, and IS [NOT] NULL, TRUE, FALSE or UNKNOWN; in HAVING it has calls, too. A
-TERM is the name of an ITEM or its place, from 1, and may have ASC or DESC
-behind it, and NULLS FIRST or NULLS LAST. Without ORDER BY rows are in the order
-of keys.
+A call is count(*) or a function of a column, as sum(sales); behind it FILTER
+(WHERE CONDITION) may tell which rows it takes. A CONDITION compares columns,
+integers and 'texts' as SQL does, and in HAVING calls, too. A TERM is the name
+of an ITEM or its place, from 1, and may have ASC or DESC behind it, and NULLS
+FIRST or NULLS LAST. Without ORDER BY rows are in the order of keys. The manual
+page agg_tool-script(5) has the grammar with all functions and comparisons, and
+what is said of a wrong query tells what stands in its place.
 
 Prints 'saved BYTES'. A file OUT that is there is replaced, and standard error
 says so; with --no-clobber it is kept, and the status is 2.
@@ -242,8 +241,11 @@ its column or function. The layout is csv, or aligned for people.
 
 The groups of several origins are merged in memory, and nothing is spilled:
 --limit and --spill are taken as by feed and merge, and bound nothing here.
---explain tells on standard error that nothing was aggregated, as
-'passes 0 spilled 0 pages 0 held 0 limit 4194304'.
+--explain tells on standard error what the answer is made of, as
+'groups 770 origins 2 early 3 of 1 origins': the groups that are merged, a key
+once for each origin that has it; the origins of which batches are counted; and
+the batches that are not, since one before them is missing, and of how many
+origins they are.
 
 Example:
   agg_tool answer all.sum --format aligned
@@ -276,16 +278,16 @@ fn flag<'a>(alloc: Global, name: &'a str, help: &'a str) -> Arg<'a> {
 }
 
 /// A command of the program.
-fn task<'a>(alloc: Global, name: &'a str, about: &'a str, after: &'a str) -> Command<'a> {
+fn subcommand<'a>(alloc: Global, name: &'a str, about: &'a str, after: &'a str) -> Command<'a> {
     Command::new(alloc, name).about(about).after_help(after)
 }
 
 fn script_command<'a>(alloc: Global) -> Result<Command<'a>, AllocError> {
-    task(alloc, "script", SCRIPT_ABOUT, SCRIPT_AFTER).arg(spill_option(alloc))
+    subcommand(alloc, "script", SCRIPT_ABOUT, SCRIPT_AFTER).arg(spill_option(alloc))
 }
 
 fn new_command<'a>(alloc: Global) -> Result<Command<'a>, AllocError> {
-    task(alloc, "new", NEW_ABOUT, NEW_AFTER)
+    subcommand(alloc, "new", NEW_ABOUT, NEW_AFTER)
         .arg(positional(alloc, OUT, "The summary file to write"))?
         .arg(option(alloc, COLUMNS, "SCHEMA", "The columns' names and kinds").required(true))?
         .arg(option(alloc, QUERY, "TEXT", "The query that the summary answers").required(true))?
@@ -311,27 +313,21 @@ fn no_clobber_option<'a>(alloc: Global) -> Arg<'a> {
     )
 }
 
-/// A command that aggregates, with the options for that.
-fn aggregating<'a>(alloc: Global, command: Command<'a>) -> Result<Command<'a>, AllocError> {
-    let limit = option(
-        alloc,
-        LIMIT,
-        "BYTES",
-        "Bytes a table of groups may take [default: 4194304]",
-    );
+/// The option of a limit.
+fn limit_option<'a>(alloc: Global, help: &'a str) -> Arg<'a> {
+    option(alloc, LIMIT, "BYTES", help).allow_negative_numbers(true)
+}
+
+/// A command that adds files to a summary, with the options for that.
+fn adding<'a>(alloc: Global, command: Command<'a>) -> Result<Command<'a>, AllocError> {
     command
-        .arg(limit.allow_negative_numbers(true))?
+        .arg(limit_option(alloc, "Bytes a table of groups may take [default: 4194304]"))?
         .arg(spill_option(alloc))?
         .arg(flag(
             alloc,
             EXPLAIN,
             "Also tells on standard error what the grouping took",
-        ))
-}
-
-/// A command that adds files to a summary, with the options for that.
-fn adding<'a>(alloc: Global, command: Command<'a>) -> Result<Command<'a>, AllocError> {
-    aggregating(alloc, command)?
+        ))?
         .arg(no_clobber_option(alloc))?
         .arg(flag(
             alloc,
@@ -341,7 +337,7 @@ fn adding<'a>(alloc: Global, command: Command<'a>) -> Result<Command<'a>, AllocE
 }
 
 fn feed_command<'a>(alloc: Global) -> Result<Command<'a>, AllocError> {
-    let feed = task(alloc, "feed", FEED_ABOUT, FEED_AFTER)
+    let feed = subcommand(alloc, "feed", FEED_ABOUT, FEED_AFTER)
         .arg(positional(alloc, OUT, "The summary file to write"))?
         .arg(positional(alloc, IN, "The summary file to add to"))?
         .arg(positional(alloc, BATCH, "The batch files to add").num_args(1..))?;
@@ -349,14 +345,14 @@ fn feed_command<'a>(alloc: Global) -> Result<Command<'a>, AllocError> {
 }
 
 fn merge_command<'a>(alloc: Global) -> Result<Command<'a>, AllocError> {
-    let merge = task(alloc, "merge", MERGE_ABOUT, MERGE_AFTER)
+    let merge = subcommand(alloc, "merge", MERGE_ABOUT, MERGE_AFTER)
         .arg(positional(alloc, OUT, "The summary file to write"))?
         .arg(positional(alloc, IN, "The summary files to merge").num_args(1..))?;
     adding(alloc, merge)
 }
 
 fn known_command<'a>(alloc: Global) -> Result<Command<'a>, AllocError> {
-    task(alloc, "known", KNOWN_ABOUT, KNOWN_AFTER)
+    subcommand(alloc, "known", KNOWN_ABOUT, KNOWN_AFTER)
         .arg(positional(alloc, IN, "The summary file to read"))?
         .arg(flag(
             alloc,
@@ -373,10 +369,21 @@ fn format_option<'a>(alloc: Global) -> Arg<'a> {
 }
 
 fn answer_command<'a>(alloc: Global) -> Result<Command<'a>, AllocError> {
-    let answer = task(alloc, "answer", ANSWER_ABOUT, ANSWER_AFTER)
+    subcommand(alloc, "answer", ANSWER_ABOUT, ANSWER_AFTER)
         .arg(positional(alloc, IN, "The summary file to read"))?
-        .arg(format_option(alloc))?;
-    aggregating(alloc, answer)
+        .arg(format_option(alloc))?
+        .arg(limit_option(alloc, "As with feed; bounds nothing here"))?
+        .arg(option(
+            alloc,
+            SPILL,
+            "PATH",
+            "As with feed; nothing is spilled here",
+        ))?
+        .arg(flag(
+            alloc,
+            EXPLAIN,
+            "Also tells on standard error what the answer is made of",
+        ))
 }
 
 /// The program without its commands.

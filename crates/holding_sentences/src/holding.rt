@@ -1,4 +1,4 @@
-//! What a summary holds, as `known --explain` tells it.
+//! What a summary holds, and what its answer is made of.
 
 use fault_sentences::Plain;
 use having_filter::Query;
@@ -160,12 +160,66 @@ fn push_holding(
 }
 
 /// What a replica holds, as lines: its columns, its query, and of each origin its groups, their bytes in a summary file and the numbers
-/// that
-/// are missing. No line comes of one whose file would be too long.
+/// that are missing. No line comes of one whose file would be too long.
 pub fn holding_lines(alloc: Global, replica: &Replica) -> Result<Vec<String>, AllocError> {
     let mut lines = Vec::new(alloc);
     if let (Ok(file), Ok(known)) = (replica.save(), replica.known()) {
         push_holding(alloc, &mut lines, &file, &known)?;
     }
     Ok(lines)
+}
+
+/// What an answer is made of, and what it leaves out.
+#[derive(Clone, Copy)]
+struct Sources {
+    /// The groups of all prefixes, a key once for each origin that has it.
+    groups: u64,
+    /// The origins that have a prefix.
+    origins: u64,
+    /// The batches that wait for those before them, and of how many origins they are.
+    early: u64,
+    waiting: u64,
+}
+
+impl Sources {
+    /// What parts bring to an answer.
+    fn of_parts(parts: &BTreeMap<u16, OriginPart>) -> Sources {
+        let mut sources = Sources {
+            groups: 0,
+            origins: 0,
+            early: 0,
+            waiting: 0,
+        };
+        for (_, part) in parts.iter() {
+            let early = part.early().len() as u64;
+            sources.groups = sources.groups.saturating_add(part.run().len() as u64);
+            sources.origins = sources.origins.saturating_add(u64::from(part.prefix() > 0));
+            sources.early = sources.early.saturating_add(early);
+            sources.waiting = sources.waiting.saturating_add(u64::from(early > 0));
+        }
+        sources
+    }
+}
+
+impl fmt::Display for Sources {
+    fn fmt<W: fmt::Write>(&self, f: &mut fmt::Formatter<W>) -> fmt::Result {
+        let (groups, origins) = (self.groups, self.origins);
+        let (early, waiting) = (self.early, self.waiting);
+        write!(
+            f,
+            "groups {groups} origins {origins} early {early} of {waiting} origins"
+        )
+    }
+}
+
+/// What the answer of a replica is made of, as a line. None comes of one whose file would be too long.
+pub fn answer_line(alloc: Global, replica: &Replica) -> Result<Option<String>, AllocError> {
+    let file = replica.save()?;
+    let Ok((query, parts)) = decode(alloc, &file) else {
+        return Ok(None);
+    };
+    drop(query);
+    let sources = Sources::of_parts(&parts);
+    drop(parts);
+    Ok(Some(format!(in alloc; "{sources}")?))
 }

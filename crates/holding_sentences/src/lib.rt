@@ -1,6 +1,6 @@
-//! What is said of what a summary file holds, as `known --explain` tells it.
+//! What is said of what a summary holds, as `known --explain` tells it, and of what an answer is made of, as `answer --explain` does.
 #![tactic(auto)]
 
 mod holding;
 
-pub use holding::holding_lines;
+pub use holding::{answer_line, holding_lines};

@@ -1,9 +1,10 @@
 //! The edges of a program that runs a script of CSV records, over any reader and any writer: it reads
 //! the whole script up to a limit, gives its records in turn, and writes bytes so that also after a
-//! fault the caller knows what was written.
+//! fault the caller knows what was written. Whole files are read and written by the same rules.
 #![tactic(auto)]
 
 mod digits;
+mod files;
 mod fused;
 mod input;
 mod laws;
@@ -11,6 +12,7 @@ mod output;
 mod records;
 
 pub use digits::{read_digits, read_limit, read_row_count};
+pub use files::{Occupant, Unread, occupant, read_file, write_file, write_new_file};
 pub use fused::Fused;
 pub use input::{InputError, read_input};
 pub use laws::{fronts_range, reads_are_whole, records_are_few, writes_compose};

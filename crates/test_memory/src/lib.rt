@@ -1,4 +1,4 @@
-//! Tests of the crates that own memory, by their public calls alone.
+//! Tests of the crates that own memory, and of the one that keeps memory contexts in a tree, by their public calls alone.
 #![tactic(auto)]
 
 #[cfg(test)]

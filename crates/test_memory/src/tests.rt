@@ -3,3 +3,4 @@ mod callers;
 mod contexts;
 mod footprint;
 mod kinds;
+mod trees;

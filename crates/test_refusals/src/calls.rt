@@ -7,7 +7,7 @@ use hash_agg::{Fnv1a, Means, MemDisk, Work};
 use replica_merge::{RefusedBatch, Replica};
 use replies::{Format, Refusal, table};
 use std::test::*;
-use test_rooms::Room;
+use test_cases::Room;
 
 /// Delivers the batch of a site to its replica.
 fn delivered(

@@ -6,7 +6,7 @@ use crate::trials::Trial;
 use hash_agg::{DEFAULT_LIMIT, MIN_LIMIT};
 use replies::Refusal;
 use std::test::*;
-use test_rooms::Room;
+use test_cases::Room;
 
 /// Whether a trial of which growths may be refused is right, with the least limit and with the usual one.
 fn is_right_on(rt: HostRuntime, site: &Site, trial: Trial) -> Result<bool, Refusal> {

@@ -12,7 +12,7 @@ use script_io::Fused;
 use spill_tapes::{TapeError, TapeId, Tapes};
 use std::alloc::{AllocError, Global};
 use std::test::*;
-use test_rooms::Hoard;
+use test_cases::Hoard;
 
 /// The bytes of a chunk.
 const CHUNK: &[u8] = b"8 bytes.";

@@ -18,7 +18,7 @@ use std::alloc::AllocError;
 use std::collections::BTreeMap;
 use std::test::*;
 use summary_codec::{decode, encode};
-use test_rooms::Room;
+use test_cases::Room;
 
 /// The file of what is read of a file in a room.
 fn read_in(rt: HostRuntime, file: &[u8], room: &mut Room<'_>) -> Result<Vec<u8>, Refusal> {

@@ -6,8 +6,7 @@ use crate::trials::Trial;
 use hash_agg::{DEFAULT_LIMIT, MIN_LIMIT};
 use replies::Refusal;
 use std::test::*;
-use test_cases::expect;
-use test_rooms::{Hoard, Room};
+use test_cases::{Hoard, Room, expect};
 
 /// How many rooms are tried at most.
 const MAX_ROOMS: u32 = 100_000;

@@ -12,7 +12,7 @@ use having_filter::Query;
 use replica_merge::Replica;
 use replies::{Format, Refusal, origin_lines, table};
 use std::alloc::Global;
-use test_towns::{COLUMNS, TOWNS};
+use test_aggregation::{COLUMNS, TOWNS};
 
 /// A batch of some rows: its origin and its number.
 type Place = (u16, u32);

@@ -5,7 +5,7 @@ use crate::met::Met;
 use crate::parts::{aggregate_rows, decode_file, encode_file, join_parts};
 use crate::sites::Site;
 use replies::Refusal;
-use test_rooms::Room;
+use test_cases::Room;
 
 /// A call that is made in a room, and again where it is refused.
 #[derive(Clone, Copy)]

@@ -2,8 +2,8 @@ use crate::fixtures::shown_batch;
 use batch_reader::{Batch, BatchError, build_batch};
 use packed_rows::Schema;
 use std::test::*;
+use test_aggregation::records;
 use test_cases::{expect_lines, halves};
-use test_towns::records;
 
 /// What becomes of a batch.
 pub(crate) fn build(

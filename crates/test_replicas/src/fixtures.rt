@@ -2,7 +2,7 @@ use batch_reader::Batch;
 use having_filter::Query;
 use hex::encode;
 use std::test::*;
-use test_towns::{COLUMNS, TOWNS, query};
+use test_aggregation::{COLUMNS, TOWNS, query};
 
 /// What is told of a case by the query of towns. Tests let go of what is large by `drop`, and hold it at no `?`: at the end
 /// of its block it costs ten times as much proof.

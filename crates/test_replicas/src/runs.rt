@@ -9,8 +9,8 @@ use hash_agg::{Fnv1a, Input, Means, MemDisk, Run, Work, aggregate, fold, initial
 use having_filter::Query;
 use hex::encode;
 use std::test::*;
+use test_aggregation::packed;
 use test_cases::{expect, halves};
-use test_towns::packed;
 
 /// Packed rows, each in a vector of its own.
 fn apart(rt: HostRuntime, rows: &PackedRows) -> Result<Vec<Vec<u8>>, Fail>

@@ -9,8 +9,7 @@ use std::alloc::{AllocError, Global};
 use std::io;
 use std::io::Write;
 use std::test::*;
-use test_cases::expect;
-use test_rooms::{Hoard, Room};
+use test_cases::{Hoard, Room, expect};
 
 /// Commands, each behind a `;` with the records that belong to it. `/` stands for the end of a line.
 const FIRST_RUN: &str =

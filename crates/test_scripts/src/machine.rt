@@ -8,7 +8,7 @@ use std::io;
 use std::io::{Error, ErrorKind, Read};
 use std::test::*;
 use test_cases::{expect_told, expect_told_lines};
-use test_disks::{FailingReader, FailingWriter};
+use test_tapes::{FailingReader, FailingWriter};
 
 /// A reader without an end, which counts the bytes that were taken.
 #[derive(Drop)]

@@ -1,12 +1,12 @@
 //! Lists that passes spill, and read again.
 ghost use Rattle.std.specs.Prelude.{◌≡◌, [], false, OnOk};
 
+use crate::disks::{Marks, failing, flipping};
 use spill_partitions::{SpillError, SpillPartitions};
 use spill_tapes::{MemDisk, TapeDisk};
 use std::alloc::Global;
 use std::test::*;
 use test_cases::expect;
-use test_disks::{Marks, failing, flipping};
 
 /// Lists, the disk that they lie on, and the bytes of the record that was read last.
 #[derive(Drop)]

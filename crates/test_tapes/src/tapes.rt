@@ -3,11 +3,11 @@
 ghost use Rattle.std.specs.Prelude.{◌+◌, ◌<◌, ◌^◌};
 
 use crate::calls::Deck;
+use crate::disks::{Marks, failing, flipping};
 use spill_tapes::{DiskError, FlipDisk, MemDisk, TapeDisk, TapeError, TapeId};
 use std::alloc::{AllocError, Global};
 use std::test::Fail;
 use test_cases::{expect_lines, halves};
-use test_disks::{Marks, failing, flipping};
 
 /// How many tapes there are at once, and how many records each has.
 const TAPES: u32 = 16;

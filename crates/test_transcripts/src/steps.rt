@@ -5,8 +5,7 @@ use std::alloc::AllocError;
 use std::io::Write;
 use std::{fs, io};
 use test_cases::cut;
-use test_folders::aside;
-use test_steps::{Input, Kind, Output, lines_meant, meant, words_meant, write_lines};
+use test_steps::{Input, Kind, Output, aside, lines_meant, meant, words_meant, write_lines};
 
 /// What a command left: what it printed and said, and its status.
 #[derive(Drop)]

@@ -1,0 +1,93 @@
+//! The commands on files, by their words.
+
+use crate::{BATCH, IN, NO_CLOBBER, OUT, PROGRESS, SPILL};
+use clap::ArgMatches;
+use std::alloc::{AllocError, Global};
+
+/// A command on files.
+#[derive(Clone, Copy)]
+pub enum Subcommand {
+    New,
+    Feed,
+    Merge,
+    Known,
+    Answer,
+}
+
+impl Subcommand {
+    /// The command of a name.
+    pub fn named(name: &str) -> Option<Subcommand> {
+        match name {
+            "new" => Some(Subcommand::New),
+            "feed" => Some(Subcommand::Feed),
+            "merge" => Some(Subcommand::Merge),
+            "known" => Some(Subcommand::Known),
+            "answer" => Some(Subcommand::Answer),
+            _ => None,
+        }
+    }
+
+    /// Whether it takes a limit and a file for what is spilled. An answer takes both, and they bound nothing: it merges groups, and needs no
+    /// table.
+    pub fn takes_limit(self) -> bool {
+        match self {
+            Subcommand::Feed | Subcommand::Merge | Subcommand::Answer => true,
+            Subcommand::New | Subcommand::Known => false,
+        }
+    }
+
+    /// Whether it aggregates, and so wants a seed, and can tell what that took.
+    pub fn aggregates(self) -> bool {
+        matches!(self, Subcommand::Feed | Subcommand::Merge)
+    }
+
+    /// The file that it writes, if it writes one.
+    pub fn out<'p>(self, matches: &ArgMatches<'p>) -> Option<&'p str> {
+        match self {
+            Subcommand::New | Subcommand::Feed | Subcommand::Merge => matches.get_str(OUT),
+            Subcommand::Known | Subcommand::Answer => None,
+        }
+    }
+
+    /// Whether an option that it has stands on the command line.
+    pub fn is_told(self, matches: &ArgMatches<'_>, option: &str) -> bool {
+        let has_option = match option {
+            NO_CLOBBER => matches!(self, Subcommand::New | Subcommand::Feed | Subcommand::Merge),
+            PROGRESS => matches!(self, Subcommand::Feed | Subcommand::Merge),
+            _ => !matches!(self, Subcommand::New),
+        };
+        has_option && matches.get_flag(option)
+    }
+
+    /// The file for what is spilled that it tells.
+    pub fn spill<'p>(self, matches: &ArgMatches<'p>) -> Option<&'p str> {
+        if !self.takes_limit() {
+            return None;
+        }
+        matches.get_str(SPILL)
+    }
+
+    /// The files that it reads, in their order on the command line.
+    pub fn files_read<'p>(
+        self,
+        alloc: Global,
+        matches: &ArgMatches<'p>,
+    ) -> Result<Vec<&'p str>, AllocError> {
+        let mut paths = Vec::new(alloc);
+        match self {
+            Subcommand::New => {}
+            Subcommand::Feed => {
+                paths.push(value(matches, IN))?;
+                paths.extend_from_slice(matches.get_strs(BATCH).unwrap_or_default())?;
+            }
+            Subcommand::Merge => paths.extend_from_slice(matches.get_strs(IN).unwrap_or_default())?,
+            Subcommand::Known | Subcommand::Answer => paths.push(value(matches, IN))?,
+        }
+        Ok(paths)
+    }
+}
+
+/// The value of an argument. The parser has seen to it that there is one.
+pub fn value<'a>(matches: &ArgMatches<'a>, id: &str) -> &'a str {
+    matches.get_str(id).unwrap_or("")
+}

@@ -1,0 +1,25 @@
+//! Tests of aggregation by public calls: of the hash table of groups, and of `hash_agg`, what it takes, by worked numbers, and what a disk
+//! that fails makes of it; and rows and queries of towns, which tests of other crates take too.
+//!
+//! `bin/try_tests` leaves out those of `flips`, `one_hash` and `seeds`, which take unproved code a minute or more; the gate runs them as built.
+#![tactic(auto)]
+
+#[cfg(test)]
+mod flips;
+#[cfg(test)]
+mod groups;
+#[cfg(test)]
+mod neighbours;
+#[cfg(test)]
+mod one_hash;
+#[cfg(test)]
+mod passes;
+#[cfg(test)]
+mod seeds;
+#[cfg(test)]
+mod table_seeds;
+#[cfg(test)]
+mod tables;
+mod towns;
+
+pub use towns::{COLUMNS, TOWNS, lines, packed, query, records};
