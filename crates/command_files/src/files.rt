@@ -6,7 +6,7 @@ use command_streams::Problem;
 use command_words::Subcommand;
 use file_sentences::length_reason;
 use replies::{Refusal, RunError};
-use script_io::{Occupant, Unread, occupant, read_file, write_file, write_new_file};
+use script_io::{Occupant, Unread, occupant_of, read_file, write_file, write_new_file};
 use std::io;
 use std::io::ErrorKind;
 use std::rt::Files;
@@ -47,7 +47,7 @@ pub(crate) fn occupant_of_out<'p, R: Files + AllocGlobal>(
     let Ok(paths) = subcommand.files_read(rt.alloc(), matches) else {
         return Err(Problem::refused(out, Refusal::NoMemory));
     };
-    match occupant(rt, out, &paths) {
+    match occupant_of(rt, out, &paths) {
         Ok(found) => Ok(found),
         Err(cause) => Err(fault_of(out, RunError::ReadFault, cause)),
     }

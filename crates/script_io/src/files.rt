@@ -3,5 +3,5 @@
 mod reading;
 mod writing;
 
-pub use reading::{Occupant, Unread, occupant, read_file};
+pub use reading::{Occupant, Unread, occupant_of, read_file};
 pub use writing::{write_file, write_new_file};

@@ -12,7 +12,7 @@ mod output;
 mod records;
 
 pub use digits::{read_digits, read_limit, read_row_count};
-pub use files::{Occupant, Unread, occupant, read_file, write_file, write_new_file};
+pub use files::{Occupant, Unread, occupant_of, read_file, write_file, write_new_file};
 pub use fused::Fused;
 pub use input::{InputError, read_input};
 pub use laws::{fronts_range, reads_are_whole, records_are_few, writes_compose};

@@ -1,11 +1,12 @@
 //! Tests of aggregation by public calls: of the hash table of groups, and of `hash_agg`, what it takes, by worked numbers, and what a disk
 //! that fails makes of it; and rows and queries of towns, which tests of other crates take too.
 //!
-//! `bin/try_tests` leaves out those of `flips`, `one_hash` and `seeds`, which take unproved code a minute or more; the gate runs them as built.
+//! `bin/try_tests` leaves out those of `flipped`, `one_hash` and `seed`, which take unproved code a minute or more; the gate runs them as
+//! built.
 #![tactic(auto)]
 
 #[cfg(test)]
-mod flips;
+mod flipped;
 #[cfg(test)]
 mod groups;
 #[cfg(test)]
@@ -15,9 +16,9 @@ mod one_hash;
 #[cfg(test)]
 mod passes;
 #[cfg(test)]
-mod seeds;
+mod seed;
 #[cfg(test)]
-mod table_seeds;
+mod seeded_tables;
 #[cfg(test)]
 mod tables;
 mod towns;

@@ -71,7 +71,7 @@ fn is_same_file<R: Files>(rt: &R, found: &Metadata, path: &str) -> io::Result<bo
 }
 
 /// What is there at a path, beside a list of files. The error is that it can't be found out.
-pub fn occupant<R: Files>(rt: &R, path: &str, listed: &[&str]) -> io::Result<Occupant> {
+pub fn occupant_of<R: Files>(rt: &R, path: &str, listed: &[&str]) -> io::Result<Occupant> {
     let found = match fs::metadata(rt, path) {
         Ok(found) => found,
         Err(error) if error.kind() == ErrorKind::NotFound => return Ok(Occupant::Nothing),
