@@ -54,8 +54,8 @@ pub(crate) fn occupant_of_out<'p, R: Files + AllocGlobal>(
 }
 
 /// Writes OUT, which nothing else does: a summary file. One that is there is replaced at once, or, where it is a device or a pipe, written
-/// to; where OUT is to be a new file, one that is there by now stays, and `WriteFault` is told. Where there is no memory for the name of the
-/// new file that takes its place, or the system says that it has none, `NoMemory` is told, and for any other failure `WriteFault`.
+/// to; where OUT is to be a new file, one that is there by now stays, and `WriteFault` is told. Where there is no memory for the name of
+/// the new file that takes its place, or the system says that it has none, `NoMemory` is told, and for any other failure `WriteFault`.
 pub(crate) fn write_out<'p, R: Files + AllocGlobal>(
     rt: &R,
     path: &'p str,

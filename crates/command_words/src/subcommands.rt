@@ -27,8 +27,8 @@ impl Subcommand {
         }
     }
 
-    /// Whether it takes a limit and a file for what is spilled. An answer takes both, and they bound nothing: it merges groups, and needs no
-    /// table.
+    /// Whether it takes a limit and a file for what is spilled. An answer takes both, and they bound nothing: it merges groups, and
+    /// needs no table.
     pub fn takes_limit(self) -> bool {
         match self {
             Subcommand::Feed | Subcommand::Merge | Subcommand::Answer => true,

@@ -1,4 +1,5 @@
-//! What crates of tests share: tables of cases, which they go through, and rooms: so many bytes, which are all the memory that a call finds.
+//! What crates of tests share: tables of cases, which they go through, and rooms: so many bytes, which are all the memory that a call
+//! finds.
 #![tactic(auto)]
 
 mod hoard;
