@@ -1,4 +1,4 @@
-use Rattle.std.proofs.Common.{◌≡◌, ◌+◌, ◌≤◌, None, length, get_or, ap, arith}
+use Rattle.std.proofs.Common.{◌+◌, ◌≤◌, length, get_or, ap, arith}
 use Rattle.context_tree.proofs.Words.{always_err, IsRefused, refusal_of, growth_of, held_by, is_there, Context}
 use Rattle.context_tree.specs.Calls.{Allocates}
 use Rattle.context_tree.proofs.TreeLaws.{IsLent, read-changed, fits-asked, said, on-context, unchanged, fields-written, refused-gone}

@@ -1,4 +1,4 @@
-use Rattle.std.proofs.Common.{◌≡◌, ◌+◌, ◌≤◌, None, get_or, ap, arith}
+use Rattle.std.proofs.Common.{◌+◌, ◌≤◌, get_or, ap, arith}
 use Rattle.context_tree.proofs.Words.{always_err, IsRefused, refusal_of, growth_of, held_by, is_there, Context}
 use Rattle.block_memory.specs.Cells.{zeros}
 use Rattle.context_tree.specs.Calls.{Allocates}

@@ -1,7 +1,7 @@
-use Rattle.std.proofs.Common.{◌≡◌, refl, ℕ, List, ◌+◌, sym, subst, ap, arith}
+use Rattle.std.proofs.Common.{refl, ℕ, List, sym, subst, ap, arith}
 use Rattle.std.specs.Prelude.{Result}
 use Rattle.std.proofs.lemmas.Result.{err_from_is_err_and}
-use Rattle.group_table.proofs.Words.{TreeState, TableState, groups, with_spare, IsSameBut, IsTableIn, HoldsKeys}
+use Rattle.group_table.proofs.Words.{TreeState, TableState, groups, with_spare, IsSameBut, IsTableIn}
 use Rattle.group_table.specs.Inserts.{Inserts}
 use Rattle.group_table.specs.declared.table.Slot.{Slot}
 use Rattle.group_table.proofs.SpaceLaws.{holds_spare, ok_map}

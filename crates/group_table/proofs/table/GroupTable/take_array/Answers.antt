@@ -1,4 +1,4 @@
-use Rattle.std.proofs.Common.{◌≡◌, ◌+◌, ◌<◌, ◌≤◌, arith, ◌*◌, Some, length, sym, subst, ◌∙◌, ap, refl}
+use Rattle.std.proofs.Common.{◌≡◌, ◌+◌, ◌≤◌, arith, ◌*◌, Some, length, sym, subst, ◌∙◌, ap, refl}
 use Rattle.group_table.proofs.Words.{TableState, buckets_in, buckets_for, most_buckets, TreeState, context_at, growth_of, held_by, OnlyIn}
 use Rattle.group_table.proofs.Words.{HoldsArray, HoldsNext, IsSetWith, IsStanding, IsTableIn}
 use Rattle.group_table.proofs.SpaceLaws.{none_taken, next_taken}
