@@ -3,7 +3,7 @@ use Rattle.std.proofs.Common.{◌≡◌, ℕ, true, false, List, Option, [], ◌
 use Rattle.chunk_contexts.proofs.Words.{IsTrue, ◌==◌, ◌&&◌, ChunkContents, same_place, is_at, place_of, has, contents_at, without}
 use Rattle.chunk_contexts.proofs.Words.{rewritten}
 use Rattle.chunk_contexts.proofs.Words.{with_bytes_of, AreApart, IsInside, AreLaid, Place, ChunkName, live, is_live, bytes_of, chunk_of}
-use Rattle.chunk_contexts.proofs.Words.{Adds, Keeps, KeepsOthers, IsResized}
+use Rattle.chunk_contexts.proofs.Words.{Adds, TakesChunk, Keeps, KeepsOthers, IsResized}
 use Rattle.chunk_contexts.proofs.Laws.{and_parts, eqb-true, true≢false, false_from_ne_true, every_filter, pairwise_filter, same-place}
 use Rattle.chunk_contexts.proofs.Laws.{place-same, contents_at-first, has-without, contents_at-without, nat_tests, common_steps}
 
@@ -57,6 +57,9 @@ module _ (before after : List ChunkContents) (name : ChunkName) (room : ℕ) (by
 
   pub added-keeps : Keeps before after name
   added-keeps = grind (arith, nat_tests, common_steps)
+
+  pub added-takes : (n : ℕ) → length bytes ≡ n → TakesChunk before after name room n bytes
+  added-takes n long = record { added = adds; len = adds.len ∙ long; lives = added-lives; holds = added-holds; keeps = added-keeps }
 
 -- ---- a chunk less
 pub without-keeps : (before after : List ChunkContents) (name : ChunkName) → after ≡ without before (place_of name)
@@ -122,7 +125,7 @@ laid-live blocks ps laid = record {
 }
 
 -- what one chunk more says
-pub ruleset adding = (added-lives, added-holds, added-keeps)
+pub ruleset adding = (added-lives, added-holds, added-keeps, added-takes)
 
 -- and what other bytes in a chunk say
 pub ruleset rewriting = (rewritten-lives, rewritten-holds, rewritten-keeps)

@@ -25,7 +25,7 @@ every-rewritten P by [] place ws every = tt
 every-rewritten P by (p ∷ ps) place ws every = grind (arith, nat_tests, common_steps, every-rewritten P by ps place ws every.1)
 
 module _ (head : ℕ) (r : Runs) (is : IsRun head r) where
-  -- contents with the same places and rooms
+  -- chunks with the same places and rooms
   with-contents : (ps : List ChunkContents)
       → ((P : ChunkContents → Type 0) → ((p q : ChunkContents) → p.place ≡ q.place → p.room ≡ q.room → P p → P q)
       → Every P r.layout.contents

@@ -1,7 +1,8 @@
 -- The words that the proofs of contexts cite, of chunks, blocks, free lists, rooms and std, in one place to import them from.
 pub use Rattle.std.specs.Prelude.{nat_le, ◌==◌, IsTrue, ◌&&◌, ◌||◌, is_some, IsErrAnd, IfErr, unwrap_or, replicate, nat_lt, reverse, IfSome}
 pub use Rattle.block_memory.specs.Cells.{zeros}
-pub use Rattle.chunk_contexts.specs.Chunks.{live, is_live, bytes_of, chunk_of, Adds, Keeps, KeepsOthers, IsResized, IsRefused, IsNewBlock}
+pub use Rattle.chunk_contexts.specs.Chunks.{live, is_live, bytes_of, chunk_of, Adds, TakesChunk, Keeps, KeepsOthers, IsResized, IsRefused}
+pub use Rattle.chunk_contexts.specs.Chunks.{IsNewBlock}
 pub use Rattle.chunk_contexts.specs.Chunks.{lengths}
 pub use Rattle.chunk_contexts.specs.Free.{is_in, by_room, IsRest, free_rooms, first_free, cut_used, cut_chunk, cut_chunks, minus, Linked}
 pub use Rattle.chunk_contexts.specs.Free.{Elsewhere, AreLinked, AreLists, by_block}

@@ -42,6 +42,14 @@ KeepsOthers before after name new = (other : ChunkName) → same_place (place_of
     → IsTrue (is_live before other) → (same_place (place_of new) (place_of other) ≡ false) × (IsTrue (is_live after other))
     × (bytes_of after other ≡ bytes_of before other)
 
+-- a chunk of n bytes is taken: there is one more, whose name is live and has the bytes, and all other names keep theirs
+pub record TakesChunk (before after : List ChunkContents) (name : ChunkName) (room n : ℕ) (bytes : List ℕ) : Type 0 where
+  pub added : Adds before after name room bytes
+  pub len : name.len ≡ n
+  pub lives : IsTrue (is_live after name)
+  pub holds : bytes_of after name ≡ bytes
+  pub keeps : Keeps before after name
+
 -- why a request is refused: as the kind says, and else for want of memory alone where blocks would have to grow
 abbrev pub IsRefused : Option ContextError → ℕ → ContextError → Type 0
 IsRefused None growth error = (error ≡ NoMemory) × (0 < growth)

@@ -5,7 +5,7 @@ ghost use Rattle.std.specs.Borrow.{sem};
 ghost use Rattle.block_memory.specs.Cells.{zeros};
 ghost use Rattle.chunk_layout.specs.Contents.{ChunkContents, place_of, contents_at, without, rewritten, resized, total, AreLaid};
 ghost use Rattle.chunk_layout.specs.declared.place.Place.{Place};
-ghost use Rattle.chunk_contexts.specs.Chunks.{is_live, bytes_of, lengths, chunk_of, Adds, Keeps, KeepsOthers, IsRefused, IsResizeRefused};
+ghost use Rattle.chunk_contexts.specs.Chunks.{is_live, bytes_of, lengths, chunk_of, TakesChunk, KeepsOthers, IsRefused, IsResizeRefused};
 ghost use Rattle.chunk_contexts.specs.Chunks.{IsResized};
 ghost use Rattle.chunk_contexts.specs.ContextLends.{lends_chunk};
 ghost use Rattle.chunk_contexts.specs.declared.error.ContextError.{ContextError};
@@ -59,12 +59,10 @@ pub trait ChunkContext {
     /// changed then.
     fn alloc(&mut self, bytes: &[u8]) -> Result<ChunkName, ContextError>
         ensures admitted { OnOk result (refusal self.old (length bytes.now) ≡ None) }
-        ensures added { IfOk result (λ name. Adds (chunks self.old) (chunks self.new) name (room self.old (length bytes.now)) bytes.now) }
-        ensures lives { IfOk result (λ name. IsTrue (is_live (chunks self.new) name)) }
-        ensures holds { IfOk result (λ name. bytes_of (chunks self.new) name ≡ bytes.now) }
+        ensures taken { IfOk result (λ name. TakesChunk (chunks self.old) (chunks self.new) name (room self.old (length bytes.now))
+            (length bytes.now) bytes.now) }
         ensures block { IfOk result (λ name. IsTrue (is_some (get_or (blocks self.new) name.block None))) }
         ensures lies { IfOk result (λ name. may_lie self.old (length bytes.now) name.block) }
-        ensures keeps { IfOk result (Keeps (chunks self.old) (chunks self.new)) }
         ensures space { IfOk result (λ name. self.new
             ≡ taken self.old (length bytes.now) (chunk_of name (room self.old (length bytes.now)) bytes.now)) }
         ensures grown { OnOk result (total (blocks self.new) ≡ total (blocks self.old) + growth self.old (length bytes.now)) }
@@ -74,13 +72,9 @@ pub trait ChunkContext {
     /// Takes a chunk of `n` zeros, as `alloc` of these.
     fn alloc_zeroed(&mut self, n: u32) -> Result<ChunkName, ContextError>
         ensures admitted { OnOk result (refusal self.old n ≡ None) }
-        ensures added { IfOk result (λ name. Adds (chunks self.old) (chunks self.new) name (room self.old n) (zeros n)) }
-        ensures len { IfOk result (λ name. name.len ≡ n) }
-        ensures lives { IfOk result (λ name. IsTrue (is_live (chunks self.new) name)) }
-        ensures holds { IfOk result (λ name. bytes_of (chunks self.new) name ≡ zeros n) }
+        ensures taken { IfOk result (λ name. TakesChunk (chunks self.old) (chunks self.new) name (room self.old n) n (zeros n)) }
         ensures block { IfOk result (λ name. IsTrue (is_some (get_or (blocks self.new) name.block None))) }
         ensures lies { IfOk result (λ name. may_lie self.old n name.block) }
-        ensures keeps { IfOk result (Keeps (chunks self.old) (chunks self.new)) }
         ensures space { IfOk result (λ name. self.new ≡ taken self.old n (chunk_of name (room self.old n) (zeros n))) }
         ensures grown { OnOk result (total (blocks self.new) ≡ total (blocks self.old) + growth self.old n) }
         ensures refused { IfErr result (IsRefused (refusal self.old n) (growth self.old n)) }

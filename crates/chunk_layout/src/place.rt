@@ -76,7 +76,7 @@ impl ChunkName {
     }
 }
 
-/// What is after_event of a chunk: where it lies, how many bytes it has room for, how many of these were written, and whether
+/// The header of a chunk: where it lies, how many bytes it has room for, how many of these were written, and whether
 /// somebody has its name.
 #[derive(Clone, Copy)]
 pub struct ChunkHeader {

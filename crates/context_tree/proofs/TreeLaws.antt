@@ -1,13 +1,18 @@
 -- What is true of the fields of a tree stays true.
 use Rattle.std.proofs.Common.{◌≡◌, ℕ, zero, suc, ◌+◌, ◌<◌, ◌≤◌, inl, inr, Bool, true, false, List, [], ◌∷◌, Option, Some, None, length}
 use Rattle.std.proofs.Common.{get_or, cond, set, drop, refl, sym, ap, ◌∙◌, subst, arith}
-use Rattle.std.specs.Prelude.{is_some, unwrap_or, Result, Ok, Err, IsErrAnd, IfErr}
+use Rattle.std.specs.Prelude.{is_some, unwrap_or, Result, Ok, Err, IsErrAnd, IfErr, IsTrue}
 use Rattle.std.proofs.lemmas.Bool.{cases_Bool, cases_eq, cond-true, cond-false, false≢true}
 use Rattle.chunk_contexts.specs.declared.error.ContextError.{ContextError}
 use Rattle.context_tree.proofs.Words.{no_context, new_context, held_by, stamp_of, is_below, cleared, placed, TreeState, Stamped, Emptied}
 use Rattle.context_tree.proofs.Words.{IsRefusedBy, IsNotMade, has_stamp, is_there, context_at, with_context, without_slots, held_from}
 use Rattle.context_tree.proofs.Words.{held_by_all, IsBounded, Context, Link}
 use Rattle.std.specs.List.{refill}
+use Rattle.context_tree.specs.Calls.{OnContext, Writes, written}
+use Rattle.context_tree.specs.Tree.{IsWhole}
+use Rattle.context_tree.specs.TreeLends.{with_bytes_in}
+use Rattle.context_tree.proofs.Words.{KeepsOthers, place_of, chunks_of, chunk_bytes, has_chunk, with_bytes}
+use Rattle.chunk_layout.specs.declared.place.ChunkName.{ChunkName}
 use Rattle.std.proofs.lemmas.List.{get_or-set_same, get_or-set_other, get_or_default, get_or_read, length-set, set-get_or}
 use Rattle.context_tree.specs.SlotLaws.{placed-here, placed-other}
 use Rattle.context_tree.specs.TreeFields.{tree_of, AreFields}
@@ -189,6 +194,16 @@ module _ (x : Inside) (now : TreeState) (id : ContextId) (d : List Context) (is 
         ≡ with_context now id (f (context_at now id))
     new-by f by = new-tree x is.are now is.view id is.there d is.same c ∙ ap (with_context now id) (by ∙ ap f old)
 
+    -- the call did to the context what was done to what was lent
+    pub on-context : (Does : Context → Context → Type 0) → Does (get_or d id.slot other) c
+        → OnContext id now (record { links = x.links; contexts = refill (length all) all (set d id.slot c); last = x.last }) Does
+    on-context Does so = record {
+      there = is.there;
+      does = said Does so;
+      rest = new-tree x is.are now is.view id is.there d is.same c
+          ∙ ap (with_context now id) (sym (new-is x is.are now is.view id is.there d is.same c));
+    }
+
     pub unchanged : c ≡ get_or d id.slot other
         → (record { links = x.links; contexts = refill (length all) all (set d id.slot c); last = x.last }) ≡ now
     unchanged stays = new-by (λ a. a) stays ∙ ap (λ (l : List Context). record { links = now.links; contexts = l; last = now.last })
@@ -208,6 +223,33 @@ module _ (x : Inside) (now : TreeState) (id : ContextId) (d : List Context) (is 
         → held_by_all all + held_by c < 9223372036854775808 + held_by (get_or all id.slot no_context)
     fits-asked growth e asked less room = fits-grown growth less (subst (λ (l : List Context). held_by_all l + growth < 9223372036854775808)
         asked room)
+
+-- other bytes were put into a chunk
+pub written-on : (t : TreeState) (id : ContextId) (name : ChunkName) (at : ℕ) (bytes new : List ℕ) → is_there t id ≡ true → IsWhole t
+    → new ≡ written (chunk_bytes (context_at t id) name) at bytes
+    → IsTrue (has_chunk (with_bytes (context_at t id) (place_of name) new) name)
+    → chunk_bytes (with_bytes (context_at t id) (place_of name) new) name ≡ new
+    → KeepsOthers (chunks_of (context_at t id)) (chunks_of (with_bytes (context_at t id) (place_of name) new)) name name
+    → OnContext id t (with_bytes_in t id name new) (Writes name at bytes)
+written-on t id name at bytes new there whole is lives holds keeps =
+    let c : Context = with_bytes (context_at t id) (place_of name) new in
+    let low : id.slot < length t.contexts = omega (
+      arith,
+      whole.long,
+      low-there t.links id.slot (there-some (get_or t.links id.slot None)
+          id.stamp there),
+    ) in
+    let here : context_at (with_context t id c) id ≡ c = get_or-set_same t.contexts id.slot c no_context low in
+    record {
+      there = there;
+      does = subst (Writes name at bytes (context_at t id)) (sym here) (record {
+        lives = lives;
+        holds = holds ∙ is;
+        keeps = keeps;
+        space = ap (with_bytes (context_at t id) (place_of name)) is;
+      });
+      rest = ap (with_context t id) (sym here);
+    }
 
 -- why a call is refused
 module _ {X : Type 0} (P : ContextError → Type 0) (there : Bool) where

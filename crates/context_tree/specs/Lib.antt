@@ -2,7 +2,9 @@ pub mod Contexts
 pub mod Links
 pub mod LinkFields
 pub mod Tree
+pub mod Calls
 pub mod TreeFields
 pub mod TreeLends
 pub mod SlotLaws
+pub mod CallLaws
 pub mod Lemmas

@@ -1,21 +1,20 @@
 //! A tree of contexts.
-ghost use Rattle.std.specs.Prelude.{◌≡◌, ◌+◌, ◌*◌, ◌-◌, ◌<◌, ◌≤◌, ◌==◌, ◌^◌, ℕ, List, true, false, cond, None, IfOk, IfErr, OnOk, OnErr};
+ghost use Rattle.std.specs.Prelude.{◌≡◌, ◌+◌, ◌-◌, ◌<◌, ◌≤◌, ◌==◌, ◌^◌, ℕ, List, true, false, cond, None, IfOk, IfErr, OnOk, OnErr};
 ghost use Rattle.std.specs.Prelude.{IsTrue, MatchResult, length, get_or, is_some, slice_set};
 ghost use Rattle.smallvec.specs.SmallVec.{HasRoomFor};
 ghost use Rattle.block_memory.specs.Cells.{zeros};
-ghost use Rattle.chunk_layout.specs.Contents.{place_of, without, contents_at, resized, total, AreLaid};
-ghost use Rattle.chunk_contexts.specs.Chunks.{lengths, chunk_of, Adds, Keeps, KeepsOthers, IsRefused, IsResizeRefused, IsResized};
-ghost use Rattle.chunk_contexts.specs.declared.error.ContextError.TheVariants.{NoMemory, NotSupported};
-ghost use Rattle.context_tree.specs.Contexts.{chunks_of, blocks_of, room_in, refusal_of, growth_of, can_free, may_lie_in, with_chunk};
-ghost use Rattle.context_tree.specs.Contexts.{with_bytes, with_resized, without_chunk, kind_refusal, no_context, has_chunk, chunk_bytes};
-ghost use Rattle.context_tree.specs.Contexts.{held_by, IsCounted, IsGrownByRule};
+ghost use Rattle.chunk_layout.specs.Contents.{place_of, AreLaid};
+ghost use Rattle.chunk_contexts.specs.Chunks.{lengths, KeepsOthers};
+ghost use Rattle.chunk_contexts.specs.declared.error.ContextError.TheVariants.{NoMemory};
+ghost use Rattle.context_tree.specs.Contexts.{chunks_of, blocks_of, growth_of, with_bytes, kind_refusal, no_context, has_chunk};
+ghost use Rattle.context_tree.specs.Contexts.{chunk_bytes, held_by, IsCounted, IsGrownByRule};
 ghost use Rattle.context_tree.specs.Links.{is_under, placed, IsFull};
-ghost use Rattle.context_tree.specs.Tree.{new_tree, is_there, context_at, parent_id, id_in, with_context, with_new, without_slots, deleted};
-ghost use Rattle.context_tree.specs.Tree.{reset, held_below, held_from, held_by_all, IsBounded, IsWhole, IsRefusedBy, IsKept, IsNotMade};
-ghost use Rattle.context_tree.specs.Tree.{TreeState};
-ghost use Rattle.context_tree.specs.declared.error.TreeError.TheVariants.{NoSuchContext};
+ghost use Rattle.context_tree.specs.Tree.{new_tree, is_there, context_at, parent_id, id_in, with_new, without_slots, deleted};
+ghost use Rattle.context_tree.specs.Tree.{reset, held_below, held_from, held_by_all, IsBounded, IsWhole, IsKept, IsNotMade, TreeState};
 ghost use Rattle.context_tree.specs.declared.error.TreeError.TheVariants as error;
 ghost use Rattle.context_tree.specs.TreeFields.{tree_of, AreFields};
+ghost use Rattle.context_tree.specs.Calls.{OnContext, IsGone, Answers, IsRefusedOn, Allocates, RefusesAlloc, Frees, RefusesFree, Resizes};
+ghost use Rattle.context_tree.specs.Calls.{RefusesResize, Writes, written};
 
 use crate::context::Context;
 use crate::error::TreeError;
@@ -136,6 +135,14 @@ fn growth_for(context: &Context, n: usize) -> u64
     context.growth_for(n as u32)
 }
 
+/// Writes bytes over others, from one place on.
+fn overwrite(chunk: &mut [u8], at: usize, bytes: &[u8])
+    requires { at + length bytes.now ≤ length chunk.old }
+    ensures { chunk.new ≡ written chunk.old at bytes.now }
+{
+    chunk[at..at + bytes.len()].copy_from_slice(bytes);
+}
+
 impl Tree {
     /// Makes a tree of a root alone: an `AllocSet` with no block, and stamp 0.
     pub fn new(alloc: Global) -> Tree
@@ -184,7 +191,7 @@ impl Tree {
 
     /// Refuses an id that no context has.
     fn check(&self, id: ContextId) -> Result<(), TreeError>
-        ensures { MatchResult result (λ _. is_there self.now id ≡ true) (λ e. (is_there self.now id ≡ false) × (e ≡ NoSuchContext)) }
+        ensures { MatchResult result (λ _. is_there self.now id ≡ true) (IsGone id self.now) }
     {
         if !self.is_live(id) {
             return Err(TreeError::NoSuchContext);
@@ -237,9 +244,7 @@ impl Tree {
 
     /// The id of the context below which one was made. The root has none.
     pub fn parent(&self, id: ContextId) -> Result<Option<ContextId>, TreeError>
-        ensures { MatchResult result (λ parent. (is_there self.now id ≡ true)
-            × (parent ≡ parent_id self.now.links (get_or self.now.links id.slot None))) (λ e. (is_there self.now id ≡ false)
-            × (e ≡ NoSuchContext)) }
+        ensures { Answers id self.now (parent_id self.now.links (get_or self.now.links id.slot None)) result }
     {
         self.check(id)?;
         Ok(self.id_in(self.links.parent(id.slot)))
@@ -290,7 +295,7 @@ impl Tree {
     pub fn reset(&mut self, id: ContextId) -> Result<(), TreeError>
         ensures there { OnOk result (is_there self.old id ≡ true) }
         ensures space { OnOk result (self.new ≡ reset self.old id) }
-        ensures refused { IfErr result (λ e. (is_there self.old id ≡ false) × (e ≡ NoSuchContext)) }
+        ensures refused { IfErr result (IsGone id self.old) }
         ensures unchanged { OnErr result (self.new ≡ self.old) }
     {
         self.check(id)?;
@@ -331,8 +336,7 @@ impl Tree {
 
     /// The bytes of a context's blocks.
     pub fn held(&self, id: ContextId) -> Result<u64, TreeError>
-        ensures { MatchResult result (λ held. (is_there self.now id ≡ true) × (held ≡ held_by (context_at self.now id)))
-            (λ e. (is_there self.now id ≡ false) × (e ≡ NoSuchContext)) }
+        ensures { Answers id self.now (held_by (context_at self.now id)) result }
     {
         self.check(id)?;
         Ok(self.contexts[id.slot as usize].held())
@@ -341,8 +345,7 @@ impl Tree {
     /// The bytes of the blocks of a context and of all its descendants.
     pub fn held_below(&self, id: ContextId) -> Result<u128, TreeError>
         ensures bound { IfOk result (λ held. held < 2 ^ 63) }
-        ensures value { MatchResult result (λ held. (is_there self.now id ≡ true) × (held ≡ held_below self.now id))
-            (λ e. (is_there self.now id ≡ false) × (e ≡ NoSuchContext)) }
+        ensures value { Answers id self.now (held_below self.now id) result }
     {
         self.check(id)?;
         Ok(sum_below(&self.links, &self.contexts, id.slot))
@@ -350,8 +353,7 @@ impl Tree {
 
     /// How many bytes of blocks `alloc` of `n` bytes would take now: 0 where it would be refused for what it asks.
     pub fn growth_for(&self, id: ContextId, n: u32) -> Result<u64, TreeError>
-        ensures { MatchResult result (λ growth. (is_there self.now id ≡ true) × (growth ≡ growth_of (context_at self.now id) n))
-            (λ e. (is_there self.now id ≡ false) × (e ≡ NoSuchContext)) }
+        ensures { Answers id self.now (growth_of (context_at self.now id) n) result }
     {
         self.check(id)?;
         Ok(self.contexts[id.slot as usize].growth_for(n))
@@ -359,22 +361,8 @@ impl Tree {
 
     /// Takes a chunk of a context that holds `bytes`, as `ChunkContext::alloc`.
     pub fn alloc(&mut self, id: ContextId, bytes: &[u8]) -> Result<ChunkName, TreeError>
-        ensures there { OnOk result ((is_there self.old id ≡ true) × (refusal_of (context_at self.old id) (length bytes.now) ≡ None)) }
-        ensures added { IfOk result (λ name. Adds (chunks_of (context_at self.old id)) (chunks_of (context_at self.new id)) name
-            (room_in (context_at self.old id) (length bytes.now)) bytes.now) }
-        ensures lives { IfOk result (λ name. IsTrue (has_chunk (context_at self.new id) name)) }
-        ensures holds { IfOk result (λ name. chunk_bytes (context_at self.new id) name ≡ bytes.now) }
-        ensures block { IfOk result (λ name. IsTrue (is_some (get_or (blocks_of (context_at self.new id)) name.block None))) }
-        ensures lies { IfOk result (λ name. may_lie_in (context_at self.old id) (length bytes.now) name.block) }
-        ensures keeps { IfOk result (Keeps (chunks_of (context_at self.old id)) (chunks_of (context_at self.new id))) }
-        ensures space { IfOk result (λ name. self.new
-            ≡ with_context self.old id (with_chunk (context_at self.old id) (length bytes.now)
-            (chunk_of name (room_in (context_at self.old id) (length bytes.now)) bytes.now))) }
-        ensures grown { OnOk result (held_by (context_at self.new id) ≡ held_by (context_at self.old id)
-            + growth_of (context_at self.old id) (length bytes.now)) }
-        ensures refused { IfErr result
-            (IsRefusedBy (is_there self.old id) (IsRefused (refusal_of (context_at self.old id) (length bytes.now))
-            (growth_of (context_at self.old id) (length bytes.now)))) }
+        ensures taken { IfOk result (λ name. OnContext id self.old self.new (Allocates (length bytes.now) bytes.now name)) }
+        ensures refused { IfErr result (IsRefusedOn id self.old (RefusesAlloc (length bytes.now))) }
         ensures unchanged { OnErr result (self.new ≡ self.old) }
     {
         self.check(id)?;
@@ -385,23 +373,8 @@ impl Tree {
 
     /// Takes a chunk of `n` zeros, as `ChunkContext::alloc_zeroed`.
     pub fn alloc_zeroed(&mut self, id: ContextId, n: u32) -> Result<ChunkName, TreeError>
-        ensures there { OnOk result ((is_there self.old id ≡ true) × (refusal_of (context_at self.old id) n ≡ None)) }
-        ensures added { IfOk result (λ name. Adds (chunks_of (context_at self.old id)) (chunks_of (context_at self.new id)) name
-            (room_in (context_at self.old id) n) (zeros n)) }
-        ensures len { IfOk result (λ name. name.len ≡ n) }
-        ensures lives { IfOk result (λ name. IsTrue (has_chunk (context_at self.new id) name)) }
-        ensures holds { IfOk result (λ name. chunk_bytes (context_at self.new id) name ≡ zeros n) }
-        ensures block { IfOk result (λ name. IsTrue (is_some (get_or (blocks_of (context_at self.new id)) name.block None))) }
-        ensures lies { IfOk result (λ name. may_lie_in (context_at self.old id) n name.block) }
-        ensures keeps { IfOk result (Keeps (chunks_of (context_at self.old id)) (chunks_of (context_at self.new id))) }
-        ensures space { IfOk result (λ name. self.new
-            ≡ with_context self.old id
-            (with_chunk (context_at self.old id) n (chunk_of name (room_in (context_at self.old id) n) (zeros n)))) }
-        ensures grown { OnOk result (held_by (context_at self.new id) ≡ held_by (context_at self.old id)
-            + growth_of (context_at self.old id) n) }
-        ensures refused { IfErr result
-            (IsRefusedBy (is_there self.old id) (IsRefused (refusal_of (context_at self.old id) n) (growth_of
-            (context_at self.old id) n))) }
+        ensures taken { IfOk result (λ name. OnContext id self.old self.new (Allocates n (zeros n) name)) }
+        ensures refused { IfErr result (IsRefusedOn id self.old (RefusesAlloc n)) }
         ensures unchanged { OnErr result (self.new ≡ self.old) }
     {
         self.check(id)?;
@@ -416,7 +389,7 @@ impl Tree {
         ensures there { OnOk result (is_there self.now id ≡ true) }
         ensures bytes { IfOk result (λ bytes. bytes.now ≡ chunk_bytes (context_at self.now id) name) }
         ensures len { IfOk result (λ bytes. length bytes.now ≡ name.len) }
-        ensures refused { IfErr result (λ e. (is_there self.now id ≡ false) × (e ≡ NoSuchContext)) }
+        ensures refused { IfErr result (IsGone id self.now) }
     {
         self.check(id)?;
         Ok(self.contexts[id.slot as usize].get(name))
@@ -425,12 +398,8 @@ impl Tree {
     /// Gives up a live chunk of a context, as `ChunkContext::free`.
     pub fn free(&mut self, id: ContextId, name: ChunkName) -> Result<(), TreeError>
         requires { is_there self.old id ≡ true → IsTrue (has_chunk (context_at self.old id) name) }
-        ensures there { OnOk result ((is_there self.old id ≡ true) × (can_free (context_at self.old id) ≡ true)) }
-        ensures gone { OnOk result (chunks_of (context_at self.new id) ≡ without (chunks_of (context_at self.old id)) (place_of name)) }
-        ensures keeps { OnOk result (KeepsOthers (chunks_of (context_at self.old id)) (chunks_of (context_at self.new id)) name name) }
-        ensures space { OnOk result (self.new ≡ with_context self.old id (without_chunk (context_at self.old id) (place_of name))) }
-        ensures refused { IfErr result (IsRefusedBy (is_there self.old id) (λ own. (own ≡ NotSupported)
-            × (can_free (context_at self.old id) ≡ false))) }
+        ensures freed { OnOk result (OnContext id self.old self.new (Frees name)) }
+        ensures refused { IfErr result (IsRefusedOn id self.old RefusesFree) }
         ensures unchanged { OnErr result (self.new ≡ self.old) }
     {
         self.check(id)?;
@@ -440,27 +409,8 @@ impl Tree {
     /// Makes a live chunk of a context `n` bytes long, as `ChunkContext::resize`.
     pub fn resize(&mut self, id: ContextId, name: ChunkName, n: u32) -> Result<ChunkName, TreeError>
         requires { is_there self.old id ≡ true → IsTrue (has_chunk (context_at self.old id) name) }
-        ensures there { OnOk result ((is_there self.old id ≡ true) × (can_free (context_at self.old id) ≡ true)
-            × (refusal_of (context_at self.old id) n ≡ None)) }
-        ensures resized { IfOk result (λ new. IsResized (chunks_of (context_at self.old id)) (chunks_of (context_at self.new id)) name new
-            n) }
-        ensures keeps { IfOk result (KeepsOthers (chunks_of (context_at self.old id)) (chunks_of (context_at self.new id)) name) }
-        ensures stays { IfOk result (λ new. n ≤ (contents_at (chunks_of (context_at self.old id)) (place_of name)).room → self.new
-            ≡ with_context self.old id (with_resized (context_at self.old id) (place_of name)
-            (resized (chunk_bytes (context_at self.old id) name) n))) }
-        ensures moved { IfOk result (λ new. (contents_at (chunks_of (context_at self.old id)) (place_of name)).room < n → self.new
-            ≡ with_context self.old id
-            (without_chunk (with_chunk (context_at self.old id) n (chunk_of new (room_in (context_at self.old id) n)
-            (resized (chunk_bytes (context_at self.old id) name) n))) (place_of name))) }
-        ensures lies { IfOk result (λ new. (contents_at (chunks_of (context_at self.old id)) (place_of name)).room < n
-            → may_lie_in (context_at self.old id) n new.block) }
-        ensures grown { IfOk result (λ new. (contents_at (chunks_of (context_at self.old id)) (place_of name)).room < n
-            → held_by (with_chunk (context_at self.old id) n (chunk_of new (room_in (context_at self.old id) n)
-            (resized (chunk_bytes (context_at self.old id) name) n))) ≡ held_by (context_at self.old id)
-            + growth_of (context_at self.old id) n) }
-        ensures refused { IfErr result
-            (IsRefusedBy (is_there self.old id) (IsResizeRefused (can_free (context_at self.old id)) (refusal_of (context_at self.old id) n)
-            (growth_of (context_at self.old id) n) (contents_at (chunks_of (context_at self.old id)) (place_of name)).room n)) }
+        ensures resized { IfOk result (λ new. OnContext id self.old self.new (Resizes name n new)) }
+        ensures refused { IfErr result (IsRefusedOn id self.old (RefusesResize name n)) }
         ensures unchanged { OnErr result (self.new ≡ self.old) }
     {
         self.check(id)?;
@@ -476,16 +426,38 @@ impl Tree {
 
     /// Lends the bytes of a live chunk of a context, to be changed: `bytes_mut` of an id that is looked at first.
     ///
-    /// Its contract tells the bytes that are lent; that of `bytes_mut` also what the tree is when they were written.
+    /// Its contract tells the bytes that are lent, and not what the tree is when they were written. Those of `write` and of
+    /// `bytes_mut` do.
     pub fn get_mut(&mut self, id: ContextId, name: ChunkName) -> Result<&mut [u8], TreeError>
         requires { is_there self.old id ≡ true → IsTrue (has_chunk (context_at self.old id) name) }
         ensures there { OnOk result (is_there self.old id ≡ true) }
         ensures bytes { IfOk result (λ bytes. bytes.now ≡ chunk_bytes (context_at self.old id) name) }
         ensures len { IfOk result (λ bytes. length bytes.now ≡ name.len) }
-        ensures refused { IfErr result (λ e. (is_there self.old id ≡ false) × (e ≡ NoSuchContext)) }
+        ensures refused { IfErr result (IsGone id self.old) }
     {
         self.check(id)?;
         Ok(self.bytes_mut(id, name))
+    }
+
+    /// Writes bytes into a live chunk of a context, from one place of it on. The rest of the chunk stays as it was.
+    pub fn write(
+        &mut self,
+        id: ContextId,
+        name: ChunkName,
+        at: u32,
+        bytes: &[u8],
+    ) -> Result<(), TreeError>
+        requires chunk { is_there self.old id ≡ true → IsTrue (has_chunk (context_at self.old id) name) }
+        requires inside { at + length bytes.now ≤ name.len }
+        ensures written { OnOk result (OnContext id self.old self.new (Writes name at bytes.now)) }
+        ensures refused { IfErr result (IsGone id self.old) }
+        ensures unchanged { OnErr result (self.new ≡ self.old) }
+    {
+        self.check(id)?;
+        self.is_whole();
+        let chunk = self.bytes_mut(id, name);
+        overwrite(chunk, at as usize, bytes);
+        Ok(())
     }
 
     /// Lends the bytes of a live chunk of a context that is there, to be changed. All other chunks keep theirs.

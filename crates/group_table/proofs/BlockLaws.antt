@@ -232,8 +232,8 @@ module _ (s m : SetState) (old name : ChunkName) (n : ℕ) (is : AreArraysHeld s
   sum : bucket_blocks (buckets n) (buckets (n + 1)) ≡ 16384 + array_block (buckets (n + 1)) + array_block (buckets n)
   sum = array_beside (buckets n) (buckets (n + 1)) (λ equal. omega (arith, equal, is.older.1))
 
-  settled_by : freed.blocks ≡ s.blocks → array_block (buckets n) ≡ 0 → IsArrayHeld freed name (n + 1)
-  settled_by kept none = grind (arith, nat_tests, common_steps)
+  replaced_by : freed.blocks ≡ s.blocks → array_block (buckets n) ≡ 0 → IsArrayHeld freed name (n + 1)
+  replaced_by kept none = grind (arith, nat_tests, common_steps)
 
   given_back : 256 < buckets n → freed.blocks ≡ slice_set s.blocks old.block None → IsArrayHeld freed name (n + 1)
   given_back long kept =
@@ -253,8 +253,8 @@ module _ (s m : SetState) (old name : ChunkName) (n : ℕ) (is : AreArraysHeld s
         held = omega (arith, ap total kept, total_without s.blocks old.block, was, is.held, sum, array_alone (buckets (n + 1)));
       }
 
-  pub larger_settled : IsArrayHeld freed name (n + 1)
-  larger_settled = elim (cases_lt 256 (buckets n)) [
+  pub larger_replaced : IsArrayHeld freed name (n + 1)
+  larger_replaced = elim (cases_lt 256 (buckets n)) [
     | inl long ↦
         let big : 8192 < old.len = omega (arith, is.older.0.len, long) in
         let gone : nat_lt LARGEST r ≡ true = lt-ltb LARGEST r (omega (arith, room, large_room old.len big, big)) in
@@ -262,6 +262,6 @@ module _ (s m : SetState) (old name : ChunkName) (n : ℕ) (is : AreArraysHeld s
     | inr least ↦
         let short : old.len ≤ 8192 = omega (arith, is.older.0.len, least) in
         let kept : nat_lt LARGEST r ≡ false = le-ltb LARGEST r (omega (arith, room, short_room old.len short)) in
-        settled_by (ap (λ b. cond b (slice_set m.blocks old.block None) m.blocks) kept ∙ same) (ap (λ (c : Bool). if c then 32 * buckets n
+        replaced_by (ap (λ b. cond b (slice_set m.blocks old.block None) m.blocks) kept ∙ same) (ap (λ (c : Bool). if c then 32 * buckets n
         + 8 else 0) (le-ltb 256 (buckets n) least))
   ]

@@ -109,24 +109,24 @@ module _ {H : Type 0} (t : TableState H) (next : Option ChunkName) (tree a b e :
     (first : OnlyIn t.buckets tree a)
     (others : KeepsOthers t a b) (buckets : context_at b t.buckets ≡ context_at a t.buckets) (same : groups t b ≡ groups t a)
     (placed_b : IsPlaced t b) (last : OnlyIn t.buckets b e) where
-  pub settled_groups : groups (with_next t next) e ≡ groups t tree
-  settled_groups = groups_left t b e last placed_b ∙ same ∙ groups_left t tree a first placed
+  pub replaced_groups : groups (with_next t next) e ≡ groups t tree
+  replaced_groups = groups_left t b e last placed_b ∙ same ∙ groups_left t tree a first placed
 
-  pub settled_others : KeepsOthers t tree e
-  settled_others = others_twice t tree b e (others_twice t tree a b (others_left t tree a first placed) others)
+  pub replaced_others : KeepsOthers t tree e
+  replaced_others = others_twice t tree b e (others_twice t tree a b (others_left t tree a first placed) others)
       (others_left t b e last placed_b)
 
-  pub settled_next : (key state : List ℕ) (slot : Slot) → IsNext t b key state slot → IsNext (with_next t next) e key state slot
-  settled_next key state slot is = next_next t next e key state slot (next_left t b e last placed_b key state slot is)
+  pub replaced_next : (key state : List ℕ) (slot : Slot) → IsNext t b key state slot → IsNext (with_next t next) e key state slot
+  replaced_next key state slot is = next_next t next e key state slot (next_left t b e last placed_b key state slot is)
 
-  pub settled_absent : (key : List ℕ) → HasNo t tree key → HasNo (with_next t next) e key
-  settled_absent key absent = has_no_kept t tree e key settled_groups absent
+  pub replaced_absent : (key : List ℕ) → HasNo t tree key → HasNo (with_next t next) e key
+  replaced_absent key absent = has_no_kept t tree e key replaced_groups absent
 
   module _ (n : ℕ) (one : held_by (context_at a t.buckets) ≤ held_by (context_at tree t.buckets) + array_growth t tree)
       (two : held_below b t.parent ≤ held_below a t.parent + growth_of (context_at a t.keys) n + growth_of (context_at a t.states) t.width)
       (three : held_by (context_at e t.buckets) ≤ held_by (context_at b t.buckets)) where
-    pub settled_held : held_below e t.parent ≤ held_below tree t.parent + group_growth t tree n
-    settled_held =
+    pub replaced_held : held_below e t.parent ≤ held_below tree t.parent + group_growth t tree n
+    replaced_held =
         let key : growth_of (context_at a t.keys) n ≡ growth_of (context_at tree t.keys) n = ap (λ (c : Context). growth_of c n)
         (keys_left t tree a first placed) in
         let state : growth_of (context_at a t.states) t.width

@@ -12,7 +12,7 @@ use Rattle.group_table.proofs.Words.{HoldsNext, LARGEST}
 use Rattle.chunk_contexts.specs.Chunks.{KeepsOthers}
 use Rattle.group_table.specs.Index.{in_use}
 use Rattle.group_table.proofs.ArrayLaws.{as_named, one_set}
-use Rattle.group_table.proofs.BlockLaws.{short_room, larger_settled, total_without, size_without}
+use Rattle.group_table.proofs.BlockLaws.{short_room, larger_replaced, total_without, size_without}
 use Rattle.group_table.proofs.IndexLaws.{none_yet}
 use Rattle.group_table.proofs.StandLaws.{SetOf, set_of, set_with}
 use Rattle.group_table.proofs.TreeFacts.{at_same, placed_kept, same_links, same_number, only_twice}
@@ -249,5 +249,5 @@ module _ {H : Type 0} (hash_of : H → List ℕ → ℕ) (t : TableState H) (nam
       larger_holds number holds =
           let all : AreArraysHeld s t.array name number = subst (IsSetWith (HoldsNext t.array (Some name) number)) set.is holds in
           set_with (HoldsArray (Some name) (number + 1)) (context_at after t.buckets) freed is_freed
-          (larger_settled s m old name number (subst (λ a. AreArraysHeld s a name number) array all) blocks_same (room_at (place_of old)
+          (larger_replaced s m old name number (subst (λ a. AreArraysHeld s a name number) array all) blocks_same (room_at (place_of old)
           ∙ was.beside.room))

@@ -420,22 +420,22 @@ pub ok_map : {T E P Q : Type 0} → (r : Result T E) → (P → Q) → OnOk r P 
 ok_map (Ok x) f p = f p
 ok_map (Err e) f p = tt
 
-module _ {H : Type 0} (t : TableState H) (next : Option ChunkName) (settled : TableState H) (is : settled ≡ with_next t next)
+module _ {H : Type 0} (t : TableState H) (next : Option ChunkName) (replaced : TableState H) (is : replaced ≡ with_next t next)
     (b e d : TreeState)
-    (placed_b : IsPlaced t b) (only_e : OnlyIn t.buckets b e) (placed_e : IsPlaced settled e) (only_d : OnlyIn settled.buckets e d) where
-  pub buckets_at : settled.buckets ≡ t.buckets
+    (placed_b : IsPlaced t b) (only_e : OnlyIn t.buckets b e) (placed_e : IsPlaced replaced e) (only_d : OnlyIn replaced.buckets e d) where
+  pub buckets_at : replaced.buckets ≡ t.buckets
   buckets_at = ap (λ (x : TableState H). x.buckets) is
 
-  keys_at : settled.keys ≡ t.keys
+  keys_at : replaced.keys ≡ t.keys
   keys_at = ap (λ (x : TableState H). x.keys) is
 
-  states_at : settled.states ≡ t.states
+  states_at : replaced.states ≡ t.states
   states_at = ap (λ (x : TableState H). x.states) is
 
   pub keys_after : context_at d t.keys ≡ context_at b t.keys
-  keys_after = subst (λ id. context_at d id ≡ context_at e id) keys_at (keys_left settled e d only_d placed_e)
+  keys_after = subst (λ id. context_at d id ≡ context_at e id) keys_at (keys_left replaced e d only_d placed_e)
       ∙ keys_left t b e only_e placed_b
 
   pub states_after : context_at d t.states ≡ context_at b t.states
-  states_after = subst (λ id. context_at d id ≡ context_at e id) states_at (states_left settled e d only_d placed_e)
+  states_after = subst (λ id. context_at d id ≡ context_at e id) states_at (states_left replaced e d only_d placed_e)
       ∙ states_left t b e only_e placed_b

@@ -6,3 +6,4 @@ pub mod Standing
 pub mod Space
 pub mod Arrays
 pub mod Children
+pub mod Inserts

@@ -1,9 +1,8 @@
 //! Arrays of buckets that are chunks of a context.
 ghost use Rattle.std.specs.Prelude.{◌≡◌, ◌+◌, ◌<◌, ◌≤◌, ℕ, None, false};
 ghost use Rattle.chunk_layout.specs.Contents.{place_of, same_place};
-ghost use Rattle.chunk_contexts.specs.Chunks.{KeepsOthers};
-ghost use Rattle.context_tree.specs.Contexts.{chunks_of, without_chunk};
-ghost use Rattle.context_tree.specs.Tree.{context_at, with_context};
+ghost use Rattle.context_tree.specs.Calls.{OnContext, Frees};
+ghost use Rattle.context_tree.specs.Tree.{context_at};
 ghost use Rattle.group_table.specs.Buckets.{bucket_at};
 ghost use Rattle.group_table.specs.Index.{IsIndex, in_use, Puts, HasAll};
 ghost use Rattle.group_table.specs.Arrays.{IsRewritten, IsArrayAt, OnlyIn, bytes_at, count_of};
@@ -52,8 +51,7 @@ pub(crate) fn refill(tree: &mut Tree, id: ContextId, from: ChunkName, to: ChunkN
 /// Gives up an array of a set.
 pub(crate) fn give_up(tree: &mut Tree, id: ContextId, name: ChunkName)
     requires { IsArrayAt tree.old id name }
-    ensures gone { tree.new ≡ with_context tree.old id (without_chunk (context_at tree.old id) (place_of name)) }
-    ensures keeps { KeepsOthers (chunks_of (context_at tree.old id)) (chunks_of (context_at tree.new id)) name name }
+    ensures { OnContext id tree.old tree.new (Frees name) }
 {
     tree.free(id, name).unwrap()
 }

@@ -13,6 +13,7 @@ ghost use Rattle.aggregation_cost.specs.Space.{Key, need, held_after, fits};
 ghost use Rattle.group_table.specs.Space.{keys_in, is_within, IsRunWith, IsSlabWith, HoldsArray, HoldsNext, HoldsKeyBlocks, HoldsStates};
 ghost use Rattle.group_table.specs.Space.{HoldsKeys};
 ghost use Rattle.group_table.specs.Standing.{IsSetWith, IsStanding, IsTableIn, KeepsOthers, KeepsBeside, IsSameFor};
+ghost use Rattle.group_table.specs.Inserts.{Inserts};
 ghost use Rattle.group_table.specs.Children.{IsRefused, IsAsBefore, IsNewTable, IsCleared};
 ghost use Rattle.group_table.specs.Arrays.{OnlyIn, HasNext, IsSpare, IsNext, with_next, with_slot, with_spare};
 
@@ -67,7 +68,17 @@ impl<H: KeyHash + Drop> Model for GroupTable<H> {
 
     ghost Value = { TableState H };
 
-    ghost view = { λ t. record { parent = t.parent; buckets = t.buckets; keys = t.keys; states = t.states; width = t.width; hash = t.hash; array = t.array; slots = t.slots.items; spare = vec_capacity t.slots - vec_len t.slots } };
+    ghost view = { λ t. record {
+      parent = t.parent;
+      buckets = t.buckets;
+      keys = t.keys;
+      states = t.states;
+      width = t.width;
+      hash = t.hash;
+      array = t.array;
+      slots = t.slots.items;
+      spare = vec_capacity t.slots - vec_len t.slots;
+    } };
 }
 
 /// How many bytes of blocks a chunk of `n` bytes takes of a context that is there.
@@ -373,7 +384,7 @@ impl<H: KeyHash + Drop> GroupTable<H> {
     }
 
     /// Makes the next array that of the table, if there is one: all buckets in use are put there, and the old array is given up.
-    fn settle(&mut self, tree: &mut Tree, next: Option<ChunkName>)
+    fn replace_array(&mut self, tree: &mut Tree, next: Option<ChunkName>)
         requires standing { IsStanding H.hash_of self.old tree.old }
         requires next { HasNext self.old tree.old next }
         ensures only { OnlyIn self.old.buckets tree.old tree.new }
@@ -424,17 +435,7 @@ impl<H: KeyHash + Drop> GroupTable<H> {
         requires key { length key.now ≤ LONGEST }
         requires state { length state.now ≡ self.old.width }
         requires few { buckets_for (buckets_in self.old.array) (length self.old.slots) ≤ most_buckets }
-        ensures table { IsTableIn H.hash_of self.new tree.new }
-        ensures same { IsSameBut self.old self.new }
-        ensures slot { IfOk result (λ slot. self.new.slots ≡ self.old.slots ++ slot ∷ []) }
-        ensures groups { OnOk result (groups self.new tree.new ≡ groups self.old tree.old ++ (key.now, state.now) ∷ []) }
-        ensures refused { OnErr result ((self.new.slots ≡ self.old.slots) × (groups self.new tree.new ≡ groups self.old tree.old)) }
-        ensures others { KeepsOthers self.old tree.old tree.new }
-        ensures held { held_below tree.new self.old.parent ≤ held_below tree.old self.old.parent
-            + group_growth self.old tree.old (length key.now) }
-        ensures rest { held_below tree.new self.old.parent + held_in self.old tree.old ≡ held_below tree.old self.old.parent
-            + held_in self.old tree.new }
-        ensures holds { OnOk result (HoldsKeys self.old tree.old → HoldsKeys self.new tree.new) }
+        ensures { Inserts H.hash_of self.old self.new tree.old tree.new key.now state.now result }
     {
         self.make_room()?;
         self.insert_noted(tree, key, state)
@@ -466,19 +467,11 @@ impl<H: KeyHash + Drop> GroupTable<H> {
         requires key { length key.now ≤ LONGEST }
         requires state { length state.now ≡ self.old.width }
         requires few { buckets_for (buckets_in self.old.array) (length self.old.slots) ≤ most_buckets }
-        ensures table { IsTableIn H.hash_of self.new tree.new }
-        ensures same { IsSameBut self.old self.new }
-        ensures slot { IfOk result (λ slot. self.new.slots ≡ self.old.slots ++ slot ∷ []) }
-        ensures groups { OnOk result (groups self.new tree.new ≡ groups self.old tree.old ++ (key.now, state.now) ∷ []) }
-        ensures refused { OnErr result ((self.new.slots ≡ self.old.slots) × (groups self.new tree.new ≡ groups self.old tree.old)) }
-        ensures others { KeepsOthers self.old tree.old tree.new }
-        ensures held { held_below tree.new self.old.parent ≤ held_below tree.old self.old.parent
-            + group_growth self.old tree.old (length key.now) }
-        ensures holds { OnOk result (HoldsKeys self.old tree.old → HoldsKeys self.new tree.new) }
+        ensures { Inserts H.hash_of self.old self.new tree.old tree.new key.now state.now result }
     {
         let next = self.take_array(tree)?;
         let taken = self.take_group(tree, key, state);
-        self.settle(tree, next);
+        self.replace_array(tree, next);
         let slot = taken?;
         self.put_slot(tree, key, slot);
         self.slots.push_reserved(slot);

@@ -51,10 +51,21 @@ fn write_over(tree: &mut Tree) -> Result<bool, TreeError> {
     Ok(zeroed)
 }
 
-/// Tells the chunks of a root, one of them made longer and one written over.
+/// Writes into a chunk, and tells whether the rest of it and another chunk have their bytes then.
+fn write_within(tree: &mut Tree) -> Result<(bool, bool), TreeError> {
+    let root = tree.root();
+    let name = tree.alloc(root, b"abcde")?;
+    let other = tree.alloc(root, b"fg")?;
+    tree.write(root, name, 1, b"xy")?;
+    let written = has(tree, root, name, b"axyde")?;
+    Ok((written, has(tree, root, other, b"fg")?))
+}
+
+/// Tells the chunks of a root, one of them made longer, one written over and one written into.
 fn tell_chunks(tree: &mut Tree, told: &mut Answered) -> Result<(), TreeError> {
     told.tell(lengthen(tree))?;
     told.tell(write_over(tree))?;
+    told.tell(write_within(tree))?;
     told.tell(tree.held(tree.root()))?;
     Ok(told.tell(tree.growth_for(tree.root(), 9000))?)
 }
@@ -63,7 +74,7 @@ fn tell_chunks(tree: &mut Tree, told: &mut Answered) -> Result<(), TreeError> {
 fn chunks_of_a_root(rt: HostRuntime) -> Result<(), Fail> {
     expect_told(
         of_tree(rt.alloc(), 0, tell_chunks),
-        "Ok(true) Ok(true) Ok(8192) Ok(9008) ",
+        "Ok(true) Ok(true) Ok((true, true)) Ok(8192) Ok(9008) ",
     )
 }
 
@@ -110,13 +121,22 @@ fn change(tree: &mut Tree, gone: Gone) -> Result<(), TreeError> {
     Ok(())
 }
 
+/// Writes nothing into a chunk of a context, if that is gone.
+fn write(tree: &mut Tree, gone: Gone) -> Result<(), TreeError> {
+    if tree.is_live(gone.id) {
+        return Ok(());
+    }
+    tree.write(gone.id, gone.name, 0, b"")
+}
+
 /// Tells what other calls by that id answer, and by the name of a chunk.
 fn tell_chunk_refusals(tree: &mut Tree, gone: Gone, told: &mut Answered) -> Result<(), TreeError> {
     told.tell(tree.parent(gone.id))?;
     told.tell(tree.growth_for(gone.id, 8))?;
     told.tell(free(tree, gone))?;
     told.tell(resize(tree, gone))?;
-    Ok(told.tell(change(tree, gone))?)
+    told.tell(change(tree, gone))?;
+    Ok(told.tell(write(tree, gone))?)
 }
 
 /// Whether the id of a context that is gone reaches a chunk.
@@ -163,7 +183,7 @@ fn an_id_names_one_context(rt: HostRuntime) -> Result<(), Fail> {
         of_tree(rt.alloc(), 0, tell_stale),
         "false Ok((true, 2)) false Err(RootKept) Err(NoSuchContext) Err(NoSuchContext) Err(NoSuchContext) \
          Err(NoSuchContext) Err(NoSuchContext) Err(NoSuchContext) Err(NoSuchContext) Err(NoSuchContext) \
-         Err(NoSuchContext) Err(NoSuchContext) Err(NoSuchContext) ",
+         Err(NoSuchContext) Err(NoSuchContext) Err(NoSuchContext) Err(NoSuchContext) ",
     )
 }
 

@@ -1,6 +1,12 @@
-use Rattle.std.proofs.Common.{◌∙◌}
+use Rattle.std.proofs.Common.{subst}
+use Rattle.chunk_contexts.proofs.Words.{zeros, TakesChunk, rounded}
 use Rattle.chunk_contexts.proofs.Laws.{length-zeros}
+use Rattle.chunk_contexts.proofs.Content.{added-takes}
+use Rattle.chunk_contexts.specs.Run.{RunState, run_of}
 use Rattle.chunk_contexts.proofs.bump.BumpChunkContext.alloc_zeroed.Goals as goal
 
-pub returns-clause-len : goal.returns-clause-len
-returns-clause-len c = c.in_ok-name.ensures.added.len ∙ length-zeros c.args.n
+pub returns-clause-taken : goal.returns-clause-taken
+returns-clause-taken c =
+    let n = c.args.n in let bytes = zeros c.args.n in let name = c.in_ok-name.name in let after = c.alloc_zeroed.new.self in
+    subst (λ (s : RunState). TakesChunk s.chunks (run_of after).chunks name (rounded n) n bytes) c.self.view_is
+    (added-takes _ _ _ _ _ c.in_ok-name.ensures.added n (length-zeros n))

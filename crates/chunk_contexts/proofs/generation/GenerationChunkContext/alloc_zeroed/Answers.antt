@@ -1,8 +1,9 @@
 use Rattle.std.proofs.Common.{sym, ap, ◌∙◌, subst, arith}
-use Rattle.chunk_contexts.proofs.Words.{zeros}
+use Rattle.chunk_contexts.proofs.Words.{zeros, TakesChunk, rounded}
 use Rattle.chunk_contexts.proofs.Laws.{always_err, length-zeros, common_steps, nat_tests}
+use Rattle.chunk_contexts.proofs.Content.{added-takes}
 use Rattle.chunk_contexts.specs.declared.runs.Runs.{Runs}
-use Rattle.chunk_contexts.specs.Run.{run_of}
+use Rattle.chunk_contexts.specs.Run.{RunState, run_of}
 use Rattle.chunk_contexts.specs.Generation.{IsCounted}
 use Rattle.chunk_contexts.proofs.GenAllocs.{made-there, made-counted, counted-longer, refused-count, refused-as}
 use Rattle.chunk_contexts.proofs.generation.GenerationChunkContext.alloc_zeroed.Goals as goal
@@ -45,7 +46,11 @@ returns-in_err-name-clause-unchanged c = always_err c.from_residual-in_err-name.
     ∙ c.self.view_is)
 
 pub returns : goal.returns
-returns c = grind (arith, nat_tests, common_steps, length-zeros c.args.n)
+returns c =
+    let n = c.args.n in let bytes = zeros c.args.n in let name = c.in_ok-name.name in let after = c.alloc_zeroed.new.self in
+    let taken = subst (λ (s : RunState). TakesChunk s.chunks (run_of after).chunks name (rounded n) n bytes) c.self.view_is
+    (added-takes _ _ _ _ _ c.in_ok-name.ensures.added n (length-zeros n)) in
+    grind (arith, nat_tests, common_steps, taken)
 
 pub invariant_of-self : goal.invariant_of-self
 invariant_of-self c = counted-longer _ _ _ c.self.invariant c.in_err-make_count.ensures.same c.in_err-make_count.ensures.long

@@ -1,7 +1,7 @@
 use Rattle.std.proofs.Common.{◌≡◌, ◌+◌, ◌∷◌, ℕ, List, true, false, sym, ap, ◌∙◌, subst, arith}
 use Rattle.chunk_contexts.proofs.Words.{zeros, ChunkContents, same_place, place_of, has, contents_at, without, resized, total, Place}
 use Rattle.chunk_contexts.proofs.Words.{ChunkName, bytes_of, chunk_of, IsResized, rounded}
-use Rattle.chunk_contexts.proofs.Laws.{length-zeros, same_place-sym, has-later, contents_at-later, common_steps, nat_tests}
+use Rattle.chunk_contexts.proofs.Laws.{same_place-sym, has-later, contents_at-later, common_steps, nat_tests}
 use Rattle.chunk_contexts.specs.Run.{RunState, run_growth, run_put, run_taken}
 use Rattle.chunk_contexts.specs.Generation.{gen_freed}
 use Rattle.chunk_contexts.proofs.GenMoves.{freed-chunks, freed-less}
@@ -76,7 +76,7 @@ returns c =
     let there = name-there s.chunks name c.requires in
     let state : c.release.new.self ≡ gen_freed (run_taken 8 s p) (place_of name) = moved-is s c.fill.new.self c.release.new.self name
     c.place-place.result p (filled-is s c.alloc_zeroed.new.self c.fill.new.self name new n (rounded n) (zeros n) there
-    c.in_ok-moved.ensures.added.fresh c.in_ok-moved.ensures.space c.place-place.result c.place.result c.place-place.ensures
+    c.in_ok-moved.ensures.taken.added.fresh c.in_ok-moved.ensures.space c.place-place.result c.place.result c.place-place.ensures
     c.place.ensures c.fill.ensures) c.release.ensures c.place-place.ensures in
     let grown : total (run_taken 8 s p).blocks ≡ total s.blocks
     + run_growth 8 s n = ap total (run-blocks 8 s (place_of new) (rounded n) p.bytes (zeros n)
@@ -85,6 +85,6 @@ returns c =
     ∙ freed-chunks (run_taken 8 s p) (place_of name) ∙ ap (λ (cs : List ChunkContents). without cs (place_of name)) (run-chunks 8 s p)
     in
     let is : IsResized s.chunks c.release.new.self.chunks name new n = subst (λ (cs : List ChunkContents). IsResized s.chunks cs name new n)
-    (sym chunks) (resized-moved s.chunks name new n (rounded n) there c.in_ok-moved.ensures.added.fresh (c.in_ok-moved.ensures.added.len
-    ∙ length-zeros n)) in
+    (sym chunks) (resized-moved s.chunks name new n (rounded n) there c.in_ok-moved.ensures.taken.added.fresh
+    c.in_ok-moved.ensures.taken.len) in
     grind (arith, nat_tests, common_steps, resized-keeps s.chunks c.release.new.self.chunks name new n is, freed-less)

@@ -1,9 +1,8 @@
-use Rattle.std.proofs.Common.{◌≡◌, ◌+◌, ◌≤◌, None, get_or, ap, arith}
-use Rattle.std.specs.Prelude.{IsTrue, is_some}
-use Rattle.context_tree.proofs.Words.{always_err, chunk_of, Adds, Keeps, IsRefused, chunks_of, blocks_of, room_in, refusal_of, growth_of}
-use Rattle.context_tree.proofs.Words.{may_lie_in, with_chunk, has_chunk, chunk_bytes, held_by, is_there, Context}
+use Rattle.std.proofs.Common.{◌+◌, ◌≤◌, get_or, ap, arith}
+use Rattle.context_tree.proofs.Words.{always_err, IsRefused, refusal_of, growth_of, held_by, is_there, Context}
 use Rattle.block_memory.specs.Cells.{zeros}
-use Rattle.context_tree.proofs.TreeLaws.{IsLent, read-changed, fits-asked, said, new-by, unchanged, fields-written, refused-gone}
+use Rattle.context_tree.specs.Calls.{Allocates}
+use Rattle.context_tree.proofs.TreeLaws.{IsLent, read-changed, fits-asked, said, on-context, unchanged, fields-written, refused-gone}
 use Rattle.context_tree.proofs.TreeLaws.{refused-own}
 use Rattle.context_tree.proofs.tree.Tree.alloc_zeroed.Goals.{After-deref_mut}
 use Rattle.context_tree.proofs.tree.Tree.alloc_zeroed.Goals as goal
@@ -31,21 +30,17 @@ returns-in_err-alloc_zeroed-clause-unchanged c = always_err c.from_residual-in_e
 
 pub returns : goal.returns
 returns c =
-    let at = lent (goal.at.returns c).After-deref_mut in
-    let new = c.alloc_zeroed.new.self in let other = c.index-deref_mut-id.result in
-    let n = c.args.n in let name = c.in_ok-alloc_zeroed.field-0 in let told = c.in_ok-alloc_zeroed.ensures in
-    let said = said _ _ _ _ at new other in
+    let at = lent (goal.at.returns c).After-deref_mut in let told = c.in_ok-alloc_zeroed.ensures in let n = c.args.n in
     record {
-      there = (at.there, said (λ a _. refusal_of a n ≡ None) told.admitted);
-      added = said (λ a b. Adds (chunks_of a) (chunks_of b) name (room_in a n) (zeros n)) told.added;
-      len = told.len;
-      lives = said (λ _ b. IsTrue (has_chunk b name)) told.lives;
-      holds = said (λ _ b. chunk_bytes b name ≡ zeros n) told.holds;
-      block = said (λ _ b. IsTrue (is_some (get_or (blocks_of b) name.block None))) told.block;
-      lies = said (λ a _. may_lie_in a n name.block) told.lies;
-      keeps = said (λ a b. Keeps (chunks_of a) (chunks_of b) name) told.keeps;
-      space = new-by _ _ _ _ at new other (λ a. with_chunk a n (chunk_of name (room_in a n) (zeros n))) told.space;
-      grown = said (λ a b. held_by b ≡ held_by a + growth_of a n) told.grown;
+      taken = on-context _ _ _ _ at c.alloc_zeroed.new.self c.index-deref_mut-id.result (Allocates n (zeros n) c.in_ok-alloc_zeroed.field-0)
+          (record {
+            admitted = told.admitted;
+            taken = told.taken;
+            block = told.block;
+            lies = told.lies;
+            space = told.space;
+            grown = told.grown;
+          });
       refused = tt;
       unchanged = tt;
     }

@@ -1,9 +1,9 @@
-use Rattle.std.proofs.Common.{◌≡◌, true, false, sym, subst, arith}
+use Rattle.std.proofs.Common.{◌≡◌, false, sym, subst, arith}
 use Rattle.std.specs.Prelude.{IsTrue}
 use Rattle.std.proofs.lemmas.Bool.{not-true}
-use Rattle.context_tree.proofs.Words.{always_err, place_of, without, KeepsOthers, chunks_of, can_free, without_chunk, has_chunk, is_there}
-use Rattle.context_tree.proofs.Words.{Context}
-use Rattle.context_tree.proofs.TreeLaws.{IsLent, old-is, fits-grown, said, new-by, unchanged, fields-written, refused-gone, refused-own}
+use Rattle.context_tree.proofs.Words.{always_err, can_free, has_chunk, is_there, Context}
+use Rattle.context_tree.specs.Calls.{Frees}
+use Rattle.context_tree.proofs.TreeLaws.{IsLent, old-is, fits-grown, said, on-context, unchanged, fields-written, refused-gone, refused-own}
 use Rattle.context_tree.proofs.tree.Tree.free.Goals.{After-deref_mut}
 use Rattle.context_tree.proofs.tree.Tree.free.Goals as goal
 
@@ -45,15 +45,10 @@ returns-in_err-free-clause-unchanged c = always_err c.from_residual-in_err-free.
 
 pub returns : goal.returns
 returns c =
-    let at = lent (goal.at.returns c).After-deref_mut in
-    let new = c.free.new.self in let other = c.index-deref_mut-id.result in
-    let name = c.args.name in let told = c.in_ok-free.ensures in
-    let said = said _ _ _ _ at new other in
+    let at = lent (goal.at.returns c).After-deref_mut in let told = c.in_ok-free.ensures in
     record {
-      there = (at.there, said (λ a _. can_free a ≡ true) told.supported);
-      gone = said (λ a b. chunks_of b ≡ without (chunks_of a) (place_of name)) told.gone;
-      keeps = said (λ a b. KeepsOthers (chunks_of a) (chunks_of b) name name) told.keeps;
-      space = new-by _ _ _ _ at new other (λ a. without_chunk a (place_of name)) told.space;
+      freed = on-context _ _ _ _ at c.free.new.self c.index-deref_mut-id.result (Frees c.args.name)
+          (record { supported = told.supported; gone = told.gone; keeps = told.keeps; space = told.space });
       refused = tt;
       unchanged = tt;
     }

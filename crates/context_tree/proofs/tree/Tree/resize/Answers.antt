@@ -1,13 +1,12 @@
-use Rattle.std.proofs.Common.{◌≡◌, ◌+◌, ◌<◌, ◌≤◌, true, None, inl, inr, get_or, sym, ap, subst, ◌∙◌, arith}
+use Rattle.std.proofs.Common.{◌≡◌, ◌+◌, ◌<◌, ◌≤◌, true, inl, inr, get_or, sym, ap, subst, ◌∙◌, arith}
 use Rattle.std.proofs.lemmas.Bool.{cases_lt}
 use Rattle.std.specs.Prelude.{IsTrue}
-use Rattle.context_tree.proofs.Words.{always_err, contents_at, place_of, resized, chunk_of, IsResized, IsResizeRefused, KeepsOthers}
-use Rattle.context_tree.proofs.Words.{chunks_of}
-use Rattle.context_tree.proofs.Words.{chunk_bytes, room_in, refusal_of, growth_of, can_free, may_lie_in, held_by, with_resized, with_chunk}
-use Rattle.context_tree.proofs.Words.{without_chunk, has_chunk, is_there, Context}
+use Rattle.context_tree.proofs.Words.{always_err, contents_at, place_of, resized, IsResizeRefused, chunks_of, chunk_bytes, refusal_of}
+use Rattle.context_tree.proofs.Words.{growth_of, can_free, held_by, has_chunk, is_there, Context}
+use Rattle.context_tree.specs.Calls.{Resizes}
 use Rattle.context_tree.proofs.Bounds.{resized-held}
-use Rattle.context_tree.proofs.TreeLaws.{IsLent, old-is, read-changed, fits-asked, said, new-by, unchanged, fields-written, refused-gone}
-use Rattle.context_tree.proofs.TreeLaws.{refused-own}
+use Rattle.context_tree.proofs.TreeLaws.{IsLent, old-is, read-changed, fits-asked, said, on-context, unchanged, fields-written}
+use Rattle.context_tree.proofs.TreeLaws.{refused-gone, refused-own}
 use Rattle.context_tree.proofs.tree.Tree.resize.Goals.{After-deref_mut}
 use Rattle.context_tree.proofs.tree.Tree.resize.Goals as goal
 
@@ -41,27 +40,17 @@ returns-in_err-resize-clause-unchanged c = always_err c.from_residual-in_err-res
 
 pub returns : goal.returns
 returns c =
-    let at = lent (goal.at.returns c).After-deref_mut in
-    let new = c.resize.new.self in let other = c.index-deref_mut-id.result in
-    let name = c.args.name in let n = c.args.n in let to = c.in_ok-resize.field-0 in let told = c.in_ok-resize.ensures in
-    let old = old-is c.self.inside at.are c.args.self.now at.view c.args.id at.there c.deref_mut.result.now other at.same in
-    let said = said _ _ _ _ at new other in
+    let at = lent (goal.at.returns c).After-deref_mut in let told = c.in_ok-resize.ensures in
     record {
-      there = (at.there, said (λ a _. can_free a ≡ true) told.admitted.0, said (λ a _. refusal_of a n ≡ None) told.admitted.1);
-      resized = said (λ a b. IsResized (chunks_of a) (chunks_of b) name to n) told.resized;
-      keeps = said (λ a b. KeepsOthers (chunks_of a) (chunks_of b) name to) told.keeps;
-      stays = λ room.
-          new-by _ _ _ _ at new other (λ a. with_resized a (place_of name) (resized (chunk_bytes a name) n))
-          (told.stays (subst (λ (a : Context). n ≤ (contents_at (chunks_of a) (place_of name)).room) (sym old) room));
-      moved = λ room.
-          new-by _ _ _ _ at new other (λ a. without_chunk (with_chunk a n (chunk_of to (room_in a n) (resized (chunk_bytes a name) n)))
-          (place_of name))
-          (told.moved (subst (λ (a : Context). (contents_at (chunks_of a) (place_of name)).room < n) (sym old) room));
-      lies = λ room. said (λ a _. may_lie_in a n to.block)
-          (told.lies (subst (λ (a : Context). (contents_at (chunks_of a) (place_of name)).room < n) (sym old) room));
-      grown = λ room.
-          said (λ a _. held_by (with_chunk a n (chunk_of to (room_in a n) (resized (chunk_bytes a name) n))) ≡ held_by a + growth_of a n)
-          (told.grown (subst (λ (a : Context). (contents_at (chunks_of a) (place_of name)).room < n) (sym old) room));
+      resized = on-context _ _ _ _ at c.resize.new.self c.index-deref_mut-id.result (Resizes c.args.name c.args.n c.in_ok-resize.field-0)
+          (record {
+            supported = told.admitted.0;
+            admitted = told.admitted.1;
+            resized = told.resized;
+            keeps = told.keeps;
+            stays = told.stays;
+            moves = λ more. record { space = told.moved more; lies = told.lies more; grown = told.grown more };
+          });
       refused = tt;
       unchanged = tt;
     }

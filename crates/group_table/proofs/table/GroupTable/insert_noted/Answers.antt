@@ -1,15 +1,16 @@
-use Rattle.std.proofs.Common.{◌≡◌, refl, ◌+◌, ◌-◌, ◌++◌, ◌∷◌, [], length, sym, subst, ◌∙◌, ap, arith}
+use Rattle.std.proofs.Common.{◌≡◌, refl, ◌+◌, ◌-◌, ◌≤◌, ◌++◌, ◌∷◌, [], length, sym, subst, ◌∙◌, ap, arith}
 use Rattle.std.proofs.lemmas.Result.{err_from_is_err_and}
 use Rattle.std.specs.Vec.{vec_capacity, vec_len}
 use Rattle.group_table.proofs.Words.{TreeState, context_at, held_below, ContextId, TableState, groups, held_in, HasNo, IsSameBut, IsSetWith}
+use Rattle.group_table.proofs.Words.{group_growth, HoldsKeys}
 use Rattle.group_table.proofs.Words.{IsTableIn, IsFirst, HasArray, IsNext, with_slot, keys_in, IsRunWith, IsSlabWith, HoldsArray, HoldsNext}
 use Rattle.group_table.proofs.Words.{HoldsKeyBlocks, HoldsStates}
 use Rattle.group_table.specs.Standing.{KeepsOthers}
 use Rattle.group_table.proofs.HeldLaws.{others_held}
 use Rattle.group_table.proofs.SpaceLaws.{holds_more, buckets_at, keys_after, states_after}
 use Rattle.group_table.proofs.InsertLaws.{next_but, next_kept, keys_left, states_left, next_same, others_twice, others_left, next_others}
-use Rattle.group_table.proofs.InsertLaws.{any_space, groups_left, groups_pushed, held_left, next_left, settled_groups, settled_others}
-use Rattle.group_table.proofs.InsertLaws.{settled_next, settled_absent, settled_held}
+use Rattle.group_table.proofs.InsertLaws.{any_space, groups_left, groups_pushed, held_left, next_left, replaced_groups, replaced_others}
+use Rattle.group_table.proofs.InsertLaws.{replaced_next, replaced_absent, replaced_held}
 use Rattle.group_table.proofs.table.GroupTable.insert_noted.Goals as goal
 use Rattle.group_table.proofs.table.GroupTable.insert_noted.Given as given
 
@@ -28,14 +29,16 @@ returns-in_err-next g c =
       refused = (refl, ap (λ (x : TreeState). groups t x) same);
       others = others_left t c.args.tree.now c.take_array.new.tree c.take_array.ensures.only c.requires.table.standing.placed;
       held = omega (arith, ap (λ (x : TreeState). held_below x t.parent) same);
+      rest = others_held t c.args.tree.now c.take_array.new.tree c.requires.table.standing.placed
+          (others_left t c.args.tree.now c.take_array.new.tree c.take_array.ensures.only c.requires.table.standing.placed);
       holds = tt;
     })
 
 pub take_group-taken-requires : goal.take_group-taken-requires
 take_group-taken-requires g c = record { standing = c.take_array.ensures.standing; state = c.requires.state; key = c.requires.key }
 
-pub settle-requires : goal.settle-requires
-settle-requires g c =
+pub replace_array-requires : goal.replace_array-requires
+replace_array-requires g c =
     let two = c.take_group-taken.ensures in record {
       standing = two.standing;
       next = next_kept c.args.self.now c.take_array.new.tree c.take_group-taken.new.tree c.in_ok-next.next two.buckets two.standing.placed
@@ -45,9 +48,9 @@ settle-requires g c =
 pub returns-in_err-slot : goal.returns-in_err-slot
 returns-in_err-slot g c =
     let hash = g.H.KeyHash.hash_of in let t = c.args.self.now in let tree = c.args.tree.now in let a = c.take_array.new.tree in let b =
-    c.take_group-taken.new.tree in let e = c.settle.new.tree in
-    let one = c.in_ok-next.ensures in let two = c.take_group-taken.ensures in let three = c.settle.ensures in
-    let s1 = c.settle.new.self in let next = c.in_ok-next.next in let placed = c.requires.table.standing.placed in
+    c.take_group-taken.new.tree in let e = c.replace_array.new.tree in
+    let one = c.in_ok-next.ensures in let two = c.take_group-taken.ensures in let three = c.replace_array.ensures in
+    let s1 = c.replace_array.new.self in let next = c.in_ok-next.next in let placed = c.requires.table.standing.placed in
     let error = err_from_is_err_and c.from_residual-in_err-slot.result c.from_residual-in_err-slot.ensures.1 in
     rw error.1 (record {
       table = record {
@@ -60,20 +63,22 @@ returns-in_err-slot g c =
       groups = tt;
       refused = (
         ap (λ (x : TableState g.row.H.Denot). x.slots) three.array,
-        ap (λ (x : TableState g.row.H.Denot). groups x e) three.array ∙ settled_groups t next tree a b e placed one.only two.others
+        ap (λ (x : TableState g.row.H.Denot). groups x e) three.array ∙ replaced_groups t next tree a b e placed one.only two.others
             two.buckets two.groups two.standing.placed three.only,
       );
-      others = settled_others t next tree a b e placed one.only two.others two.buckets two.groups two.standing.placed three.only;
-      held = settled_held t next tree a b e placed one.only two.others two.buckets two.groups two.standing.placed three.only
+      others = replaced_others t next tree a b e placed one.only two.others two.buckets two.groups two.standing.placed three.only;
+      held = replaced_held t next tree a b e placed one.only two.others two.buckets two.groups two.standing.placed three.only
           (length c.args.key.now) one.held two.held three.held;
+      rest = others_held t tree e placed
+          (replaced_others t next tree a b e placed one.only two.others two.buckets two.groups two.standing.placed three.only);
       holds = tt;
     })
 
 pub put_slot-requires : goal.put_slot-requires
 put_slot-requires g c =
     let hash = g.H.KeyHash.hash_of in let t = c.args.self.now in let tree = c.args.tree.now in let a = c.take_array.new.tree in let b =
-    c.take_group-taken.new.tree in let e = c.settle.new.tree in
-    let one = c.in_ok-next.ensures in let two = c.take_group-taken.ensures in let three = c.settle.ensures in
+    c.take_group-taken.new.tree in let e = c.replace_array.new.tree in
+    let one = c.in_ok-next.ensures in let two = c.take_group-taken.ensures in let three = c.replace_array.ensures in
     let next = c.in_ok-next.next in let placed = c.requires.table.standing.placed in
     record {
       standing = three.standing;
@@ -81,11 +86,11 @@ put_slot-requires g c =
       next = (
         c.args.state.now,
         subst (λ (x : TableState g.row.H.Denot). IsNext x e c.args.key.now c.args.state.now c.in_ok-slot.slot) (sym three.array)
-            (settled_next t next tree a b e placed one.only two.others two.buckets two.groups two.standing.placed three.only c.args.key.now
+            (replaced_next t next tree a b e placed one.only two.others two.buckets two.groups two.standing.placed three.only c.args.key.now
             c.args.state.now c.in_ok-slot.slot c.in_ok-slot.ensures.next),
       );
       absent = subst (λ (x : TableState g.row.H.Denot). HasNo x e c.args.key.now) (sym three.array)
-          (settled_absent t next tree a b e placed one.only two.others two.buckets two.groups two.standing.placed three.only c.args.key.now
+          (replaced_absent t next tree a b e placed one.only two.others two.buckets two.groups two.standing.placed three.only c.args.key.now
           c.requires.absent);
     }
 
@@ -105,7 +110,7 @@ fin g c =
       spare = vec_capacity v - vec_len v;
     }
 
-fin_is : (g : given.Over) → (c : goal.After-push_reserved g) → fin g c ≡ with_slot c.settle.new.self c.in_ok-slot.slot
+fin_is : (g : given.Over) → (c : goal.After-push_reserved g) → fin g c ≡ with_slot c.replace_array.new.self c.in_ok-slot.slot
 fin_is g c =
     let x = c.self.inside in let v = c.push_reserved.new.self in let slot = c.in_ok-slot.slot in
     let spare : vec_capacity v - vec_len v
@@ -136,10 +141,10 @@ fin_is g c =
     }) spare
     ∙ ap (λ (y : TableState g.row.H.Denot). with_slot y slot) c.self.view_is
 
-pub returns-clause-table : goal.returns-clause-table
-returns-clause-table g c =
-    let hash = g.H.KeyHash.hash_of in let three = c.settle.ensures in let slot = c.in_ok-slot.slot in let d = c.put_slot.new.tree in
-    let s1 = c.settle.new.self in
+table_at : (g : given.Over) → (c : goal.After-push_reserved g) → IsTableIn g.H.KeyHash.hash_of (fin g c) c.put_slot.new.tree
+table_at g c =
+    let hash = g.H.KeyHash.hash_of in let three = c.replace_array.ensures in let slot = c.in_ok-slot.slot in let d = c.put_slot.new.tree in
+    let s1 = c.replace_array.new.self in
     let standing = c.put_slot.ensures.standing in
     subst (λ (y : TableState g.row.H.Denot). IsTableIn hash y d) (sym (fin_is g c))
     (record {
@@ -148,49 +153,51 @@ returns-clause-table g c =
           (context_at d s1.buckets) s1.array three.room.0 three.room.1 standing.stands.set;
     })
 
-pub returns-clause-same : goal.returns-clause-same
-returns-clause-same g c =
+same_at : (g : given.Over) → (c : goal.After-push_reserved g) → IsSameBut c.args.self.now (fin g c)
+same_at g c =
     let slot = c.in_ok-slot.slot in let t = c.args.self.now in
     subst (λ (y : TableState g.row.H.Denot). IsSameBut t y)
-    (sym (fin_is g c ∙ ap (λ (y : TableState g.row.H.Denot). with_slot y slot) c.settle.ensures.array))
+    (sym (fin_is g c ∙ ap (λ (y : TableState g.row.H.Denot). with_slot y slot) c.replace_array.ensures.array))
     (next_same t c.in_ok-next.next slot)
 
-pub returns-clause-groups : goal.returns-clause-groups
-returns-clause-groups g c =
+groups_at : (g : given.Over) → (c : goal.After-push_reserved g) → groups (fin g c) c.put_slot.new.tree
+    ≡ groups c.args.self.now c.args.tree.now ++ (c.args.key.now, c.args.state.now) ∷ []
+groups_at g c =
     let t = c.args.self.now in let tree = c.args.tree.now in let a = c.take_array.new.tree in let b = c.take_group-taken.new.tree in let e =
-    c.settle.new.tree in
-    let one = c.in_ok-next.ensures in let two = c.take_group-taken.ensures in let three = c.settle.ensures in
+    c.replace_array.new.tree in
+    let one = c.in_ok-next.ensures in let two = c.take_group-taken.ensures in let three = c.replace_array.ensures in
     let slot = c.in_ok-slot.slot in let d = c.put_slot.new.tree in
     let next = subst (λ (y : TableState g.row.H.Denot). IsNext y e c.args.key.now c.args.state.now slot) (sym three.array)
-    (settled_next t c.in_ok-next.next tree a b e c.requires.table.standing.placed one.only two.others two.buckets two.groups
+    (replaced_next t c.in_ok-next.next tree a b e c.requires.table.standing.placed one.only two.others two.buckets two.groups
     two.standing.placed three.only c.args.key.now c.args.state.now slot c.in_ok-slot.ensures.next) in
-    let s1 = c.settle.new.self in
+    let s1 = c.replace_array.new.self in
     ap (λ (y : TableState g.row.H.Denot). groups y d) (fin_is g c)
     ∙ groups_pushed s1 d c.args.key.now c.args.state.now slot (next_left s1 e d c.put_slot.ensures.only three.standing.placed c.args.key.now
     c.args.state.now slot next)
     ∙ ap (λ gs. gs ++ (c.args.key.now, c.args.state.now) ∷ [])
     (groups_left s1 e d c.put_slot.ensures.only three.standing.placed ∙ ap (λ (y : TableState g.row.H.Denot). groups y e) three.array
-    ∙ settled_groups t c.in_ok-next.next tree a b e c.requires.table.standing.placed one.only two.others two.buckets two.groups
+    ∙ replaced_groups t c.in_ok-next.next tree a b e c.requires.table.standing.placed one.only two.others two.buckets two.groups
     two.standing.placed three.only)
 
-pub returns-clause-others : goal.returns-clause-others
-returns-clause-others g c =
+others_at : (g : given.Over) → (c : goal.After-push_reserved g) → KeepsOthers c.args.self.now c.args.tree.now c.put_slot.new.tree
+others_at g c =
     let hash = g.H.KeyHash.hash_of in let t = c.args.self.now in let tree = c.args.tree.now in let a = c.take_array.new.tree in let b =
-    c.take_group-taken.new.tree in let e = c.settle.new.tree in
-    let one = c.in_ok-next.ensures in let two = c.take_group-taken.ensures in let three = c.settle.ensures in
+    c.take_group-taken.new.tree in let e = c.replace_array.new.tree in
+    let one = c.in_ok-next.ensures in let two = c.take_group-taken.ensures in let three = c.replace_array.ensures in
     let d = c.put_slot.new.tree in
     others_twice t tree e d
-    (settled_others t c.in_ok-next.next tree a b e c.requires.table.standing.placed one.only two.others two.buckets two.groups
+    (replaced_others t c.in_ok-next.next tree a b e c.requires.table.standing.placed one.only two.others two.buckets two.groups
     two.standing.placed three.only)
     (next_others t c.in_ok-next.next e d (subst (λ (y : TableState g.row.H.Denot). KeepsOthers y e d) three.array
-    (others_left c.settle.new.self e d c.put_slot.ensures.only three.standing.placed)))
+    (others_left c.replace_array.new.self e d c.put_slot.ensures.only three.standing.placed)))
 
-pub returns-clause-held : goal.returns-clause-held
-returns-clause-held g c =
+held_at : (g : given.Over) → (c : goal.After-push_reserved g) → held_below c.put_slot.new.tree c.args.self.now.parent
+    ≤ held_below c.args.tree.now c.args.self.now.parent + group_growth c.args.self.now c.args.tree.now (length c.args.key.now)
+held_at g c =
     let hash = g.H.KeyHash.hash_of in let t = c.args.self.now in let tree = c.args.tree.now in let a = c.take_array.new.tree in let b =
-    c.take_group-taken.new.tree in let e = c.settle.new.tree in
-    let one = c.in_ok-next.ensures in let two = c.take_group-taken.ensures in let three = c.settle.ensures in
-    let d = c.put_slot.new.tree in let s1 = c.settle.new.self in
+    c.take_group-taken.new.tree in let e = c.replace_array.new.tree in
+    let one = c.in_ok-next.ensures in let two = c.take_group-taken.ensures in let three = c.replace_array.ensures in
+    let d = c.put_slot.new.tree in let s1 = c.replace_array.new.self in
     let parent = ap (λ (y : TableState g.row.H.Denot). y.parent) three.array in
     let last = held_left s1 e d c.put_slot.ensures.only three.standing.placed in
     let same = c.put_slot.ensures.held in
@@ -199,19 +206,21 @@ returns-clause-held g c =
     omega (
       arith,
       kept,
-      settled_held t c.in_ok-next.next tree a b e c.requires.table.standing.placed one.only two.others two.buckets
+      replaced_held t c.in_ok-next.next tree a b e c.requires.table.standing.placed one.only two.others two.buckets
           two.groups two.standing.placed three.only (length c.args.key.now) one.held two.held three.held,
     )
 
-pub returns-clause-holds : goal.returns-clause-holds
-returns-clause-holds g c holds =
+holds_at : (g : given.Over) → (c : goal.After-push_reserved g) → HoldsKeys c.args.self.now c.args.tree.now
+    → HoldsKeys (fin g c) c.put_slot.new.tree
+holds_at g c holds =
     let t = c.args.self.now in let tree = c.args.tree.now in let a = c.take_array.new.tree in let b = c.take_group-taken.new.tree in let e =
-    c.settle.new.tree in let d = c.put_slot.new.tree in
-    let one = c.in_ok-next.ensures in let two = c.in_ok-slot.ensures in let three = c.settle.ensures in let four = c.put_slot.ensures in
-    let s1 = c.settle.new.self in let next = c.in_ok-next.next in let slot = c.in_ok-slot.slot in let key = c.args.key.now in
+    c.replace_array.new.tree in let d = c.put_slot.new.tree in
+    let one = c.in_ok-next.ensures in let two = c.in_ok-slot.ensures in let three = c.replace_array.ensures in
+    let four = c.put_slot.ensures in
+    let s1 = c.replace_array.new.self in let next = c.in_ok-next.next in let slot = c.in_ok-slot.slot in let key = c.args.key.now in
     let v = c.push_reserved.new.self in
     let placed = c.requires.table.standing.placed in
-    let others = returns-clause-others g c in
+    let others = others_at g c in
     let alone : held_below d t.parent ≡ held_in t d = omega (arith, holds.alone, others_held t tree d placed others) in
     let slots : v.items ≡ t.slots ++ slot ∷ [] =
     c.push_reserved.ensures.items ∙ ap (λ (y : TableState g.row.H.Denot). y.slots ++ slot ∷ []) (c.self.view_is ∙ three.array) in
@@ -229,15 +238,21 @@ returns-clause-holds g c holds =
     (sym (states_after t next s1 three.array b e d two.standing.placed three.only three.standing.placed four.only))
     (two.states (length t.slots) (subst (IsSlabWith (HoldsStates t.width (length t.slots))) (sym (states_left t tree a one.only placed))
     holds.in_states)) in
-    holds_more t tree (fin g c) d (returns-clause-same g c) key c.args.state.now slot slots (returns-clause-groups g c) alone
+    holds_more t tree (fin g c) d (same_at g c) key c.args.state.now slot slots (groups_at g c) alone
     (subst (λ o. IsSetWith (HoldsArray o (length t.slots + 1)) (context_at d t.buckets))
     (sym (ap (λ (y : TableState g.row.H.Denot). y.array) c.self.view_is)) put)
     keys states
 
-pub returns-clause-slot : goal.returns-clause-slot
-returns-clause-slot g c =
-    c.push_reserved.ensures.items ∙ ap (λ (y : TableState g.row.H.Denot). y.slots ++ c.in_ok-slot.slot ∷ []) (c.self.view_is
-    ∙ c.settle.ensures.array)
-
-pub returns-clause-refused : goal.returns-clause-refused
-returns-clause-refused g c = tt
+pub returns : goal.returns
+returns g c = record {
+  table = table_at g c;
+  same = same_at g c;
+  slot = c.push_reserved.ensures.items ∙ ap (λ (y : TableState g.row.H.Denot). y.slots ++ c.in_ok-slot.slot ∷ []) (c.self.view_is
+      ∙ c.replace_array.ensures.array);
+  groups = groups_at g c;
+  refused = tt;
+  others = others_at g c;
+  held = held_at g c;
+  rest = others_held c.args.self.now c.args.tree.now c.put_slot.new.tree c.requires.table.standing.placed (others_at g c);
+  holds = holds_at g c;
+}

@@ -3,9 +3,10 @@ use Rattle.std.specs.Vec.{vec_capacity, vec_len}
 use Rattle.group_table.proofs.Words.{ChunkName, held_by, TreeState, context_at, TableState, IsSetWith, IsStanding, HasNext, IsSpare, OnlyIn}
 use Rattle.group_table.proofs.Words.{HoldsArray, HoldsNext}
 use Rattle.group_table.proofs.MoveLaws.{first_moved, larger_moved, only_moved, less_held, first_holds, larger_holds}
+use Rattle.context_tree.specs.CallLaws.{freed}
 use Rattle.group_table.proofs.TreeFacts.{only_once}
-use Rattle.group_table.proofs.table.GroupTable.settle.Goals as goal
-use Rattle.group_table.proofs.table.GroupTable.settle.Goals.{in-Some-array, in_default-array}
+use Rattle.group_table.proofs.table.GroupTable.replace_array.Goals as goal
+use Rattle.group_table.proofs.table.GroupTable.replace_array.Goals.{in-Some-array, in_default-array}
 
 pub returns-clause-only : goal.returns-clause-only
 returns-clause-only g c =
@@ -17,7 +18,8 @@ returns-clause-only g c =
     (elim c.match-self.branch [
       | in-Some-array w ↦ subst (λ (x : TreeState). OnlyIn c.self.inside.buckets tree x) (sym w.tree-is)
           (only_moved hash _ name tree is spare w.in-Some-array.old w.in-Some-array.is w.refill.new.tree w.give_up.new.tree
-          w.refill.ensures.only w.refill.ensures.rewritten w.refill.ensures.all w.give_up.ensures.gone w.give_up.ensures.keeps)
+          w.refill.ensures.only w.refill.ensures.rewritten w.refill.ensures.all
+          (freed _ _ _ _ w.give_up.ensures) w.give_up.ensures.does.keeps)
       | in_default-array w ↦ subst (λ (x : TreeState). OnlyIn c.self.inside.buckets tree x) (sym w.tree-is)
           (only_once c.self.inside.buckets tree is.placed.buckets.within)
     ])
@@ -44,7 +46,8 @@ returns-clause-standing g c =
     elim c.match-self.branch [
       | in-Some-array w ↦ subst (λ (x : TreeState). IsStanding hash moved x) (sym w.tree-is)
           (larger_moved hash _ name tree is spare w.in-Some-array.old w.in-Some-array.is w.refill.new.tree w.give_up.new.tree
-          w.refill.ensures.only w.refill.ensures.rewritten w.refill.ensures.all w.give_up.ensures.gone w.give_up.ensures.keeps)
+          w.refill.ensures.only w.refill.ensures.rewritten w.refill.ensures.all
+          (freed _ _ _ _ w.give_up.ensures) w.give_up.ensures.does.keeps)
       | in_default-array w ↦ subst (λ (x : TreeState). IsStanding hash moved x) (sym w.tree-is)
           (first_moved hash _ name tree is spare w.in_default-array.is (only_once c.self.inside.buckets tree is.placed.buckets.within))
     ]
@@ -61,7 +64,8 @@ returns-clause-held g c =
       | in-Some-array w ↦ subst (λ (x : TreeState). held_by (context_at x c.self.inside.buckets) ≤ held_by
           (context_at tree c.self.inside.buckets)) (sym w.tree-is)
           (less_held hash _ name tree is spare w.in-Some-array.old w.in-Some-array.is w.refill.new.tree w.give_up.new.tree
-          w.refill.ensures.only w.refill.ensures.rewritten w.refill.ensures.all w.give_up.ensures.gone w.give_up.ensures.keeps)
+          w.refill.ensures.only w.refill.ensures.rewritten w.refill.ensures.all
+          (freed _ _ _ _ w.give_up.ensures) w.give_up.ensures.does.keeps)
       | in_default-array w ↦ subst (λ (x : TreeState). held_by (context_at x c.self.inside.buckets) ≤ held_by
           (context_at tree c.self.inside.buckets)) (sym w.tree-is) (omega arith)
     ])
@@ -80,7 +84,8 @@ returns-clause-holds g c number given =
       | in-Some-array w ↦ subst (λ (x : TreeState). IsSetWith (HoldsArray (Some name) (number + 1)) (context_at x c.self.inside.buckets))
           (sym w.tree-is)
           (larger_holds hash _ name tree is spare w.in-Some-array.old w.in-Some-array.is w.refill.new.tree w.give_up.new.tree
-          w.refill.ensures.only w.refill.ensures.rewritten w.refill.ensures.all w.give_up.ensures.gone w.give_up.ensures.keeps number
+          w.refill.ensures.only w.refill.ensures.rewritten w.refill.ensures.all
+          (freed _ _ _ _ w.give_up.ensures) w.give_up.ensures.does.keeps number
           holds)
       | in_default-array w ↦ subst (λ (x : TreeState). IsSetWith (HoldsArray (Some name) (number + 1)) (context_at x c.self.inside.buckets))
           (sym w.tree-is) (first_holds hash _ name tree is spare w.in_default-array.is number holds)
