@@ -1,4 +1,4 @@
-//! Tests of tapes over disks, and of the lists that passes spill to tapes, by public calls alone.
+//! Tests of tapes over disks, and of the partitions that passes spill to tapes, by public calls alone.
 #![tactic(auto)]
 
 #[cfg(test)]
@@ -6,6 +6,6 @@ mod calls;
 #[cfg(test)]
 mod files;
 #[cfg(test)]
-mod lists;
+mod partitions;
 #[cfg(test)]
 mod tapes;
