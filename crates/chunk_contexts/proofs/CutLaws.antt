@@ -1,7 +1,7 @@
 -- Chunks that are cut from what is left of a block.
 use Rattle.std.proofs.Common.{◌≡◌, ◌≢◌, ℕ, ◌+◌, ◌-◌, ◌<◌, ◌≤◌, Bool, true, false, List, [], ◌∷◌, refl, ap, ◌∙◌, arith}
 use Rattle.chunk_contexts.proofs.Words.{◌||◌, Every, Pairwise, Layout, ChunkContents, is_at, has, IsClear, Place, Active, live, by_room}
-use Rattle.chunk_contexts.proofs.Words.{IsRest, is_in, free_rooms, first_free, cut_used, cut_piece, cut_pieces, link_bytes, LARGEST}
+use Rattle.chunk_contexts.proofs.Words.{IsRest, is_in, free_rooms, first_free, cut_used, cut_chunk, cut_chunks, link_bytes, LARGEST}
 use Rattle.chunk_contexts.proofs.Laws.{false_from_ne_true, every_weaker, every_both, same-place, common_steps, nat_tests}
 use Rattle.chunk_contexts.specs.Rooms.{rooms, rooms_down}
 use Rattle.chunk_contexts.specs.Set.{cut_up}
@@ -23,7 +23,7 @@ module _ (l : Layout) (active : Active) (rest : IsRest l active) (h room : ℕ) 
   not_empty : 0 < active.size
   not_empty = omega (arith, fits, some)
 
-  pub rest-clear : Every (IsClear h place room) l.pieces
+  pub rest-clear : Every (IsClear h place room) l.contents
   rest-clear = grind (
     arith,
     nat_tests,
@@ -32,23 +32,23 @@ module _ (l : Layout) (active : Active) (rest : IsRest l active) (h room : ℕ) 
         → p.place.offset + p.room ≤ active.used) (IsClear h place room),
   )
 
-  pub rest-none : has l.pieces place ≡ false
-  rest-none = none-at place l.pieces (every_both (λ (p : ChunkContents). 0 < active.size → p.place.block ≡ active.block → p.place.offset
+  pub rest-none : has l.contents place ≡ false
+  rest-none = none-at place l.contents (every_both (λ (p : ChunkContents). 0 < active.size → p.place.block ≡ active.block → p.place.offset
       + p.room ≤ active.used) (λ (p : ChunkContents). 1 ≤ p.room) (λ (p : ChunkContents). p.place ≡ place → ⊥)
       (λ p k one e. let o = ap (λ (q : Place). q.offset) e in absurd (omega (arith, k not_empty (ap (λ (q : Place). q.block) e), o, one)))
-      l.pieces rest.clear rest.rooms)
+      l.contents rest.clear rest.rooms)
 
   -- with one more chunk, of which the end is used
   module _ (p : ChunkContents) (at : p.place ≡ place) (size : p.room ≡ room) where
     abbrev after : Active
     after = record { block = active.block; used = active.used + h + room; size = active.size }
 
-    pub rest-more : IsRest (record { head = l.head; blocks = l.blocks; pieces = p ∷ l.pieces }) after
+    pub rest-more : IsRest (record { head = l.head; blocks = l.blocks; contents = p ∷ l.contents }) after
     rest-more =
         let clear : Every (λ (q : ChunkContents). 0 < active.size → q.place.block ≡ active.block → q.place.offset + q.room ≤ active.used + h
-        + room) l.pieces =
+        + room) l.contents =
         every_weaker (λ (q : ChunkContents). 0 < active.size → q.place.block ≡ active.block → q.place.offset + q.room ≤ active.used) _
-        (λ q k s b. omega (arith, k s b)) l.pieces rest.clear in
+        (λ q k s b. omega (arith, k s b)) l.contents rest.clear in
         grind (arith, nat_tests, clear)
 
 -- ---- all that is cut
@@ -69,19 +69,19 @@ pub cut-every : (P : ChunkContents → Type 0) (block size : ℕ)
     → ((room used : ℕ) (bytes : List ℕ) → is_in room rooms ≡ true → room + 8 ≤ size - used
     → P (record { place = record { block = block; offset = used + 8 }; room = room; is_live = false; bytes = bytes }))
     → (rs : List ℕ) → Every (λ (room : ℕ). is_in room rooms ≡ true) rs → (used : ℕ) (ps : List ChunkContents) → Every P ps
-    → Every P (cut_pieces rs block used size ps)
+    → Every P (cut_chunks rs block used size ps)
 cut-every P block size new [] known used ps every = every
 cut-every P block size new (room ∷ rs) known used ps every = grind (
   arith,
   nat_tests,
   common_steps,
   cut-every P block size new rs known.1
-      (cut_used room used size) (cut_piece room block used size ps),
+      (cut_used room used size) (cut_chunk room block used size ps),
 )
 
 pub cut-alone : (block size : ℕ) (rs : List ℕ) → Every (λ (room : ℕ). is_in room rooms ≡ true) rs → (used : ℕ) (ps : List ChunkContents)
     → Every (λ (q : ChunkContents). 0 < size → LARGEST < q.room → q.place.block ≢ block) ps → Pairwise Alone ps
-    → Pairwise Alone (cut_pieces rs block used size ps)
+    → Pairwise Alone (cut_chunks rs block used size ps)
 cut-alone block size [] known used ps apart alone = alone
 cut-alone block size (room ∷ rs) known used ps apart alone = grind (
   arith,
@@ -91,20 +91,20 @@ cut-alone block size (room ∷ rs) known used ps apart alone = grind (
   every_weaker
       (λ (q : ChunkContents). 0 < size → LARGEST < q.room → q.place.block ≢ block) (Alone (cut_one room block used ps)),
   cut-alone block size
-      rs known.1 (cut_used room used size) (cut_piece room block used size ps),
+      rs known.1 (cut_used room used size) (cut_chunk room block used size ps),
 )
 
-pub cut-live : (rs : List ℕ) (block size used : ℕ) (ps : List ChunkContents) → live (cut_pieces rs block used size ps) ≡ live ps
+pub cut-live : (rs : List ℕ) (block size used : ℕ) (ps : List ChunkContents) → live (cut_chunks rs block used size ps) ≡ live ps
 cut-live [] block size used ps = refl
 cut-live (room ∷ rs) block size used ps = grind (
   arith,
   nat_tests,
   common_steps,
   cut-live rs block size (cut_used room used size)
-      (cut_piece room block used size ps),
+      (cut_chunk room block used size ps),
 )
 
-pub cut-free : (rs : List ℕ) (block size used : ℕ) (ps : List ChunkContents) → free_rooms (cut_pieces rs block used size ps)
+pub cut-free : (rs : List ℕ) (block size used : ℕ) (ps : List ChunkContents) → free_rooms (cut_chunks rs block used size ps)
     ≡ cut_up rs (size - used) (free_rooms ps)
 cut-free [] block size used ps = refl
 cut-free (room ∷ rs) block size used ps = grind (
@@ -112,5 +112,5 @@ cut-free (room ∷ rs) block size used ps = grind (
   nat_tests,
   common_steps,
   cut-free rs block size (cut_used room used size)
-      (cut_piece room block used size ps),
+      (cut_chunk room block used size ps),
 )

@@ -1,10 +1,11 @@
 -- Laws of free chunks, and of live ones among them.
 use Rattle.std.proofs.Common.{◌≡◌, ◌≢◌, ℕ, Bool, true, false, not, List, [], ◌∷◌, Option, Some, None, length, refl, ◌∙◌, arith}
-use Rattle.chunk_contexts.proofs.Words.{◌==◌, is_some, Every, Pairwise, ChunkContents, is_at, has, piece_at, no_piece, without, outside}
+use Rattle.chunk_contexts.proofs.Words.{◌==◌, is_some, Every, Pairwise, ChunkContents, is_at, has, contents_at, no_contents, without}
+use Rattle.chunk_contexts.proofs.Words.{outside}
 use Rattle.chunk_contexts.proofs.Words.{Place, live, by_room, free_rooms, first_free, is_in, minus, Linked, Elsewhere, link_bytes}
 use Rattle.chunk_contexts.proofs.Laws.{cond-true, cond-false, not_from_false, not-true, false≢true, and_parts, and_from, every_weaker}
-use Rattle.chunk_contexts.proofs.Laws.{every_passes, first_has, first_passes, place-same, same_place-sym, has-first, piece_at-first}
-use Rattle.chunk_contexts.proofs.Laws.{without-first, has-later, piece_at-later, without-later, without-none, common_steps, nat_tests}
+use Rattle.chunk_contexts.proofs.Laws.{every_passes, first_has, first_passes, place-same, same_place-sym, has-first, contents_at-first}
+use Rattle.chunk_contexts.proofs.Laws.{without-first, has-later, contents_at-later, without-later, without-none, common_steps, nat_tests}
 use Rattle.std.specs.List.{filter}
 
 -- ---- filters one after the other
@@ -35,8 +36,8 @@ elsewhere-not p ps place every there = grind (
   arith,
   nat_tests,
   common_steps,
-  first_has (Elsewhere p) (is_at place) no_piece ps there every,
-  first_passes (is_at place) no_piece ps there,
+  first_has (Elsewhere p) (is_at place) no_contents ps there every,
+  first_passes (is_at place) no_contents ps there,
 )
 
 pub elsewhere-none : (p : ChunkContents) (ps : List ChunkContents) → Every (Elsewhere p) ps → has ps p.place ≡ false
@@ -51,7 +52,7 @@ without-elsewhere p ps = every_weaker (λ (q : ChunkContents). not (is_at p.plac
 -- a relation between each two holds between one and all others
 pub pairwise-found : (R : ChunkContents → ChunkContents → Type 0) → ((p q : ChunkContents) → R p q → R q p)
     → (ps : List ChunkContents) (place : Place) → has ps place ≡ true → Pairwise Elsewhere ps → Pairwise R ps
-    → Every (R (piece_at ps place)) (without ps place)
+    → Every (R (contents_at ps place)) (without ps place)
 pairwise-found R flip [] place there places pairs = tt
 pairwise-found R flip (p ∷ ps) place there places pairs = grind (
   arith,
@@ -60,7 +61,7 @@ pairwise-found R flip (p ∷ ps) place there places pairs = grind (
   elsewhere-none p ps places.0,
   without-none
       ps place,
-  first_has (R p) (is_at place) no_piece ps,
+  first_has (R p) (is_at place) no_contents ps,
   pairwise-found R flip ps place,
 )
 
@@ -71,8 +72,8 @@ LiveAt place p = is_at place p ≡ true → p.is_live ≡ true
 
 pub record IsLiveAt (ps : List ChunkContents) (place : Place) : Type 0 where
   pub there : has ps place ≡ true
-  pub same : piece_at ps place ≡ piece_at (live ps) place
-  pub lives : (piece_at ps place).is_live ≡ true
+  pub same : contents_at ps place ≡ contents_at (live ps) place
+  pub lives : (contents_at ps place).is_live ≡ true
   pub only : Every (LiveAt place) ps
 
 pub live-found : (ps : List ChunkContents) (place : Place) → Pairwise Elsewhere ps → has (live ps) place ≡ true → IsLiveAt ps place
@@ -85,9 +86,9 @@ live-found (p ∷ ps) place places there = grind (
   elsewhere-sym p,
   has-later p (live ps) place,
   live-found ps place places.1,
-  piece_at-later p ps place,
+  contents_at-later p ps place,
   has-later p ps place,
-  piece_at-later p (live ps)
+  contents_at-later p (live ps)
       place,
   live-later p ps,
   elsewhere-not p ps place places.0,
@@ -121,9 +122,9 @@ linked-kept key (p ∷ ps) place every linked = grind (
 -- ---- the first free chunk of a list is taken
 pub record Popped (key : Place → ℕ → ℕ) (ps : List ChunkContents) (place : Place) (k : ℕ) : Type 0 where
   pub there : has ps place ≡ true
-  pub dead : (piece_at ps place).is_live ≡ false
-  pub listed : key (piece_at ps place).place (piece_at ps place).room ≡ k
-  pub bytes : (piece_at ps place).bytes ≡ link_bytes (first_free key k (without ps place))
+  pub dead : (contents_at ps place).is_live ≡ false
+  pub listed : key (contents_at ps place).place (contents_at ps place).room ≡ k
+  pub bytes : (contents_at ps place).bytes ≡ link_bytes (first_free key k (without ps place))
   pub others : (other : ℕ) → other ≢ k → first_free key other (without ps place) ≡ first_free key other ps
   pub linked : Linked key (without ps place)
   pub lives : live (without ps place) ≡ live ps
@@ -140,12 +141,12 @@ popped key k (p ∷ ps) place places linked first = grind (
   elsewhere-none p ps places.0,
   without-first p ps place,
   without-none ps place,
-  piece_at-first p ps place,
+  contents_at-first p ps place,
   has-first p ps place,
   live-later p ps,
   popped key k ps place places.1 linked.1,
   elsewhere-not p ps place places.0,
-  piece_at-later p ps place,
+  contents_at-later p ps place,
   without-later p
       ps place,
   and_from (not p.is_live) (key p.place p.room == k),

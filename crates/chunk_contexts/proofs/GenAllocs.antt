@@ -11,7 +11,7 @@ use Rattle.chunk_contexts.proofs.GenLaws.{made-low, counted-made}
 
 module _ (r t : Runs) (cs ds : List ℕ) (is : IsCounted r cs) (run : IsRun 8 t) (n : ℕ) (bytes : List ℕ) (name : ChunkName)
     (admitted : over_most n ≡ None) (space : run_of t ≡ run_taken 8 (run_of r) (chunk_of name (rounded n) bytes))
-    (added : Adds r.layout.pieces t.layout.pieces name (rounded n) bytes) (block : IsBlockOf (run_of r) (run_growth 8 (run_of r) n)
+    (added : Adds r.layout.contents t.layout.contents name (rounded n) bytes) (block : IsBlockOf (run_of r) (run_growth 8 (run_of r) n)
     name.block)
     (same : (k : ℕ) → get_or ds k 0 ≡ get_or cs k 0) (longer : length cs ≤ length ds) (enough : 0 < run_growth 8 (run_of r) n
     → length r.layout.blocks < length ds) where

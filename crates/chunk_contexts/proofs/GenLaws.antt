@@ -50,20 +50,20 @@ none-elsewhere p (q ∷ ps) none = grind (arith, nat_tests, common_steps, none-e
 -- ---- a chunk is made
 module _ (r t : Runs) (cs ds : List ℕ) (is : IsCounted r cs) (run : IsRun 8 t) (p : ChunkContents) (a b : Bool) (size : ℕ) (some : 1 ≤ size)
     (made : run_of t ≡ run_taken_by a b size (run_of r) p)
-    (fresh : has r.layout.pieces p.place ≡ false) (fits : a ≡ true → b ≡ true → size ≤ r.active.size - r.active.used) (small : a ≡ true
+    (fresh : has r.layout.contents p.place ≡ false) (fits : a ≡ true → b ≡ true → size ≤ r.active.size - r.active.used) (small : a ≡ true
     → size ≤ 8192)
     (old : run_growth_by false a b size ≡ 0 → p.place.block ≡ r.active.block) (new : 0 < run_growth_by false a b size
     → get_or r.layout.blocks p.place.block None ≡ None)
     (same : (k : ℕ) → get_or ds k 0 ≡ get_or cs k 0) (longer : length cs ≤ length ds) (enough : 0 < run_growth_by false a b size
     → length r.layout.blocks < length ds) where
   abbrev ps : List ChunkContents
-  ps = r.layout.pieces
+  ps = r.layout.contents
 
   abbrev k : ℕ
   k = p.place.block
 
-  pieces : t.layout.pieces ≡ p ∷ ps
-  pieces = grind (arith, nat_tests, common_steps)
+  contents : t.layout.contents ≡ p ∷ ps
+  contents = grind (arith, nat_tests, common_steps)
 
   -- where a block is taken, no chunk was in it
   empty : 0 < run_growth_by false a b size → in_block ps k ≡ 0

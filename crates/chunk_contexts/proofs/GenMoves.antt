@@ -1,8 +1,8 @@
 -- A `Generation` after a chunk is written or given up.
 use Rattle.std.proofs.Common.{◌≡◌, ◌≢◌, ℕ, ◌+◌, ◌-◌, ◌<◌, ◌≤◌, inl, inr, Bool, true, false, List, [], ◌∷◌, ◌++◌, Option, None, length}
 use Rattle.std.proofs.Common.{get_or, set, take, cond, refl, sym, ap, ◌∙◌, subst, arith}
-use Rattle.chunk_contexts.proofs.Words.{IsTrue, is_some, ◌==◌, Every, Pairwise, Layout, ChunkContents, is_at, has, piece_at, without}
-use Rattle.chunk_contexts.proofs.Words.{outside, put_at, rewritten, total, no_piece, layout_with, Place, Active, Elsewhere, IsRest}
+use Rattle.chunk_contexts.proofs.Words.{IsTrue, is_some, ◌==◌, Every, Pairwise, Layout, ChunkContents, is_at, has, contents_at, without}
+use Rattle.chunk_contexts.proofs.Words.{outside, put_at, rewritten, total, no_contents, layout_with, Place, Active, Elsewhere, IsRest}
 use Rattle.chunk_contexts.proofs.Laws.{cases_eq, eq-eqb, ne_eqb, get_or-set_same, get_or-set_other, length-set, get_or_past, total-set_none}
 use Rattle.chunk_contexts.proofs.Laws.{same-place, first_has, first_passes, every_filter, every_both, pairwise_filter, nat_tests}
 use Rattle.chunk_contexts.proofs.Laws.{common_steps}
@@ -39,7 +39,7 @@ in-zero (p ∷ ps) b none = grind (arith, nat_tests, common_steps, in-zero ps b)
 
 module _ (r : Runs) (cs : List ℕ) (is : IsCounted r cs) where
   abbrev ps : List ChunkContents
-  ps = r.layout.pieces
+  ps = r.layout.contents
 
   pub counted-lent : (place : Place) (ws : List ℕ) → IsCounted (record { layout = layout_with r.layout place ws; active = r.active }) cs
   counted-lent place ws = grind (
@@ -58,17 +58,17 @@ module _ (r : Runs) (cs : List ℕ) (is : IsCounted r cs) where
     counted-put kept bytes m made =
         let q : ChunkContents = record {
           place = place;
-          room = (piece_at ps place).room;
+          room = (contents_at ps place).room;
           is_live = true;
           bytes = take kept
-              (piece_at ps place).bytes ++ bytes;
+              (contents_at ps place).bytes ++ bytes;
         } in
-        let pieces = ap (λ (z : Layout). z.pieces) made in
-        let same : (c : ℕ) → in_block m.pieces c ≡ in_block ps c = λ c. ap (λ (xs : List ChunkContents). in_block xs c) pieces
+        let contents = ap (λ (z : Layout). z.contents) made in
+        let same : (c : ℕ) → in_block m.contents c ≡ in_block ps c = λ c. ap (λ (xs : List ChunkContents). in_block xs c) contents
         ∙ in-put ps place q c there is.places refl in
         record {
           run = run-put 8 r is.run place there kept bytes m made;
-          places = subst (Pairwise Elsewhere) (sym pieces) (without-elsewhere q ps, pairwise_filter Elsewhere _ ps is.places);
+          places = subst (Pairwise Elsewhere) (sym contents) (without-elsewhere q ps, pairwise_filter Elsewhere _ ps is.places);
           counts = λ c. is.counts c ∙ sym (same c);
           long = omega (arith, is.long, ap (λ (z : Layout). length z.blocks) made);
           few = λ c. omega (arith, same c, is.few c);
@@ -93,10 +93,11 @@ module _ (r : Runs) (cs : List ℕ) (is : IsCounted r cs) where
       arith,
       nat_tests,
       get_or_past r.layout.blocks b None,
-      same-place (piece_at ps place).place place
-          (first_passes (is_at place) no_piece ps there),
+      same-place (contents_at ps place).place place
+          (first_passes (is_at place) no_contents ps there),
       first_has
-          (λ (p : ChunkContents). IsTrue (is_some (get_or r.layout.blocks p.place.block None))) (is_at place) no_piece ps there is.run.there,
+          (λ (p : ChunkContents). IsTrue (is_some (get_or r.layout.blocks p.place.block None)))
+          (is_at place) no_contents ps there is.run.there,
     )
 
     abbrev ds : List ℕ
@@ -115,7 +116,7 @@ module _ (r : Runs) (cs : List ℕ) (is : IsCounted r cs) where
       | inr ne ↦ get_or-set_other cs b c (get_or cs b 0 - 1) 0 (λ e. ne (sym e)) ∙ is.counts c ∙ sym (in-without_other ps place c ne)
     ]
 
-    module _ (m : Layout) (made : m ≡ record { head = r.layout.head; blocks = r.layout.blocks; pieces = without ps place }) where
+    module _ (m : Layout) (made : m ≡ record { head = r.layout.head; blocks = r.layout.blocks; contents = without ps place }) where
       pub counted-gone : IsCounted (record { layout = m; active = r.active }) ds
       counted-gone = subst (λ (z : Layout). IsCounted (record { layout = z; active = r.active }) ds) (sym made) (record {
         run = record {
@@ -145,7 +146,7 @@ module _ (r : Runs) (cs : List ℕ) (is : IsCounted r cs) where
 
       -- and its block with it
       module _ (last : get_or cs b 0 - 1 ≡ 0) (t : Layout) (back : t
-          ≡ record { head = m.head; blocks = set m.blocks b None; pieces = outside m.pieces b }) (a : Active)
+          ≡ record { head = m.head; blocks = set m.blocks b None; contents = outside m.contents b }) (a : Active)
           (stops : a ≡ record {
             block = r.active.block;
             used = cond (r.active.block == b) 0 r.active.used;
@@ -155,9 +156,9 @@ module _ (r : Runs) (cs : List ℕ) (is : IsCounted r cs) where
         none : in_block (without ps place) b ≡ 0
         none = omega (arith, last, is.counts b, here)
 
-        is-back : t ≡ record { head = r.layout.head; blocks = set r.layout.blocks b None; pieces = without ps place }
-        is-back = back ∙ ap (λ (z : Layout). record { head = z.head; blocks = set z.blocks b None; pieces = outside z.pieces b }) made
-            ∙ ap (λ (xs : List ChunkContents). record { head = r.layout.head; blocks = set r.layout.blocks b None; pieces = xs })
+        is-back : t ≡ record { head = r.layout.head; blocks = set r.layout.blocks b None; contents = without ps place }
+        is-back = back ∙ ap (λ (z : Layout). record { head = z.head; blocks = set z.blocks b None; contents = outside z.contents b }) made
+            ∙ ap (λ (xs : List ChunkContents). record { head = r.layout.head; blocks = set r.layout.blocks b None; contents = xs })
             (outside-none (without ps place) b none)
 
         away : Every (λ (p : ChunkContents). p.place.block ≢ b) (without ps place)
@@ -175,7 +176,7 @@ module _ (r : Runs) (cs : List ℕ) (is : IsCounted r cs) where
         left-back : a'.size - a'.used ≡ cond (r.active.block == b) 0 (r.active.size - r.active.used)
         left-back = grind (arith, nat_tests, common_steps)
 
-        rest-back : IsRest (record { head = r.layout.head; blocks = set r.layout.blocks b None; pieces = without ps place }) a'
+        rest-back : IsRest (record { head = r.layout.head; blocks = set r.layout.blocks b None; contents = without ps place }) a'
         rest-back =
             let rooms : Every (λ (p : ChunkContents). 1 ≤ p.room) (without ps place) = every_filter _ _ ps is.run.rest.rooms in
             let clear : Every (λ (p : ChunkContents). 0 < a'.size → p.place.block ≡ r.active.block → p.place.offset + p.room ≤ a'.used)
@@ -202,7 +203,8 @@ module _ (r : Runs) (cs : List ℕ) (is : IsCounted r cs) where
               counts = counts-gone;
               long = omega (arith, is.long, length-set cs b (get_or cs b 0 - 1), length-set {A = Option ℕ} r.layout.blocks b None);
               few = λ c. omega (arith, fewer c, is.few c);
-              left = subst (λ (n : ℕ). in_block (without ps place) r.active.block + n ≤ 8192) (sym left-back) (by-bool (r.active.block == b));
+              left = subst (λ (n : ℕ). in_block (without ps place) r.active.block + n ≤ 8192) (sym left-back) (by-bool
+                  (r.active.block == b));
             })
           where
             by-bool : (x : Bool) → in_block (without ps place) r.active.block + cond x 0 (r.active.size - r.active.used) ≤ 8192

@@ -9,7 +9,8 @@ pub use Rattle.chunk_layout.specs.ListLaws.{every_filter, pairwise_filter, by_co
 pub use Rattle.chunk_layout.specs.ListLaws.{first_passes, every_map, filter_map_same}
 pub use Rattle.chunk_layout.specs.FindingLaws.{same-place, place-same}
 pub use Rattle.chunk_layout.specs.NumberLaws.{length-with_block, total-set_none, with_block-here, total-with_block, with_block-other}
-pub use Rattle.chunk_layout.specs.PieceLaws.{piece_at-first, piece_at-later, has-without, piece_at-without, same_place-sym, has-first}
-pub use Rattle.chunk_layout.specs.PieceLaws.{without-first, has-later, without-later, without-none, has_not-without}
+pub use Rattle.chunk_layout.specs.ContentsLaws.{contents_at-first, contents_at-later, has-without, contents_at-without, same_place-sym}
+pub use Rattle.chunk_layout.specs.ContentsLaws.{has-first}
+pub use Rattle.chunk_layout.specs.ContentsLaws.{without-first, has-later, without-later, without-none, has_not-without}
 pub use Rattle.block_memory.specs.CellLaws.{length-zeros}
 pub use Rattle.list_laws.specs.Outcomes.{always_err}

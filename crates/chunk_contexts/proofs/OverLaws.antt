@@ -4,7 +4,7 @@ use Rattle.chunk_contexts.proofs.Words.{Every, Pairwise, Layout, ChunkContents, 
 use Rattle.chunk_contexts.proofs.Words.{free_rooms, first_free, Linked, Elsewhere, AreLinked, AreLists}
 use Rattle.chunk_contexts.proofs.Laws.{every_map, every_weaker, pairwise_filter, filter_map_same, common_steps, nat_tests}
 use Rattle.std.specs.List.{refill}
-use Rattle.chunk_contexts.specs.SetFields.{IsSet, IsSetPiece, Alone}
+use Rattle.chunk_contexts.specs.SetFields.{IsSet, IsSetChunk, Alone}
 use Rattle.chunk_contexts.proofs.FreeLaws.{LiveAt}
 
 abbrev pub over : Place → List ℕ → ChunkContents → ChunkContents
@@ -64,15 +64,15 @@ linked-over key place ws (p ∷ ps) lives linked = grind (
 )
 
 -- the chunks of a layout, of which a live one is written over
-pub links-over : (key : Place → ℕ → ℕ) (l : Layout) → AreLinked key l → (place : Place) (ws : List ℕ) → Every (LiveAt place) l.pieces
-    → AreLinked key (record { head = l.head; blocks = l.blocks; pieces = map (over place ws) l.pieces })
+pub links-over : (key : Place → ℕ → ℕ) (l : Layout) → AreLinked key l → (place : Place) (ws : List ℕ) → Every (LiveAt place) l.contents
+    → AreLinked key (record { head = l.head; blocks = l.blocks; contents = map (over place ws) l.contents })
 links-over key l are place ws lives = grind (
   arith,
   nat_tests,
   common_steps,
-  pairwise_map Elsewhere (over place ws) l.pieces are.places,
+  pairwise_map Elsewhere (over place ws) l.contents are.places,
   every_map,
-  linked-over key place ws l.pieces lives are.linked,
+  linked-over key place ws l.contents lives are.linked,
 )
 
 -- a list of chunks of which one is written over, and its live and free ones
@@ -87,24 +87,24 @@ module _ (place : Place) (ws : List ℕ) (ps : List ChunkContents) (places : Pai
 
 -- a set of which one live chunk is written over
 module _ (l : Layout) (heads : List (Option Place)) (active : Active) (first : Option ℕ) (is : IsSet l heads active first) (place : Place)
-    (ws : List ℕ) (lives : Every (LiveAt place) l.pieces) where
+    (ws : List ℕ) (lives : Every (LiveAt place) l.contents) where
   abbrev ps : List ChunkContents
-  ps = l.pieces
+  ps = l.contents
 
   abbrev qs : List ChunkContents
   qs = map (over place ws) ps
 
-  lists-over : AreLists (record { head = l.head; blocks = l.blocks; pieces = qs }) heads
+  lists-over : AreLists (record { head = l.head; blocks = l.blocks; contents = qs }) heads
   lists-over = grind (arith, nat_tests, common_steps, links-over by_room l is.lists.links place ws lives, first_free-over by_room place ws)
 
-  set-over : IsSet (record { head = l.head; blocks = l.blocks; pieces = qs }) heads active first
+  set-over : IsSet (record { head = l.head; blocks = l.blocks; contents = qs }) heads active first
   set-over =
       let alone : Pairwise Alone qs = pairwise_map Alone (over place ws) ps is.alone in
-      let good : Every (IsSetPiece l.blocks active first) qs = every_map (IsSetPiece l.blocks active first) (over place ws) ps
-      (every_weaker (IsSetPiece l.blocks active first) (λ (p : ChunkContents). IsSetPiece l.blocks active first (over place ws p))
+      let good : Every (IsSetChunk l.blocks active first) qs = every_map (IsSetChunk l.blocks active first) (over place ws) ps
+      (every_weaker (IsSetChunk l.blocks active first) (λ (p : ChunkContents). IsSetChunk l.blocks active first (over place ws p))
       (λ p g. grind (arith, nat_tests)) ps is.good) in
       grind (arith, nat_tests, lists-over, alone, good)
 
   pub set-lent : IsSet (layout_with l place ws) heads active first
-  set-lent = subst (λ (xs : List ChunkContents). IsSet (record { head = l.head; blocks = l.blocks; pieces = xs }) heads active first)
+  set-lent = subst (λ (xs : List ChunkContents). IsSet (record { head = l.head; blocks = l.blocks; contents = xs }) heads active first)
       (sym (rewritten-map place ws ps is.lists.links.places)) set-over

@@ -1,7 +1,7 @@
 -- Blocks that are taken for chunks which lie one after the other.
 use Rattle.std.proofs.Common.{◌≡◌, ◌≢◌, ℕ, ◌+◌, ◌<◌, ◌≤◌, inl, true, false, List, [], ◌∷◌, Option, None, length, get_or, sym, ap, ◌∙◌}
 use Rattle.std.proofs.Common.{subst, arith}
-use Rattle.chunk_contexts.proofs.Words.{IsTrue, is_some, unwrap_or, Every, Layout, ChunkContents, has, with_piece, with_block, size_at}
+use Rattle.chunk_contexts.proofs.Words.{IsTrue, is_some, unwrap_or, Every, Layout, ChunkContents, has, with_contents, with_block, size_at}
 use Rattle.chunk_contexts.proofs.Words.{total, IsClear, Place}
 use Rattle.chunk_contexts.proofs.Laws.{every_weaker, with_block-here, total-with_block, without-none}
 use Rattle.chunk_contexts.specs.declared.runs.Runs.{Runs}
@@ -15,7 +15,7 @@ module _ (head : ℕ) (r : Runs) (is : IsRun head r) (b size : ℕ) (none : get_
   l = r.layout
 
   abbrev ps : List ChunkContents
-  ps = l.pieces
+  ps = l.contents
 
   abbrev blocks' : List (Option ℕ)
   blocks' = with_block l.blocks b size
@@ -47,12 +47,12 @@ module _ (head : ℕ) (r : Runs) (is : IsRun head r) (b size : ℕ) (none : get_
     own-fresh = none-at own.place ps (every_weaker (λ (q : ChunkContents). q.place.block ≢ b) (λ (q : ChunkContents). q.place ≡ own.place
         → ⊥) (λ q ne e. ne (ap (λ (x : Place). x.block) e)) ps elsewhere)
 
-    pub own-made : (t m : Layout) → t ≡ record { head = l.head; blocks = blocks'; pieces = ps } → m ≡ with_piece t own → m
-        ≡ record { head = l.head; blocks = blocks'; pieces = own ∷ ps }
-    own-made t m taken carved = carved ∙ ap (λ (z : Layout). with_piece z own) taken
-        ∙ (λ i. record { head = l.head; blocks = blocks'; pieces = own ∷ without-none ps own.place own-fresh i })
+    pub own-made : (t m : Layout) → t ≡ record { head = l.head; blocks = blocks'; contents = ps } → m ≡ with_contents t own → m
+        ≡ record { head = l.head; blocks = blocks'; contents = own ∷ ps }
+    own-made t m taken carved = carved ∙ ap (λ (z : Layout). with_contents z own) taken
+        ∙ (λ i. record { head = l.head; blocks = blocks'; contents = own ∷ without-none ps own.place own-fresh i })
 
-    pub own-run : (m : Layout) → m ≡ record { head = l.head; blocks = blocks'; pieces = own ∷ ps }
+    pub own-run : (m : Layout) → m ≡ record { head = l.head; blocks = blocks'; contents = own ∷ ps }
         → IsRun head (record { layout = m; active = r.active })
     own-run m made = subst (λ (z : Layout). IsRun head (record { layout = z; active = r.active })) (sym made) (record {
       head = is.head;
@@ -72,7 +72,7 @@ module _ (head : ℕ) (r : Runs) (is : IsRun head r) (b size : ℕ) (none : get_
         active-some some' = some-block l.blocks r.active.block (omega (arith, is.rest.size some', some'))
 
   -- the block is the one in use
-  pub started-run : (m : Layout) → m ≡ record { head = l.head; blocks = blocks'; pieces = ps } → size ≤ 1048576
+  pub started-run : (m : Layout) → m ≡ record { head = l.head; blocks = blocks'; contents = ps } → size ≤ 1048576
       → IsRun head (record { layout = m; active = record { block = b; used = 0; size = size } })
   started-run m made fits = subst (λ (z : Layout). IsRun head (record { layout = z; active = record { block = b; used = 0; size = size } }))
       (sym made) (record {
@@ -82,7 +82,8 @@ module _ (head : ℕ) (r : Runs) (is : IsRun head r) (b size : ℕ) (none : get_
           used = omega arith;
           bound = fits;
           block = name;
-          clear = every_weaker (λ (q : ChunkContents). q.place.block ≢ b) (λ (q : ChunkContents). 0 < size → q.place.block ≡ b → q.place.offset
+          clear = every_weaker (λ (q : ChunkContents). q.place.block ≢ b) (λ (q : ChunkContents). 0 < size → q.place.block ≡ b
+              → q.place.offset
               + q.room ≤ 0) (λ q ne _ e. absurd (ne e)) ps elsewhere;
           rooms = is.rest.rooms;
         };

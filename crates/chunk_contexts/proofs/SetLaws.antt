@@ -1,15 +1,16 @@
 -- What holds of the fields of an `AllocSet` after its chunks and blocks changed.
 use Rattle.std.proofs.Common.{◌≡◌, ◌≢◌, ℕ, ◌+◌, ◌<◌, ◌≤◌, ◌⊎◌, inl, inr, Bool, true, false, not, List, [], ◌∷◌, ◌++◌, Option, Some, None}
 use Rattle.std.proofs.Common.{length, get_or, set, take, cond, refl, sym, ap, ◌∙◌, subst, arith}
-use Rattle.chunk_contexts.proofs.Words.{IsTrue, is_some, unwrap_or, ◌==◌, Every, Pairwise, Layout, ChunkContents, is_at, has, piece_at}
-use Rattle.chunk_contexts.proofs.Words.{no_piece, without, outside, put_at, with_block, size_at, Place, Active, rooms, rooms_down, room_of}
-use Rattle.chunk_contexts.proofs.Words.{by_room, is_in, first_free, Linked, Elsewhere, AreLists, IsRest, cut_pieces, IsLinkable, LARGEST}
+use Rattle.chunk_contexts.proofs.Words.{IsTrue, is_some, unwrap_or, ◌==◌, Every, Pairwise, Layout, ChunkContents, is_at, has, contents_at}
+use Rattle.chunk_contexts.proofs.Words.{no_contents, without, outside, put_at, with_block, size_at, Place, Active, rooms, rooms_down}
+use Rattle.chunk_contexts.proofs.Words.{room_of}
+use Rattle.chunk_contexts.proofs.Words.{by_room, is_in, first_free, Linked, Elsewhere, AreLists, IsRest, cut_chunks, IsLinkable, LARGEST}
 use Rattle.chunk_contexts.proofs.Laws.{false≢true, eq-eqb, ne_eqb, not-true, get_or-set_other, every_passes, every_filter, every_weaker}
 use Rattle.chunk_contexts.proofs.Laws.{every_both, pairwise_filter, first_has, first_passes, same-place, with_block-here, with_block-other}
 use Rattle.chunk_contexts.proofs.Laws.{without-none, nat_tests, common_steps}
 use Rattle.std.specs.List.{filter}
 use Rattle.chunk_contexts.specs.Set.{or_first}
-use Rattle.chunk_contexts.specs.SetFields.{IsSet, IsSetPiece, Alone}
+use Rattle.chunk_contexts.specs.SetFields.{IsSet, IsSetChunk, Alone}
 use Rattle.chunk_contexts.proofs.ClassLaws.{in-small, in-some}
 use Rattle.chunk_contexts.proofs.FreeLaws.{IsLiveAt, pairwise-found, linked-kept, first_free-kept}
 use Rattle.chunk_contexts.proofs.ListLaws.{lists-new}
@@ -46,17 +47,17 @@ filter-same {X} f g (x ∷ xs) every = λ i. cond (every.0 i) (x ∷ filter-same
 
 module _ (l : Layout) (heads : List (Option Place)) (active : Active) (first : Option ℕ) (is : IsSet l heads active first) where
   abbrev ps : List ChunkContents
-  ps = l.pieces
+  ps = l.contents
 
-  one-room : (p : ChunkContents) → IsSetPiece l.blocks active first p → 1 ≤ p.room
+  one-room : (p : ChunkContents) → IsSetChunk l.blocks active first p → 1 ≤ p.room
   one-room p g = grind (arith, nat_tests, common_steps, in-some p.room)
 
   pub set-rest : IsRest l active
   set-rest =
-      let rooms : Every (λ (p : ChunkContents). 1 ≤ p.room) ps = every_weaker (IsSetPiece l.blocks active first)
+      let rooms : Every (λ (p : ChunkContents). 1 ≤ p.room) ps = every_weaker (IsSetChunk l.blocks active first)
       (λ (p : ChunkContents). 1 ≤ p.room) one-room ps is.good in
       let clear : Every (λ (p : ChunkContents). 0 < active.size → p.place.block ≡ active.block → p.place.offset + p.room ≤ active.used) ps =
-      every_weaker (IsSetPiece l.blocks active first) _ (λ p g. g.used) ps is.good in
+      every_weaker (IsSetChunk l.blocks active first) _ (λ p g. g.used) ps is.good in
       assumption (rooms, clear)
 
   -- ---- a chunk is cut from the block in use
@@ -68,7 +69,7 @@ module _ (l : Layout) (heads : List (Option Place)) (active : Active) (first : O
     more = record { block = active.block; used = active.used + 8 + room; size = active.size }
 
     abbrev carved : Layout
-    carved = record { head = 8; blocks = l.blocks; pieces = p ∷ ps }
+    carved = record { head = 8; blocks = l.blocks; contents = p ∷ ps }
 
     not_empty : 0 < active.size
     not_empty = omega (arith, fits)
@@ -82,24 +83,24 @@ module _ (l : Layout) (heads : List (Option Place)) (active : Active) (first : O
     pub set-carved : IsSet carved heads more first
     set-carved =
         let lists : AreLists carved heads = subst (λ (z : Layout). AreLists z heads)
-        (λ i. record { head = is.lists.links.head i; blocks = l.blocks; pieces = p ∷ without-none ps p.place fresh i })
+        (λ i. record { head = is.lists.links.head i; blocks = l.blocks; contents = p ∷ without-none ps p.place fresh i })
         (lists-new l heads is.lists p refl fresh links) in
-        let alone : Every (Alone p) ps = every_weaker (IsSetPiece l.blocks active first) (Alone p)
+        let alone : Every (Alone p) ps = every_weaker (IsSetChunk l.blocks active first) (Alone p)
         (λ q g. grind (arith, nat_tests, in-small room known, not_empty)) ps is.good in
-        let good : Every (IsSetPiece l.blocks more first) ps = every_weaker (IsSetPiece l.blocks active first)
-        (IsSetPiece l.blocks more first) (λ q g. grind (arith, nat_tests)) ps is.good in
+        let good : Every (IsSetChunk l.blocks more first) ps = every_weaker (IsSetChunk l.blocks active first)
+        (IsSetChunk l.blocks more first) (λ q g. grind (arith, nat_tests)) ps is.good in
         grind (arith, nat_tests, lists, alone, good, some-block l.blocks active.block, not_empty, in-small room known)
 
   -- ---- a chunk is written, freed or taken again
   module _ (place : Place) (there : has ps place ≡ true) where
     abbrev t : ChunkContents
-    t = piece_at ps place
+    t = contents_at ps place
 
     at : t.place ≡ place
-    at = same-place t.place place (first_passes (is_at place) no_piece ps there)
+    at = same-place t.place place (first_passes (is_at place) no_contents ps there)
 
-    good-t : IsSetPiece l.blocks active first t
-    good-t = first_has (IsSetPiece l.blocks active first) (is_at place) no_piece ps there is.good
+    good-t : IsSetChunk l.blocks active first t
+    good-t = first_has (IsSetChunk l.blocks active first) (is_at place) no_contents ps there is.good
 
     alone-t : Every (Alone t) (without ps place)
     alone-t = pairwise-found Alone alone-sym ps place there is.lists.links.places is.alone
@@ -110,7 +111,7 @@ module _ (l : Layout) (heads : List (Option Place)) (active : Active) (first : O
         let q : ChunkContents = record { place = place; room = t.room; is_live = lives; bytes = take kept t.bytes ++ bytes } in
         let alone : Every (Alone q) (without ps place) = every_weaker (Alone t) (Alone q) (λ x a h e. a h (ap (λ (y : Place). y.block) at
         ∙ e)) (without ps place) alone-t in
-        let good : IsSetPiece l.blocks active first q = grind (arith, nat_tests, good-t, at) in
+        let good : IsSetChunk l.blocks active first q = grind (arith, nat_tests, good-t, at) in
         grind (
           arith,
           nat_tests,
@@ -118,7 +119,7 @@ module _ (l : Layout) (heads : List (Option Place)) (active : Active) (first : O
           good,
           pairwise_filter Alone (λ (p : ChunkContents). not (is_at place p)) ps is.alone,
           every_filter
-              (IsSetPiece l.blocks active first) (λ (p : ChunkContents). not (is_at place p)) ps is.good,
+              (IsSetChunk l.blocks active first) (λ (p : ChunkContents). not (is_at place p)) ps is.good,
         )
 
     -- ---- a large chunk's block goes back
@@ -130,7 +131,7 @@ module _ (l : Layout) (heads : List (Option Place)) (active : Active) (first : O
       block-is = ap (λ (x : Place). x.block) at
 
       abbrev back : Layout
-      back = record { head = l.head; blocks = set l.blocks b None; pieces = outside ps b }
+      back = record { head = l.head; blocks = set l.blocks b None; contents = outside ps b }
 
       -- no other chunk is in its block
       pub outside-is : outside ps b ≡ without ps place
@@ -143,8 +144,8 @@ module _ (l : Layout) (heads : List (Option Place)) (active : Active) (first : O
           (λ q a away. ap not (ne_eqb q.place.block b (λ e. a (inl big) (block-is ∙ sym e)) ∙ sym (not-true (is_at place q) away)))
           (without ps place) alone-t (every_passes (λ (q : ChunkContents). not (is_at place q)) ps)))
 
-      good-other : (q : ChunkContents) → IsSetPiece l.blocks active first q → not (q.place.block == b) ≡ true
-          → IsSetPiece (set l.blocks b None) active first q
+      good-other : (q : ChunkContents) → IsSetChunk l.blocks active first q → not (q.place.block == b) ≡ true
+          → IsSetChunk (set l.blocks b None) active first q
       good-other q g away = grind (arith, nat_tests, common_steps)
 
       pub set-back : IsSet back heads active first
@@ -161,9 +162,9 @@ module _ (l : Layout) (heads : List (Option Place)) (active : Active) (first : O
               ∙ ap (first_free by_room (room_of class)) (sym outside-is);
         };
         alone = pairwise_filter Alone _ ps is.alone;
-        good = every_both (IsSetPiece l.blocks active first) (λ (q : ChunkContents). not (q.place.block == b)
-            ≡ true) (IsSetPiece (set l.blocks b None) active first) good-other (outside ps b)
-            (every_filter (IsSetPiece l.blocks active first) _ ps is.good) (every_passes (λ (q : ChunkContents). not (q.place.block == b))
+        good = every_both (IsSetChunk l.blocks active first) (λ (q : ChunkContents). not (q.place.block == b)
+            ≡ true) (IsSetChunk (set l.blocks b None) active first) good-other (outside ps b)
+            (every_filter (IsSetChunk l.blocks active first) _ ps is.good) (every_passes (λ (q : ChunkContents). not (q.place.block == b))
             ps);
         size = λ some. is.size some
             ∙ ap (λ (o : Option ℕ). unwrap_or o 0)
@@ -188,13 +189,13 @@ module _ (l : Layout) (heads : List (Option Place)) (active : Active) (first : O
     active-some some = some-block l.blocks active.block (omega (arith, is.size some, some))
 
     pub elsewhere-all : Every (λ (q : ChunkContents). q.place.block ≢ b) ps
-    elsewhere-all = every_weaker (IsSetPiece l.blocks active first) (λ (q : ChunkContents). q.place.block ≢ b)
+    elsewhere-all = every_weaker (IsSetChunk l.blocks active first) (λ (q : ChunkContents). q.place.block ≢ b)
         (λ q g. not-new l.blocks b none q.place.block g.there) ps is.good
 
     pub size-here : size_at blocks' b ≡ size
     size-here = ap (λ (o : Option ℕ). unwrap_or o 0) (with_block-here l.blocks b size low)
 
-    pub rest-taken : IsRest (record { head = l.head; blocks = blocks'; pieces = ps }) active
+    pub rest-taken : IsRest (record { head = l.head; blocks = blocks'; contents = ps }) active
     rest-taken = grind (arith, nat_tests, common_steps, set-rest, same-others l.blocks b size none low active.block)
 
     start-kept : (f : ℕ) → first ≡ Some f → IsTrue (is_some (get_or blocks' f None)) × (size_at blocks' f ≤ 1048576)
@@ -207,7 +208,7 @@ module _ (l : Layout) (heads : List (Option Place)) (active : Active) (first : O
       own = record { place = record { block = b; offset = 8 }; room = room; is_live = true; bytes = [] }
 
       abbrev alone' : Layout
-      alone' = record { head = 8; blocks = blocks'; pieces = own ∷ ps }
+      alone' = record { head = 8; blocks = blocks'; contents = own ∷ ps }
 
       pub own-fresh : has ps own.place ≡ false
       own-fresh = none-at own.place ps (every_weaker (λ (q : ChunkContents). q.place.block ≢ b) (λ (q : ChunkContents). q.place ≡ own.place
@@ -229,8 +230,8 @@ module _ (l : Layout) (heads : List (Option Place)) (active : Active) (first : O
                 active.block,
             active-some,
             not-new l.blocks b none b,
-            every_weaker (IsSetPiece l.blocks active first)
-                (IsSetPiece blocks' active first),
+            every_weaker (IsSetChunk l.blocks active first)
+                (IsSetChunk blocks' active first),
             same-others l.blocks b size none low,
             same-others l.blocks b size none low active.block,
             start-kept,
@@ -245,29 +246,29 @@ module _ (l : Layout) (heads : List (Option Place)) (active : Active) (first : O
       first' = or_first first b
 
       abbrev cut : List ChunkContents
-      cut = cut_pieces rooms_down active.block active.used active.size ps
+      cut = cut_chunks rooms_down active.block active.used active.size ps
 
       good-next : (q : ChunkContents) → IsTrue (is_some (get_or l.blocks q.place.block None))
           → (q.room ≤ LARGEST → IsTrue (is_in q.room rooms)) → (LARGEST < q.room → (q.is_live ≡ true) × (first ≢ Some q.place.block))
-          → IsSetPiece blocks' next first' q
+          → IsSetChunk blocks' next first' q
       good-next q there small large = grind (arith, nat_tests, common_steps, same-others l.blocks b size none low q.place.block there)
 
-      good-cut : Every (IsSetPiece blocks' next first') cut
-      good-cut = cut-every (IsSetPiece blocks' next first') active.block active.size
+      good-cut : Every (IsSetChunk blocks' next first') cut
+      good-cut = cut-every (IsSetChunk blocks' next first') active.block active.size
           (λ room used bytes known fit. good-next
           (record { place = record { block = active.block; offset = used + 8 }; room = room; is_live = false; bytes = bytes })
           (active-some (omega (arith, fit))) (λ _. known) (λ big. absurd (omega (arith, big, in-small room known))))
           rooms_down down-known active.used ps
-          (every_weaker (IsSetPiece l.blocks active first) (IsSetPiece blocks' next first')
+          (every_weaker (IsSetChunk l.blocks active first) (IsSetChunk blocks' next first')
           (λ q g. good-next q g.there g.small (λ big. ((g.large big).0, (g.large big).1.1))) ps is.good)
 
       alone-cut : Pairwise Alone cut
       alone-cut = cut-alone active.block active.size rooms_down down-known active.used ps
-          (every_weaker (IsSetPiece l.blocks active first) (λ (q : ChunkContents). 0 < active.size → LARGEST < q.room
+          (every_weaker (IsSetChunk l.blocks active first) (λ (q : ChunkContents). 0 < active.size → LARGEST < q.room
           → q.place.block ≢ active.block) (λ q g some big. (g.large big).1.0 some) ps is.good) is.alone
 
-      pub set-grown : AreLists (record { head = 8; blocks = blocks'; pieces = cut }) heads'
-          → IsSet (record { head = 8; blocks = blocks'; pieces = cut }) heads' next first'
+      pub set-grown : AreLists (record { head = 8; blocks = blocks'; contents = cut }) heads'
+          → IsSet (record { head = 8; blocks = blocks'; contents = cut }) heads' next first'
       set-grown lists = record {
         lists = lists;
         alone = alone-cut;

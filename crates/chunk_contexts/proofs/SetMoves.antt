@@ -1,9 +1,9 @@
 -- States of an `AllocSet` after one change and another.
 use Rattle.std.proofs.Common.{◌≡◌, ℕ, ◌-◌, Bool, true, false, List, [], ◌∷◌, length, refl, ap, ◌∙◌, arith}
-use Rattle.chunk_contexts.proofs.Words.{ChunkContents, same_place, place_of, has, piece_at, without, resized, Place, ChunkName, bytes_of}
+use Rattle.chunk_contexts.proofs.Words.{ChunkContents, same_place, place_of, has, contents_at, without, resized, Place, ChunkName, bytes_of}
 use Rattle.chunk_contexts.proofs.Words.{IsResized}
-use Rattle.chunk_contexts.proofs.Laws.{length-zeros, place-same, same_place-sym, has-first, piece_at-first, without-first, has-later}
-use Rattle.chunk_contexts.proofs.Laws.{piece_at-later, without-none, has-without, piece_at-without, has_not-without, common_steps}
+use Rattle.chunk_contexts.proofs.Laws.{length-zeros, place-same, same_place-sym, has-first, contents_at-first, without-first, has-later}
+use Rattle.chunk_contexts.proofs.Laws.{contents_at-later, without-none, has-without, contents_at-without, has_not-without, common_steps}
 use Rattle.chunk_contexts.proofs.Laws.{nat_tests}
 use Rattle.chunk_contexts.proofs.Content.{apart-places}
 use Rattle.chunk_contexts.specs.Set.{SetState, set_taken, taken_by, set_put}
@@ -26,7 +26,7 @@ put-taken s n place room xs ys none = grind (
   arith,
   nat_tests,
   taken-chunks s n,
-  piece_at-first,
+  contents_at-first,
   place-same place,
   without-first,
   without-none s.chunks place none,
@@ -47,7 +47,7 @@ resized-stays before name new n room same len = grind (
   length-resized (bytes_of before name) n,
   has-without
       before (place_of name),
-  piece_at-without before (place_of name),
+  contents_at-without before (place_of name),
 )
 
 -- a chunk moves
@@ -61,7 +61,7 @@ resized-moved before name new n room there none len = grind (
   common_steps,
   length-resized (bytes_of before name) n,
   has-without before (place_of name),
-  piece_at-without before (place_of name),
+  contents_at-without before (place_of name),
   has_not-without before (place_of name),
 )
 
@@ -81,21 +81,21 @@ module _ (s t u : SetState) (n : ℕ) (place from : Place) (room : ℕ) (there :
   made-from = ap (λ (cs : List ChunkContents). has cs from) made-chunks
       ∙ has-later (record { place = place; room = room; is_live = true; bytes = [] }) s.chunks from away ∙ there
 
-  pub made-source : piece_at t.chunks from ≡ piece_at s.chunks from
-  made-source = ap (λ (cs : List ChunkContents). piece_at cs from) made-chunks
-      ∙ piece_at-later (record { place = place; room = room; is_live = true; bytes = [] }) s.chunks from away
+  pub made-source : contents_at t.chunks from ≡ contents_at s.chunks from
+  made-source = ap (λ (cs : List ChunkContents). contents_at cs from) made-chunks
+      ∙ contents_at-later (record { place = place; room = room; is_live = true; bytes = [] }) s.chunks from away
 
   pub made-there : has t.chunks place ≡ true
   made-there = ap (λ (cs : List ChunkContents). has cs place) made-chunks
       ∙ has-first (record { place = place; room = room; is_live = true; bytes = [] }) s.chunks place (place-same place)
 
-  pub made-piece : piece_at t.chunks place ≡ record { place = place; room = room; is_live = true; bytes = [] }
-  made-piece = ap (λ (cs : List ChunkContents). piece_at cs place) made-chunks
-      ∙ piece_at-first (record { place = place; room = room; is_live = true; bytes = [] }) s.chunks place (place-same place)
+  pub made-contents : contents_at t.chunks place ≡ record { place = place; room = room; is_live = true; bytes = [] }
+  made-contents = ap (λ (cs : List ChunkContents). contents_at cs place) made-chunks
+      ∙ contents_at-first (record { place = place; room = room; is_live = true; bytes = [] }) s.chunks place (place-same place)
 
-  module _ (len : ℕ) (filled : u ≡ set_put t place (resized (piece_at t.chunks from).bytes len)) where
+  module _ (len : ℕ) (filled : u ≡ set_put t place (resized (contents_at t.chunks from).bytes len)) where
     abbrev p : ChunkContents
-    p = record { place = place; room = room; is_live = true; bytes = resized (piece_at s.chunks from).bytes len }
+    p = record { place = place; room = room; is_live = true; bytes = resized (contents_at s.chunks from).bytes len }
 
     pub filled-is : u ≡ set_taken s n p
     filled-is = filled ∙ ap (λ (q : ChunkContents). set_put t place (resized q.bytes len)) made-source

@@ -1,13 +1,14 @@
 -- What the state of an `AllocSet` says of its fields at a live chunk, and what it is after they changed.
 use Rattle.std.proofs.Common.{◌≡◌, ℕ, ◌+◌, ◌-◌, ◌<◌, ◌≤◌, inl, inr, true, false, List, ◌∷◌, ◌++◌, Option, None, length, get_or, set, take}
 use Rattle.std.proofs.Common.{refl, sym, ap, ◌∙◌, subst, arith}
-use Rattle.chunk_contexts.proofs.Words.{IsTrue, is_some, nat_lt, Layout, ChunkContents, has, is_at, piece_at, place_of, no_piece, without}
+use Rattle.chunk_contexts.proofs.Words.{IsTrue, is_some, nat_lt, Layout, ChunkContents, has, is_at, contents_at, place_of, no_contents}
+use Rattle.chunk_contexts.proofs.Words.{without}
 use Rattle.chunk_contexts.proofs.Words.{outside, put_at, resized, total, with_block, Place, ChunkName, Every, live, is_live, bytes_of}
 use Rattle.chunk_contexts.proofs.Words.{rooms, by_room, is_in, free_rooms, first_free, AreLists, link_bytes, LARGEST}
 use Rattle.chunk_contexts.proofs.Laws.{lt-ltb, le-ltb, cond-true, cond-false, first_has, first_passes, same-place, total-with_block}
 use Rattle.chunk_contexts.proofs.Laws.{common_steps, nat_tests}
 use Rattle.chunk_contexts.specs.Set.{SetState, set_put, set_freed}
-use Rattle.chunk_contexts.specs.SetFields.{set_of, IsSetPiece, AreFields}
+use Rattle.chunk_contexts.specs.SetFields.{set_of, IsSetChunk, AreFields}
 use Rattle.chunk_contexts.specs.declared.free_lists.FreeLists.{FreeLists}
 use Rattle.chunk_contexts.specs.declared.alloc_set.AllocSet.TheInside.{Inside}
 use Rattle.chunk_contexts.proofs.Content.{name-there, name-len}
@@ -20,7 +21,7 @@ module _ (x : Inside) (ok : AreFields x) (s : SetState) (e : set_of x ≡ s) (pl
   l = x.lists.layout
 
   abbrev ps : List ChunkContents
-  ps = l.pieces
+  ps = l.contents
 
   here : has (live ps) place ≡ true
   here = ap (λ (z : SetState). has z.chunks place) e ∙ there
@@ -34,14 +35,14 @@ module _ (x : Inside) (ok : AreFields x) (s : SetState) (e : set_of x ≡ s) (pl
   pub seen-only : Every (LiveAt place) ps
   seen-only = was.only
 
-  pub seen : piece_at ps place ≡ piece_at s.chunks place
-  seen = was.same ∙ ap (λ (z : SetState). piece_at z.chunks place) e
+  pub seen : contents_at ps place ≡ contents_at s.chunks place
+  seen = was.same ∙ ap (λ (z : SetState). contents_at z.chunks place) e
 
-  good : IsSetPiece l.blocks x.active x.first (piece_at ps place)
-  good = first_has (IsSetPiece l.blocks x.active x.first) (is_at place) no_piece ps was.there ok.set.good
+  good : IsSetChunk l.blocks x.active x.first (contents_at ps place)
+  good = first_has (IsSetChunk l.blocks x.active x.first) (is_at place) no_contents ps was.there ok.set.good
 
-  at : (piece_at ps place).place ≡ place
-  at = same-place (piece_at ps place).place place (first_passes (is_at place) no_piece ps was.there)
+  at : (contents_at ps place).place ≡ place
+  at = same-place (contents_at ps place).place place (first_passes (is_at place) no_contents ps was.there)
 
   pub seen-housed : IsTrue (is_some (get_or l.blocks place.block None))
   seen-housed = subst (λ (q : Place). IsTrue (is_some (get_or l.blocks q.block None))) at good.there
@@ -49,7 +50,7 @@ module _ (x : Inside) (ok : AreFields x) (s : SetState) (e : set_of x ≡ s) (pl
   pub seen-block : place.block < length l.blocks
   seen-block = grind (arith, nat_tests, common_steps, seen-housed)
 
-  pub seen-known : (room : ℕ) → room ≡ (piece_at ps place).room → room ≤ LARGEST → IsTrue (is_in room rooms)
+  pub seen-known : (room : ℕ) → room ≡ (contents_at ps place).room → room ≤ LARGEST → IsTrue (is_in room rooms)
   seen-known room is low = subst (λ (r : ℕ). IsTrue (is_in r rooms)) (sym is) (good.small (omega (arith, is, low)))
 
   -- other bytes
@@ -65,10 +66,10 @@ module _ (x : Inside) (ok : AreFields x) (s : SetState) (e : set_of x ≡ s) (pl
           (inl refl) (lists-put l x.lists.heads ok.set.lists place here kept bytes),
     )
 
-    pub state-put : set_of y ≡ set_put s place (take kept (piece_at s.chunks place).bytes ++ bytes)
+    pub state-put : set_of y ≡ set_put s place (take kept (contents_at s.chunks place).bytes ++ bytes)
     state-put =
-        let chunks = ap (λ (z : Layout). live z.pieces) is ∙ live-put l x.lists.heads ok.set.lists place here kept bytes in
-        let free = ap (λ (z : Layout). free_rooms z.pieces) is ∙ rooms-put l x.lists.heads ok.set.lists place here kept bytes in
+        let chunks = ap (λ (z : Layout). live z.contents) is ∙ live-put l x.lists.heads ok.set.lists place here kept bytes in
+        let free = ap (λ (z : Layout). free_rooms z.contents) is ∙ rooms-put l x.lists.heads ok.set.lists place here kept bytes in
         (λ i. record {
           chunks = chunks i;
           blocks = (is i).blocks;
@@ -87,10 +88,11 @@ module _ (x : Inside) (ok : AreFields x) (s : SetState) (e : set_of x ≡ s) (pl
           next = x.next;
           first = x.first;
         })
-        ∙ ap (λ (z : SetState). set_put z place (take kept (piece_at z.chunks place).bytes ++ bytes)) e
+        ∙ ap (λ (z : SetState). set_put z place (take kept (contents_at z.chunks place).bytes ++ bytes)) e
 
   -- a chunk of a class is freed
-  module _ (low : (piece_at ps place).room ≤ LARGEST) (room : ℕ) (size : (piece_at ps place).room ≡ room) (known : is_in room rooms ≡ true)
+  module _ (low : (contents_at ps place).room ≤ LARGEST) (room : ℕ) (size : (contents_at ps place).room ≡ room)
+      (known : is_in room rooms ≡ true)
       (n : FreeLists) (is : n.layout ≡ put_at l place 0 (link_bytes (first_free by_room room ps)) false)
       (lists : AreLists n.layout n.heads) where
     pub fields-released : AreFields (record { lists = n; active = x.active; next = x.next; first = x.first })
@@ -104,20 +106,20 @@ module _ (x : Inside) (ok : AreFields x) (s : SetState) (e : set_of x ≡ s) (pl
 
     pub state-released : set_of (record { lists = n; active = x.active; next = x.next; first = x.first }) ≡ set_freed s place
     state-released =
-        let chunks = ap (λ (z : Layout). live z.pieces) is ∙ live-released l x.lists.heads ok.set.lists place here room size known in
-        let free = ap (λ (z : Layout). free_rooms z.pieces) is ∙ rooms-released l x.lists.heads ok.set.lists place here room size known in
-        let same : (piece_at (live ps) place).room ≡ room = ap (λ (q : ChunkContents). q.room) (sym was.same) ∙ size in
-        let small : nat_lt LARGEST (piece_at (live ps) place).room
-        ≡ false = le-ltb LARGEST (piece_at (live ps) place).room (omega (arith, same, size, low)) in
-        let free' : free_rooms n.layout.pieces ≡ (piece_at (live ps) place).room ∷ free_rooms ps = free
+        let chunks = ap (λ (z : Layout). live z.contents) is ∙ live-released l x.lists.heads ok.set.lists place here room size known in
+        let free = ap (λ (z : Layout). free_rooms z.contents) is ∙ rooms-released l x.lists.heads ok.set.lists place here room size known in
+        let same : (contents_at (live ps) place).room ≡ room = ap (λ (q : ChunkContents). q.room) (sym was.same) ∙ size in
+        let small : nat_lt LARGEST (contents_at (live ps) place).room
+        ≡ false = le-ltb LARGEST (contents_at (live ps) place).room (omega (arith, same, size, low)) in
+        let free' : free_rooms n.layout.contents ≡ (contents_at (live ps) place).room ∷ free_rooms ps = free
         ∙ ap (λ (r : ℕ). r ∷ free_rooms ps) (sym same) in
         let blocks = ap (λ (z : Layout). z.blocks) is
-        ∙ sym (cond-false (nat_lt LARGEST (piece_at (live ps) place).room) (set l.blocks place.block None) l.blocks small) in
+        ∙ sym (cond-false (nat_lt LARGEST (contents_at (live ps) place).room) (set l.blocks place.block None) l.blocks small) in
         (λ i. record {
           chunks = chunks i;
           blocks = blocks i;
           free = (free'
-              ∙ sym (cond-false (nat_lt LARGEST (piece_at (live ps) place).room) (free_rooms ps) ((piece_at (live ps) place).room
+              ∙ sym (cond-false (nat_lt LARGEST (contents_at (live ps) place).room) (free_rooms ps) ((contents_at (live ps) place).room
               ∷ free_rooms ps) small)) i;
           left = x.active.size - x.active.used;
           next = x.next;
@@ -126,8 +128,8 @@ module _ (x : Inside) (ok : AreFields x) (s : SetState) (e : set_of x ≡ s) (pl
         ∙ ap (λ (z : SetState). set_freed z place) e
 
   -- a larger chunk is freed
-  module _ (big : LARGEST < (piece_at ps place).room) (m : Layout) (is : m
-      ≡ record { head = l.head; blocks = set l.blocks place.block None; pieces = outside ps place.block }) where
+  module _ (big : LARGEST < (contents_at ps place).room) (m : Layout) (is : m
+      ≡ record { head = l.head; blocks = set l.blocks place.block None; contents = outside ps place.block }) where
     abbrev w : Inside
     w = record { lists = record { layout = m; heads = x.lists.heads }; active = x.active; next = x.next; first = x.first }
 
@@ -137,18 +139,18 @@ module _ (x : Inside) (ok : AreFields x) (s : SetState) (e : set_of x ≡ s) (pl
     pub state-back : set_of w ≡ set_freed s place
     state-back =
         let rest = outside-is l x.lists.heads x.active x.first ok.set place was.there was big in
-        let chunks = ap (λ (z : Layout). live z.pieces) is ∙ ap live rest ∙ live-without ps place in
-        let free = ap (λ (z : Layout). free_rooms z.pieces) is ∙ ap free_rooms rest ∙ free_rooms-kept ps place was.only in
+        let chunks = ap (λ (z : Layout). live z.contents) is ∙ ap live rest ∙ live-without ps place in
+        let free = ap (λ (z : Layout). free_rooms z.contents) is ∙ ap free_rooms rest ∙ free_rooms-kept ps place was.only in
         let room = ap (λ (q : ChunkContents). q.room) was.same in
-        let large : nat_lt LARGEST (piece_at (live ps) place).room
-        ≡ true = lt-ltb LARGEST (piece_at (live ps) place).room (omega (arith, room, big)) in
+        let large : nat_lt LARGEST (contents_at (live ps) place).room
+        ≡ true = lt-ltb LARGEST (contents_at (live ps) place).room (omega (arith, room, big)) in
         let blocks = ap (λ (z : Layout). z.blocks) is
-        ∙ sym (cond-true (nat_lt LARGEST (piece_at (live ps) place).room) (set l.blocks place.block None) l.blocks large) in
+        ∙ sym (cond-true (nat_lt LARGEST (contents_at (live ps) place).room) (set l.blocks place.block None) l.blocks large) in
         (λ i. record {
           chunks = chunks i;
           blocks = blocks i;
           free = (free
-              ∙ sym (cond-true (nat_lt LARGEST (piece_at (live ps) place).room) (free_rooms ps) ((piece_at (live ps) place).room
+              ∙ sym (cond-true (nat_lt LARGEST (contents_at (live ps) place).room) (free_rooms ps) ((contents_at (live ps) place).room
               ∷ free_rooms ps) large)) i;
           left = x.active.size - x.active.used;
           next = x.next;
@@ -159,8 +161,8 @@ module _ (x : Inside) (ok : AreFields x) (s : SetState) (e : set_of x ≡ s) (pl
 -- the bytes of one chunk, made shorter or longer, are put into another, or into the same
 module _ (x : Inside) (ok : AreFields x) (s : SetState) (e : set_of x ≡ s) (from : Place) (there : IsTrue (has s.chunks from)) (to : Place)
     (to_there : IsTrue (has s.chunks to)) (n : ℕ) (m : Layout)
-    (is : m ≡ put_at x.lists.layout to 0 (resized (piece_at x.lists.layout.pieces from).bytes n) true) where
-  put : m ≡ put_at x.lists.layout to 0 (resized (piece_at s.chunks from).bytes n) true
+    (is : m ≡ put_at x.lists.layout to 0 (resized (contents_at x.lists.layout.contents from).bytes n) true) where
+  put : m ≡ put_at x.lists.layout to 0 (resized (contents_at s.chunks from).bytes n) true
   put = is ∙ ap (λ (p : ChunkContents). put_at x.lists.layout to 0 (resized p.bytes n) true) (seen x ok s e from there)
 
   pub fields-resized : AreFields (record {
@@ -170,7 +172,7 @@ module _ (x : Inside) (ok : AreFields x) (s : SetState) (e : set_of x ≡ s) (fr
     first =
         x.first;
   })
-  fields-resized = fields-put x ok s e to to_there 0 (resized (piece_at s.chunks from).bytes n) m put
+  fields-resized = fields-put x ok s e to to_there 0 (resized (contents_at s.chunks from).bytes n) m put
 
   pub state-resized : set_of (record {
     lists = record { layout = m; heads = x.lists.heads };
@@ -178,8 +180,8 @@ module _ (x : Inside) (ok : AreFields x) (s : SetState) (e : set_of x ≡ s) (fr
     next = x.next;
     first =
         x.first;
-  }) ≡ set_put s to (resized (piece_at s.chunks from).bytes n)
-  state-resized = state-put x ok s e to to_there 0 (resized (piece_at s.chunks from).bytes n) m put
+  }) ≡ set_put s to (resized (contents_at s.chunks from).bytes n)
+  state-resized = state-put x ok s e to to_there 0 (resized (contents_at s.chunks from).bytes n) m put
 
 -- a live chunk, at the place that was asked of its name
 module _ (x : Inside) (ok : AreFields x) (s : SetState) (e : set_of x ≡ s) (name : ChunkName) (lives : IsTrue (is_live s.chunks name))
@@ -187,17 +189,17 @@ module _ (x : Inside) (ok : AreFields x) (s : SetState) (e : set_of x ≡ s) (na
   there : IsTrue (has s.chunks (place_of name))
   there = name-there s.chunks name lives
 
-  pub asked-there : IsTrue (has x.lists.layout.pieces at)
-  asked-there = subst (λ (p : Place). IsTrue (has x.lists.layout.pieces p)) (sym is) (seen-there x ok s e (place_of name) there)
+  pub asked-there : IsTrue (has x.lists.layout.contents at)
+  asked-there = subst (λ (p : Place). IsTrue (has x.lists.layout.contents p)) (sym is) (seen-there x ok s e (place_of name) there)
 
-  asked-piece : piece_at x.lists.layout.pieces at ≡ piece_at s.chunks (place_of name)
-  asked-piece = ap (λ (p : Place). piece_at x.lists.layout.pieces p) is ∙ seen x ok s e (place_of name) there
+  asked-contents : contents_at x.lists.layout.contents at ≡ contents_at s.chunks (place_of name)
+  asked-contents = ap (λ (p : Place). contents_at x.lists.layout.contents p) is ∙ seen x ok s e (place_of name) there
 
-  pub asked-len : length (piece_at x.lists.layout.pieces at).bytes ≡ name.len
-  asked-len = ap (λ (p : ChunkContents). length p.bytes) asked-piece ∙ name-len s.chunks name lives
+  pub asked-len : length (contents_at x.lists.layout.contents at).bytes ≡ name.len
+  asked-len = ap (λ (p : ChunkContents). length p.bytes) asked-contents ∙ name-len s.chunks name lives
 
-  pub asked-bytes : (piece_at x.lists.layout.pieces at).bytes ≡ bytes_of s.chunks name
-  asked-bytes = ap (λ (p : ChunkContents). p.bytes) asked-piece
+  pub asked-bytes : (contents_at x.lists.layout.contents at).bytes ≡ bytes_of s.chunks name
+  asked-bytes = ap (λ (p : ChunkContents). p.bytes) asked-contents
 
 -- a block more
 pub total-taken : (s : SetState) (l t : Layout) (b size : ℕ) → l.blocks ≡ s.blocks → get_or l.blocks b None ≡ None → t.blocks

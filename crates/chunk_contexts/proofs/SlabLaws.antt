@@ -1,8 +1,9 @@
 -- Chunks of one size, after one is made, written, freed or taken again.
 use Rattle.std.proofs.Common.{◌≡◌, ◌≢◌, ℕ, ◌+◌, ◌*◌, ◌<◌, ◌≤◌, inl, inr, Bool, true, false, List, [], ◌∷◌, ◌++◌, Option, Some, None, get_or}
 use Rattle.std.proofs.Common.{take, refl, sym, ap, ◌∙◌, subst, arith}
-use Rattle.chunk_contexts.proofs.Words.{IsTrue, is_some, Every, Pairwise, Layout, ChunkContents, is_at, has, piece_at, no_piece, without}
-use Rattle.chunk_contexts.proofs.Words.{put_at, with_piece, size_at, IsClear, Place, live, rounded, by_block, first_free, Elsewhere}
+use Rattle.chunk_contexts.proofs.Words.{IsTrue, is_some, Every, Pairwise, Layout, ChunkContents, is_at, has, contents_at, no_contents}
+use Rattle.chunk_contexts.proofs.Words.{without}
+use Rattle.chunk_contexts.proofs.Words.{put_at, with_contents, size_at, IsClear, Place, live, rounded, by_block, first_free, Elsewhere}
 use Rattle.chunk_contexts.proofs.Words.{AreLinked, IsLinkable, MOST}
 use Rattle.chunk_contexts.proofs.Laws.{cases_eq, every_weaker, first_has, first_passes, same-place, without-none, nat_tests, common_steps}
 use Rattle.std.proofs.Math.Nat.{mul-le-mul_right, div-le_of_le-mul}
@@ -28,19 +29,25 @@ none-free (p ∷ ps) k none = grind (arith, nat_tests, common_steps, none-free p
 
 module _ (size : ℕ) (l : Layout) (is : IsSlabLayout size l) where
   abbrev ps : List ChunkContents
-  ps = l.pieces
+  ps = l.contents
 
   abbrev room : ℕ
   room = rounded size
 
-  abbrev places : Pairwise Elsewhere l.pieces
+  abbrev places : Pairwise Elsewhere l.contents
   places = is.links.places
 
   -- a chunk is written, freed or taken again
   module _ (place : Place) (there : has ps place ≡ true) (kept : ℕ) (bytes : List ℕ) (lives : Bool)
       (links : AreLinked by_block (put_at l place kept bytes lives)) where
     abbrev q : ChunkContents
-    q = record { place = place; room = (piece_at ps place).room; is_live = lives; bytes = take kept (piece_at ps place).bytes ++ bytes }
+    q = record {
+      place = place;
+      room = (contents_at ps place).room;
+      is_live = lives;
+      bytes = take kept
+          (contents_at ps place).bytes ++ bytes;
+    }
 
     ends : Every (λ (p : ChunkContents). p.place.offset + p.room ≤ in_block ps p.place.block * (8 + room)) (q ∷ without ps place)
     ends = every-put (λ (p : ChunkContents). p.place.offset + p.room ≤ in_block ps p.place.block * (8 + room))
@@ -69,8 +76,8 @@ module _ (size : ℕ) (l : Layout) (is : IsSlabLayout size l) where
     pub was : Popped by_block ps place k
     was = Link.was by_block l is.links k place first
 
-    at : (piece_at ps place).place ≡ place
-    at = same-place (piece_at ps place).place place (first_passes (is_at place) no_piece ps was.there)
+    at : (contents_at ps place).place ≡ place
+    at = same-place (contents_at ps place).place place (first_passes (is_at place) no_contents ps was.there)
 
     pub reused-block : place.block ≡ k
     reused-block = ap (λ (x : Place). x.block) (sym at) ∙ was.listed
@@ -78,20 +85,20 @@ module _ (size : ℕ) (l : Layout) (is : IsSlabLayout size l) where
     pub reused-layout : IsSlabLayout size again
     reused-layout = slab-put place was.there 0 [] true (Link.links-reused by_block l is.links k place first)
 
-    reused-room : (piece_at ps place).room ≡ room
-    reused-room = first_has (λ (p : ChunkContents). p.room ≡ room) (is_at place) no_piece ps was.there is.rooms
+    reused-room : (contents_at ps place).room ≡ room
+    reused-room = first_has (λ (p : ChunkContents). p.room ≡ room) (is_at place) no_contents ps was.there is.rooms
 
-    pub reused-live : live again.pieces ≡ (record { place = place; room = room; is_live = true; bytes = [] }) ∷ live ps
+    pub reused-live : live again.contents ≡ (record { place = place; room = room; is_live = true; bytes = [] }) ∷ live ps
     reused-live = λ i. (record { place = place; room = reused-room i; is_live = true; bytes = [] }) ∷ was.lives i
 
     pub reused-fresh : has (live ps) place ≡ false
     reused-fresh = Link.fresh-reused by_block l is.links k place first
 
     abbrev p : ChunkContents
-    p = record { place = place; room = (piece_at ps place).room; is_live = true; bytes = [] }
+    p = record { place = place; room = (contents_at ps place).room; is_live = true; bytes = [] }
 
     pub reused-entry : (e : SlabBlock) → IsEntry ps k e → (next : Option Place) → next ≡ first_free by_block k (without ps place)
-        → IsEntry again.pieces k (record { free = next; cut = e.cut; live = e.live + 1 })
+        → IsEntry again.contents k (record { free = next; cut = e.cut; live = e.live + 1 })
     reused-entry e entry next is-next = grind (
       arith,
       nat_tests,
@@ -101,7 +108,7 @@ module _ (size : ℕ) (l : Layout) (is : IsSlabLayout size l) where
       in-here (record { place = place; room = room; is_live = true; bytes = [] }) (live ps) k reused-block,
     )
 
-    pub reused-other : (j : ℕ) → j ≢ k → (e : SlabBlock) → IsEntry ps j e → IsEntry again.pieces j e
+    pub reused-other : (j : ℕ) → j ≢ k → (e : SlabBlock) → IsEntry ps j e → IsEntry again.contents j e
     reused-other j ne e entry = grind (
       arith,
       nat_tests,
@@ -120,13 +127,13 @@ module _ (size : ℕ) (l : Layout) (is : IsSlabLayout size l) where
     pub cut-fits : cut * (8 + room) + (8 + room) ≤ slab_block room
     cut-fits = chunk-fits room cut (omega (arith, none-free ps k none, few))
 
-    abbrev spot : Place
-    spot = record { block = k; offset = cut * (8 + room) + 8 }
+    abbrev cut_place : Place
+    cut_place = record { block = k; offset = cut * (8 + room) + 8 }
 
-    abbrev piece : ChunkContents
-    piece = record { place = spot; room = room; is_live = true; bytes = [] }
+    abbrev new_chunk : ChunkContents
+    new_chunk = record { place = cut_place; room = room; is_live = true; bytes = [] }
 
-    pub cut-inside : spot.offset + room ≤ size_at l.blocks spot.block
+    pub cut-inside : cut_place.offset + room ≤ size_at l.blocks cut_place.block
     cut-inside = omega (arith, cut-fits, is.sizes k some)
 
     before : Every (λ (p : ChunkContents). p.place.block ≡ k → p.place.offset + p.room ≤ cut * (8 + room)) ps
@@ -134,57 +141,59 @@ module _ (size : ℕ) (l : Layout) (is : IsSlabLayout size l) where
         (λ (p : ChunkContents). p.place.block ≡ k → p.place.offset + p.room ≤ cut * (8 + room))
         (λ p h same. subst (λ (j : ℕ). p.place.offset + p.room ≤ in_block ps j * (8 + room)) same h) ps is.ends
 
-    pub cut-clear : Every (IsClear l.head spot room) ps
+    pub cut-clear : Every (IsClear l.head cut_place room) ps
     cut-clear = every_weaker (λ (p : ChunkContents). p.place.block ≡ k → p.place.offset + p.room ≤ cut * (8 + room))
-        (IsClear l.head spot room)
+        (IsClear l.head cut_place room)
         (λ p h. elim (cases_eq p.place.block k) [
           | inl same ↦ inr (inl (omega (arith, h same, is.links.head)))
           | inr ne ↦ inl ne
         ]) ps before
 
-    fresh : has ps spot ≡ false
-    fresh = none-at spot ps (every_weaker (λ (p : ChunkContents). p.place.block ≡ k → p.place.offset + p.room ≤ cut * (8 + room))
-        (λ (p : ChunkContents). p.place ≡ spot → ⊥)
+    fresh : has ps cut_place ≡ false
+    fresh = none-at cut_place ps (every_weaker (λ (p : ChunkContents). p.place.block ≡ k → p.place.offset + p.room ≤ cut * (8 + room))
+        (λ (p : ChunkContents). p.place ≡ cut_place → ⊥)
         (λ p h e. let o = ap (λ (x : Place). x.offset) e in omega (arith, h (ap (λ (x : Place). x.block) e), o)) ps before)
 
-    linkable : IsLinkable spot
+    linkable : IsLinkable cut_place
     linkable = record { block = name; some = omega arith; offset = omega (arith, cut-fits, small) }
 
     abbrev cut' : Layout
-    cut' = with_piece l piece
+    cut' = with_contents l new_chunk
 
-    pieces : cut'.pieces ≡ piece ∷ ps
-    pieces = ap (λ (t : List ChunkContents). piece ∷ t) (without-none ps spot fresh)
+    contents : cut'.contents ≡ new_chunk ∷ ps
+    contents = ap (λ (t : List ChunkContents). new_chunk ∷ t) (without-none ps cut_place fresh)
 
-    more : (j : ℕ) → in_block ps j ≤ in_block (piece ∷ ps) j
+    more : (j : ℕ) → in_block ps j ≤ in_block (new_chunk ∷ ps) j
     more j = grind (arith, nat_tests, common_steps)
 
     pub cut-layout : IsSlabLayout size cut'
     cut-layout = record {
-      links = Link.links-new by_block l is.links piece refl fresh linkable;
-      rooms = subst (Every (λ (p : ChunkContents). p.room ≡ room)) (sym pieces) (refl, is.rooms);
-      there = subst (Every (λ (p : ChunkContents). IsTrue (is_some (get_or l.blocks p.place.block None)))) (sym pieces) (some, is.there);
+      links = Link.links-new by_block l is.links new_chunk refl fresh linkable;
+      rooms = subst (Every (λ (p : ChunkContents). p.room ≡ room)) (sym contents) (refl, is.rooms);
+      there = subst (Every (λ (p : ChunkContents). IsTrue (is_some (get_or l.blocks p.place.block None)))) (sym contents) (some, is.there);
       sizes = is.sizes;
       ends = subst (λ (t : List ChunkContents). Every (λ (p : ChunkContents). p.place.offset + p.room ≤ in_block t p.place.block
-          * (8 + room)) t) (sym pieces) (
-            subst (λ (n : ℕ). spot.offset + room ≤ n * (8 + room)) (sym (in-here piece ps k refl)) (omega arith),
+          * (8 + room)) t) (sym contents) (
+            subst (λ (n : ℕ). cut_place.offset + room ≤ n * (8 + room)) (sym (in-here new_chunk ps k refl)) (omega arith),
             every_weaker (λ (p : ChunkContents). p.place.offset + p.room ≤ in_block ps p.place.block * (8 + room))
-                (λ (p : ChunkContents). p.place.offset + p.room ≤ in_block (piece ∷ ps) p.place.block * (8 + room))
+                (λ (p : ChunkContents). p.place.offset + p.room ≤ in_block (new_chunk ∷ ps) p.place.block * (8 + room))
                 (λ p h. omega (arith, h, mul-le-mul_right (8 + room) (more p.place.block))) ps is.ends,
           );
     }
 
-    pub cut-live : live cut'.pieces ≡ piece ∷ live ps
-    cut-live = Link.live-new by_block l is.links piece refl fresh linkable
+    pub cut-live : live cut'.contents ≡ new_chunk ∷ live ps
+    cut-live = Link.live-new by_block l is.links new_chunk refl fresh linkable
 
-    pub cut-fresh : has (live ps) spot ≡ false
-    cut-fresh = Rattle.chunk_contexts.proofs.FreeLaws.live-none ps spot fresh
+    pub cut-fresh : has (live ps) cut_place ≡ false
+    cut-fresh = Rattle.chunk_contexts.proofs.FreeLaws.live-none ps cut_place fresh
 
-    pub cut-entry : (e : SlabBlock) → IsEntry ps k e → IsEntry cut'.pieces k (record { free = e.free; cut = e.cut + 1; live = e.live + 1 })
-    cut-entry e entry = grind (arith, nat_tests, Link.first-new by_block l is.links piece refl fresh linkable k, pieces, cut-live)
+    pub cut-entry : (e : SlabBlock) → IsEntry ps k e → IsEntry cut'.contents k
+        (record { free = e.free; cut = e.cut + 1; live = e.live + 1 })
+    cut-entry e entry = grind (arith, nat_tests, Link.first-new by_block l is.links new_chunk refl fresh linkable k, contents, cut-live)
 
-    pub cut-other : (j : ℕ) → j ≢ k → (e : SlabBlock) → IsEntry ps j e → IsEntry cut'.pieces j e
-    cut-other j ne e entry = grind (arith, nat_tests, Link.first-new by_block l is.links piece refl fresh linkable j, pieces, cut-live)
+    pub cut-other : (j : ℕ) → j ≢ k → (e : SlabBlock) → IsEntry ps j e → IsEntry cut'.contents j e
+    cut-other j ne e entry =
+        grind (arith, nat_tests, Link.first-new by_block l is.links new_chunk refl fresh linkable j, contents, cut-live)
 
 -- how many chunks a block has
 pub per-small : (room : ℕ) → room ≤ 1073741832 → per_block room ≤ 1073741840

@@ -2,7 +2,8 @@
 use Rattle.std.proofs.Common.{◌≡◌, ◌≢◌, ℕ, zero, suc, ◌+◌, ◌*◌, ◌-◌, ◌<◌, ◌≤◌, inl, inr, Bool, true, false, not, List, [], ◌∷◌, ◌++◌}
 use Rattle.std.proofs.Common.{Option, Some, None, length, get_or, set, take, cond, refl, sym, ap, ◌∙◌, subst, arith}
 use Rattle.chunk_contexts.proofs.Words.{IsTrue, is_some, unwrap_or, nat_lt, ◌==◌, ◌&&◌, Every, Pairwise, Layout, ChunkContents, is_at, has}
-use Rattle.chunk_contexts.proofs.Words.{piece_at, no_piece, without, outside, put_at, rewritten, size_at, with_block, layout_with, Place}
+use Rattle.chunk_contexts.proofs.Words.{contents_at, no_contents, without, outside, put_at, rewritten, size_at, with_block, layout_with}
+use Rattle.chunk_contexts.proofs.Words.{Place}
 use Rattle.chunk_contexts.proofs.Words.{live, rounded, by_block, first_free, Linked, Elsewhere, AreLinked, link_bytes}
 use Rattle.chunk_contexts.proofs.Laws.{cases_eq, cond-true, cond-false, eq-eqb, ne_eqb, lt-ltb, and_parts, ltb-true, false≢true, eqb-false}
 use Rattle.chunk_contexts.proofs.Laws.{not-true, get_or-set_same, get_or-set_other, length-set, every_weaker, every_both, every_filter}
@@ -66,7 +67,7 @@ outside-without (p ∷ ps) place = grind (arith, nat_tests, common_steps, outsid
 
 module _ (size count : ℕ) (l : Layout) (kept : List SlabBlock) (marked : List Bool) (is : IsSlab size count l kept marked) where
   abbrev ps : List ChunkContents
-  ps = l.pieces
+  ps = l.contents
 
   abbrev room : ℕ
   room = rounded size
@@ -97,10 +98,10 @@ module _ (size count : ℕ) (l : Layout) (kept : List SlabBlock) (marked : List 
   there-low k some = grind (arith, nat_tests, common_steps)
 
   -- other bytes, or other chunks that are counted the same
-  pub slab-same : (m : Layout) → IsSlabLayout size m → ((j : ℕ) (e : SlabBlock) → IsEntry ps j e → IsEntry m.pieces j e) → m.blocks
+  pub slab-same : (m : Layout) → IsSlabLayout size m → ((j : ℕ) (e : SlabBlock) → IsEntry ps j e → IsEntry m.contents j e) → m.blocks
       ≡ l.blocks → IsSlab size count m kept marked
   slab-same m layout same blocks =
-      let entries : (k : ℕ) → IsEntry m.pieces k (get_or kept k no_block) = λ k. same k (get_or kept k no_block) (is.entries k) in
+      let entries : (k : ℕ) → IsEntry m.contents k (get_or kept k no_block) = λ k. same k (get_or kept k no_block) (is.entries k) in
       grind (arith, nat_tests, entries)
 
   -- longer lists
@@ -110,8 +111,8 @@ module _ (size count : ℕ) (l : Layout) (kept : List SlabBlock) (marked : List 
   slab-longer kept' marked' same longer same-marks longer-marks = grind (arith, nat_tests, common_steps)
 
   -- something else is kept of one block
-  module _ (k : ℕ) (m : Layout) (e : SlabBlock) (marked' : List Bool) (layout : IsSlabLayout size m) (here : IsEntry m.pieces k e)
-      (at-most : e.live ≤ count) (others : (j : ℕ) → j ≢ k → (b : SlabBlock) → IsEntry ps j b → IsEntry m.pieces j b)
+  module _ (k : ℕ) (m : Layout) (e : SlabBlock) (marked' : List Bool) (layout : IsSlabLayout size m) (here : IsEntry m.contents k e)
+      (at-most : e.live ≤ count) (others : (j : ℕ) → j ≢ k → (b : SlabBlock) → IsEntry ps j b → IsEntry m.contents j b)
       (blocks : (j : ℕ) → j ≢ k → get_or m.blocks j None ≡ get_or l.blocks j None) (low : k < length kept)
       (few : length m.blocks ≤ length kept) (long : length marked' ≡ length marked) (few' : length m.blocks ≤ length marked)
       (marked-k : get_or marked' k false ≡ (is_some (get_or m.blocks k None) && nat_lt e.live count)) (marked-other : (j : ℕ) → j ≢ k
@@ -128,9 +129,9 @@ module _ (size count : ℕ) (l : Layout) (kept : List SlabBlock) (marked : List 
       per = is.per;
       layout = layout;
       entries = λ j. elim (cases_eq j k) [
-        | inl same ↦ subst (λ (i : ℕ). IsEntry m.pieces i (get_or (set kept k e) i no_block)) (sym same)
-            (subst (IsEntry m.pieces k) (sym at-k) here)
-        | inr ne ↦ subst (IsEntry m.pieces j) (sym (at-other j ne)) (others j ne (get_or kept j no_block) (is.entries j))
+        | inl same ↦ subst (λ (i : ℕ). IsEntry m.contents i (get_or (set kept k e) i no_block)) (sym same)
+            (subst (IsEntry m.contents k) (sym at-k) here)
+        | inr ne ↦ subst (IsEntry m.contents j) (sym (at-other j ne)) (others j ne (get_or kept j no_block) (is.entries j))
       ];
       few = λ j. elim (cases_eq j k) [
         | inl same ↦ subst (λ (i : ℕ). (get_or (set kept k e) i no_block).live ≤ count) (sym same)
@@ -149,7 +150,7 @@ module _ (size count : ℕ) (l : Layout) (kept : List SlabBlock) (marked : List 
 
   -- ---- a block is taken
   module _ (b : ℕ) (none : get_or l.blocks b None ≡ None) (b-low : b ≤ length l.blocks) (m : Layout) (made : m
-      ≡ record { head = l.head; blocks = with_block l.blocks b (slab_block room); pieces = ps })
+      ≡ record { head = l.head; blocks = with_block l.blocks b (slab_block room); contents = ps })
       (kept-low : length l.blocks < length kept) (marked-low : length l.blocks < length marked) (marked' : List Bool) (long : length marked'
       ≡ length marked)
       (marks' : (k : ℕ) → get_or marked' k false ≡ cond (k == b) true (get_or marked k false)) where
@@ -167,7 +168,7 @@ module _ (size count : ℕ) (l : Layout) (kept : List SlabBlock) (marked : List 
     this-block : get_or blocks' b None ≡ Some (slab_block room)
     this-block = with_block-here l.blocks b (slab_block room) b-low
 
-    grown-layout : IsSlabLayout size (record { head = l.head; blocks = blocks'; pieces = ps })
+    grown-layout : IsSlabLayout size (record { head = l.head; blocks = blocks'; contents = ps })
     grown-layout = record {
       links = record {
         head = is.layout.links.head;
@@ -210,13 +211,13 @@ module _ (size count : ℕ) (l : Layout) (kept : List SlabBlock) (marked : List 
     pub live-there : has ps place ≡ true
     live-there = was.there
 
-    pub live-room : (piece_at ps place).room ≡ room
-    live-room = first_has (λ (p : ChunkContents). p.room ≡ room) (is_at place) no_piece ps was.there is.layout.rooms
+    pub live-room : (contents_at ps place).room ≡ room
+    live-room = first_has (λ (p : ChunkContents). p.room ≡ room) (is_at place) no_contents ps was.there is.layout.rooms
 
     pub live-block : IsTrue (is_some (get_or l.blocks k None))
     live-block = subst (λ (x : Place). IsTrue (is_some (get_or l.blocks x.block None)))
-        (same-place (piece_at ps place).place place (first_passes (is_at place) no_piece ps was.there))
-        (first_has (λ (p : ChunkContents). IsTrue (is_some (get_or l.blocks p.place.block None))) (is_at place) no_piece ps was.there
+        (same-place (contents_at ps place).place place (first_passes (is_at place) no_contents ps was.there))
+        (first_has (λ (p : ChunkContents). IsTrue (is_some (get_or l.blocks p.place.block None))) (is_at place) no_contents ps was.there
         is.layout.there)
 
     places-live : Pairwise Elsewhere (live ps)
@@ -228,7 +229,7 @@ module _ (size count : ℕ) (l : Layout) (kept : List SlabBlock) (marked : List 
     -- other bytes
     module _ (bytes : List ℕ) (n : ℕ) (m : Layout) (made : m ≡ put_at l place n bytes true) where
       abbrev q : ChunkContents
-      q = record { place = place; room = (piece_at ps place).room; is_live = true; bytes = take n (piece_at ps place).bytes ++ bytes }
+      q = record { place = place; room = (contents_at ps place).room; is_live = true; bytes = take n (contents_at ps place).bytes ++ bytes }
 
       pub slab-written : IsSlab size count m kept marked
       slab-written = subst (λ (z : Layout). IsSlab size count z kept marked) (sym made) (slab-same (put_at l place n bytes true)
@@ -254,15 +255,15 @@ module _ (size count : ℕ) (l : Layout) (kept : List SlabBlock) (marked : List 
       made-is = made ∙ ap (λ (o : Option Place). put_at l place 0 (link_bytes o) false) (is.entries k).free
 
       abbrev dead : ChunkContents
-      dead = record { place = place; room = (piece_at ps place).room; is_live = false; bytes = link_bytes (first_free by_block k ps) }
+      dead = record { place = place; room = (contents_at ps place).room; is_live = false; bytes = link_bytes (first_free by_block k ps) }
 
       abbrev e' : SlabBlock
       e' = record { free = Some place; cut = e.cut; live = e.live - 1 }
 
-      live-freed : live freed.pieces ≡ without (live ps) place
+      live-freed : live freed.contents ≡ without (live ps) place
       live-freed = live-without ps place
 
-      freed-here : IsEntry freed.pieces k e'
+      freed-here : IsEntry freed.contents k e'
       freed-here = grind (
         arith,
         nat_tests,
@@ -274,7 +275,7 @@ module _ (size count : ℕ) (l : Layout) (kept : List SlabBlock) (marked : List 
         live-freed,
       )
 
-      freed-other : (j : ℕ) → j ≢ k → (b : SlabBlock) → IsEntry ps j b → IsEntry freed.pieces j b
+      freed-other : (j : ℕ) → j ≢ k → (b : SlabBlock) → IsEntry ps j b → IsEntry freed.contents j b
       freed-other j ne b entry = grind (
         arith,
         nat_tests,
@@ -298,16 +299,16 @@ module _ (size count : ℕ) (l : Layout) (kept : List SlabBlock) (marked : List 
           ∙ sym ((λ i. live-block i && nat_lt (e.live - 1) count) ∙ lt-ltb (e.live - 1) count (omega (arith, is.few k, some))))
           (λ j ne. marks' j ∙ cond-false (j == k) true (get_or marked j false) (ne_eqb j k ne)))
 
-      pub chunks-freed : live m.pieces ≡ without (live ps) place
-      chunks-freed = ap (λ (z : Layout). live z.pieces) made-is ∙ live-freed
+      pub chunks-freed : live m.contents ≡ without (live ps) place
+      chunks-freed = ap (λ (z : Layout). live z.contents) made-is ∙ live-freed
 
     -- it is freed, and its block goes back
     module _ (last : (get_or kept k no_block).live ≡ 1) (m : Layout) (made : m
-        ≡ record { head = l.head; blocks = set l.blocks k None; pieces = outside ps k }) (marked' : List Bool) (long : length marked'
+        ≡ record { head = l.head; blocks = set l.blocks k None; contents = outside ps k }) (marked' : List Bool) (long : length marked'
         ≡ length marked)
         (marks' : (j : ℕ) → get_or marked' j false ≡ cond (j == k) false (get_or marked j false)) where
       abbrev back : Layout
-      back = record { head = l.head; blocks = set l.blocks k None; pieces = outside ps k }
+      back = record { head = l.head; blocks = set l.blocks k None; contents = outside ps k }
 
       k-low : k < length l.blocks
       k-low = there-low k live-block
@@ -380,7 +381,7 @@ module _ (size count : ℕ) (l : Layout) (kept : List SlabBlock) (marked : List 
     slab-lent ws =
         let over = rewritten-map place ws ps is.layout.links.places in
         slab-same (layout_with l place ws) (record {
-          links = subst (λ (t : List ChunkContents). AreLinked by_block (record { head = l.head; blocks = l.blocks; pieces = t }))
+          links = subst (λ (t : List ChunkContents). AreLinked by_block (record { head = l.head; blocks = l.blocks; contents = t }))
               (sym over) (links-over by_block l is.layout.links place ws was.only);
           rooms = every-rewritten (λ (p : ChunkContents). p.room ≡ room) (λ p q at same h. sym same ∙ h) ps place ws is.layout.rooms;
           there = every-rewritten (λ (p : ChunkContents). IsTrue (is_some (get_or l.blocks p.place.block None)))

@@ -1,6 +1,7 @@
 -- The state of a slab after a chunk is taken.
 use Rattle.std.proofs.Common.{◌≡◌, ℕ, ◌+◌, true, false, List, [], ◌∷◌, None, length, get_or, refl, sym, ap, ◌∙◌, arith}
-use Rattle.chunk_contexts.proofs.Words.{Layout, ChunkContents, has, piece_at, put_at, total, with_block, Place, ChunkName, live, chunk_of}
+use Rattle.chunk_contexts.proofs.Words.{Layout, ChunkContents, has, contents_at, put_at, total, with_block, Place, ChunkName, live}
+use Rattle.chunk_contexts.proofs.Words.{chunk_of}
 use Rattle.chunk_contexts.proofs.Words.{Adds, rounded}
 use Rattle.chunk_contexts.proofs.Laws.{cond-true, cond-false, place-same, total-with_block, has-first, without-none, nat_tests}
 use Rattle.chunk_contexts.proofs.Laws.{common_steps}
@@ -37,10 +38,10 @@ module _ (s : SlabState) (spare : has_spare s ≡ false) where
             ∷ g.chunks;
         blocks = g.blocks;
       }) where
-    abbrev new-piece : ChunkContents
-    new-piece = record { place = place; room = rounded s.size; is_live = true; bytes = [] }
+    abbrev new-chunk : ChunkContents
+    new-chunk = record { place = place; room = rounded s.size; is_live = true; bytes = [] }
 
-    pub taken-new : t ≡ slab_taken s new-piece
+    pub taken-new : t ≡ slab_taken s new-chunk
     taken-new = grind (arith, nat_tests, common_steps)
 
     pub grown-total : get_or s.blocks b None ≡ None → total t.blocks ≡ total s.blocks + slab_grows s
@@ -59,19 +60,19 @@ module _ (s : SlabState) (t : SlabChunks) (is : IsSlab t.size t.per t.layout t.b
   abbrev p : ChunkContents
   p = record { place = place; room = rounded s.size; is_live = true; bytes = [] }
 
-  chunks : live t.layout.pieces ≡ p ∷ s.chunks
+  chunks : live t.layout.contents ≡ p ∷ s.chunks
   chunks = ap (λ (z : SlabState). z.chunks) taken
 
-  made-here : has (live t.layout.pieces) place ≡ true
+  made-here : has (live t.layout.contents) place ≡ true
   made-here = ap (λ (cs : List ChunkContents). has cs place) chunks ∙ has-first p s.chunks place (place-same place)
 
-  pub made-there : has t.layout.pieces place ≡ true
+  pub made-there : has t.layout.contents place ≡ true
   made-there = live-there t.size t.per t.layout t.blocks.items t.spare is place made-here
 
   pub made-size : t.size ≡ s.size
   made-size = ap (λ (z : SlabState). z.size) taken
 
-  pub made-room : (piece_at t.layout.pieces place).room ≡ rounded s.size
+  pub made-room : (contents_at t.layout.contents place).room ≡ rounded s.size
   made-room = live-room t.size t.per t.layout t.blocks.items t.spare is place made-here ∙ ap rounded made-size
 
   module _ (bytes : List ℕ) (m : Layout) (put : m ≡ put_at t.layout place 0 bytes true) (name : ChunkName) (named : name
@@ -79,21 +80,21 @@ module _ (s : SlabState) (t : SlabChunks) (is : IsSlab t.size t.per t.layout t.b
     abbrev q : ChunkContents
     q = chunk_of name (rounded s.size) bytes
 
-    written-chunks : live m.pieces ≡ q ∷ s.chunks
+    written-chunks : live m.contents ≡ q ∷ s.chunks
     written-chunks = grind (
       arith,
       nat_tests,
       common_steps,
       made-room,
-      live-without t.layout.pieces place,
+      live-without t.layout.contents place,
       without-none s.chunks place
           fresh,
     )
 
-    written-state : (u : SlabState) → u ≡ record { size = t.size; chunks = live m.pieces; blocks = m.blocks } → u ≡ slab_taken s q
+    written-state : (u : SlabState) → u ≡ record { size = t.size; chunks = live m.contents; blocks = m.blocks } → u ≡ slab_taken s q
     written-state u is-u = grind (arith, nat_tests, common_steps, written-chunks)
 
-    written-added : Adds s.chunks (live m.pieces) name (rounded s.size) bytes
+    written-added : Adds s.chunks (live m.contents) name (rounded s.size) bytes
     written-added = grind (arith, nat_tests, common_steps, written-chunks)
 
     -- all of it

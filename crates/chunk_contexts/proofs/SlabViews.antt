@@ -1,7 +1,7 @@
 -- What the state of a `Slab` says of its fields at a live chunk.
 use Rattle.std.proofs.Common.{◌≡◌, ℕ, ◌+◌, ◌<◌, true, List, [], ◌∷◌, Option, Some, None, Result, cond, length, get_or, refl, sym, ap, ◌∙◌}
 use Rattle.std.proofs.Common.{subst, arith}
-use Rattle.chunk_contexts.proofs.Words.{IsTrue, IsErrAnd, IfErr, ◌==◌, is_some, Every, ChunkContents, is_at, has, piece_at, no_piece}
+use Rattle.chunk_contexts.proofs.Words.{IsTrue, IsErrAnd, IfErr, ◌==◌, is_some, Every, ChunkContents, is_at, has, contents_at, no_contents}
 use Rattle.chunk_contexts.proofs.Words.{place_of, resized, rewritten, total, with_bytes_of, Place, ChunkName, live, is_live, bytes_of}
 use Rattle.chunk_contexts.proofs.Words.{chunk_of, Adds, IsNewBlock, IsRefused, IsResized, rounded, ContextError, NoMemory}
 use Rattle.chunk_contexts.proofs.Laws.{by_cond, first_has, every_filter, nat_tests, common_steps}
@@ -80,7 +80,7 @@ module _ (x : Inside) (ok : AreFields x) (s : SlabState) (e : slab_state x ≡ s
   t = x.inner
 
   abbrev ps : List ChunkContents
-  ps = t.layout.pieces
+  ps = t.layout.contents
 
   abbrev place : Place
   place = place_of name
@@ -91,17 +91,17 @@ module _ (x : Inside) (ok : AreFields x) (s : SlabState) (e : slab_state x ≡ s
   pub view-there : has ps place ≡ true
   view-there = live-there t.size t.per t.layout t.blocks.items t.spare ok.chunks place view-here
 
-  pub view-same : piece_at ps place ≡ piece_at s.chunks place
-  view-same = (live-found ps place ok.chunks.layout.links.places view-here).same ∙ ap (λ (z : SlabState). piece_at z.chunks place) e
+  pub view-same : contents_at ps place ≡ contents_at s.chunks place
+  view-same = (live-found ps place ok.chunks.layout.links.places view-here).same ∙ ap (λ (z : SlabState). contents_at z.chunks place) e
 
-  pub view-len : length (piece_at ps place).bytes ≡ name.len
+  pub view-len : length (contents_at ps place).bytes ≡ name.len
   view-len = ap (λ (p : ChunkContents). length p.bytes) view-same ∙ name-len s.chunks name lives
 
   pub view-size : name.len ≡ t.size
-  view-size = sym (name-len s.chunks name lives) ∙ ap (λ (z : SlabState). length (piece_at z.chunks place).bytes) (sym e)
-      ∙ first_has (λ (p : ChunkContents). length p.bytes ≡ t.size) (is_at place) no_piece (live ps) view-here ok.sizes
+  view-size = sym (name-len s.chunks name lives) ∙ ap (λ (z : SlabState). length (contents_at z.chunks place).bytes) (sym e)
+      ∙ first_has (λ (p : ChunkContents). length p.bytes ≡ t.size) (is_at place) no_contents (live ps) view-here ok.sizes
 
-  pub view-room : (piece_at s.chunks place).room ≡ rounded t.size
+  pub view-room : (contents_at s.chunks place).room ≡ rounded t.size
   view-room = ap (λ (p : ChunkContents). p.room) (sym view-same) ∙ live-room t.size t.per t.layout t.blocks.items t.spare ok.chunks place
       view-here
 
@@ -121,8 +121,8 @@ module _ (x : Inside) (ok : AreFields x) (s : SlabState) (e : slab_state x ≡ s
     pub asked-there : IsTrue (has ps at)
     asked-there = subst (λ (p : Place). IsTrue (has ps p)) (sym is) view-there
 
-    pub asked-len : length (piece_at ps at).bytes ≡ name.len
-    asked-len = ap (λ (p : Place). length (piece_at ps p).bytes) is ∙ view-len
+    pub asked-len : length (contents_at ps at).bytes ≡ name.len
+    asked-len = ap (λ (p : Place). length (contents_at ps p).bytes) is ∙ view-len
 
-    pub asked-bytes : (piece_at ps at).bytes ≡ bytes_of s.chunks name
-    asked-bytes = ap (λ (p : Place). (piece_at ps p).bytes) is ∙ ap (λ (p : ChunkContents). p.bytes) view-same
+    pub asked-bytes : (contents_at ps at).bytes ≡ bytes_of s.chunks name
+    asked-bytes = ap (λ (p : Place). (contents_at ps p).bytes) is ∙ ap (λ (p : ChunkContents). p.bytes) view-same

@@ -2,7 +2,7 @@
 -- (PostgreSQL 17, src/backend/utils/mmgr/README: what memory contexts are for; that a name tells a place and a length: own)
 use Rattle.std.specs.Prelude.{◌≡◌, ℕ, ◌+◌, ◌<◌, ◌==◌, ◌&&◌, Bool, true, false, List, [], ◌∷◌, Option, Some, None, length, get_or, IsTrue}
 use Rattle.std.specs.List.{filter}
-use Rattle.chunk_layout.specs.Pieces.{ChunkContents, place_of, same_place, has, piece_at, resized}
+use Rattle.chunk_layout.specs.Contents.{ChunkContents, place_of, same_place, has, contents_at, resized}
 use Rattle.chunk_layout.specs.declared.place.Place.{Place}
 use Rattle.chunk_layout.specs.declared.place.ChunkName.{ChunkName}
 use Rattle.chunk_contexts.specs.declared.error.ContextError.{ContextError}
@@ -14,11 +14,11 @@ live ps = filter (λ p. p.is_live) ps
 
 -- whether a name is that of one of the chunks
 abbrev pub is_live : List ChunkContents → ChunkName → Bool
-is_live chunks name = has chunks (place_of name) && (length (piece_at chunks (place_of name)).bytes == name.len)
+is_live chunks name = has chunks (place_of name) && (length (contents_at chunks (place_of name)).bytes == name.len)
 
 -- the bytes of a chunk
 abbrev pub bytes_of : List ChunkContents → ChunkName → List ℕ
-bytes_of chunks name = (piece_at chunks (place_of name)).bytes
+bytes_of chunks name = (contents_at chunks (place_of name)).bytes
 
 -- how many bytes chunks have together
 abbrev pub lengths : List ChunkContents → ℕ
@@ -67,5 +67,5 @@ pub record IsResized (before after : List ChunkContents) (name new : ChunkName) 
   pub lives : IsTrue (is_live after new)
   pub bytes : bytes_of after new ≡ resized (bytes_of before name) n
   pub others : (q : Place) → same_place (place_of name) q ≡ false → same_place (place_of new) q ≡ false → (has after q ≡ has before q)
-      × (piece_at after q ≡ piece_at before q)
+      × (contents_at after q ≡ contents_at before q)
   pub gone : same_place (place_of name) (place_of new) ≡ false → (has after (place_of name) ≡ false) × (has before (place_of new) ≡ false)

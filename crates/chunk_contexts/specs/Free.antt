@@ -3,7 +3,7 @@ use Rattle.std.specs.Prelude.{◌≡◌, ℕ, ◌+◌, ◌≤◌, ◌==◌, ◌&
 use Rattle.std.specs.Prelude.{length}
 use Rattle.std.specs.Prelude.{◌^◌, ◌<◌, get_or}
 use Rattle.chunk_layout.specs.Every.{Every, Pairwise}
-use Rattle.chunk_layout.specs.Pieces.{Layout, ChunkContents, same_place, size_at}
+use Rattle.chunk_layout.specs.Contents.{Layout, ChunkContents, same_place, size_at}
 use Rattle.chunk_layout.specs.declared.blocks.TheConstants.{HEADER}
 use Rattle.chunk_contexts.specs.declared.active.Active.{Active}
 use Rattle.chunk_contexts.specs.Rooms.{room_of}
@@ -51,8 +51,8 @@ Linked key (p ∷ ps) = (p.is_live ≡ false → p.bytes ≡ link_bytes (first_f
 abbrev pub cut_used : ℕ → ℕ → ℕ → ℕ
 cut_used room used size = cond (nat_le (room + HEADER) (size - used)) (used + HEADER + room) used
 
-abbrev pub cut_piece : ℕ → ℕ → ℕ → ℕ → List ChunkContents → List ChunkContents
-cut_piece room block used size ps =
+abbrev pub cut_chunk : ℕ → ℕ → ℕ → ℕ → List ChunkContents → List ChunkContents
+cut_chunk room block used size ps =
     cond (nat_le (room + HEADER) (size - used))
     ((record {
       place = record { block = block; offset = used + HEADER };
@@ -62,9 +62,9 @@ cut_piece room block used size ps =
           (first_free by_room room ps);
     }) ∷ ps) ps
 
-abbrev pub cut_pieces : List ℕ → ℕ → ℕ → ℕ → List ChunkContents → List ChunkContents
-cut_pieces [] block used size ps = ps
-cut_pieces (room ∷ rooms) block used size ps = cut_pieces rooms block (cut_used room used size) size (cut_piece room block used size ps)
+abbrev pub cut_chunks : List ℕ → ℕ → ℕ → ℕ → List ChunkContents → List ChunkContents
+cut_chunks [] block used size ps = ps
+cut_chunks (room ∷ rooms) block used size ps = cut_chunks rooms block (cut_used room used size) size (cut_chunk room block used size ps)
 
 -- two chunks are at different places
 abbrev pub Elsewhere : ChunkContents → ChunkContents → Type 0
@@ -73,15 +73,15 @@ Elsewhere p q = same_place p.place q.place ≡ false
 -- chunks with headers, of which each free one names the next of its list
 pub record AreLinked (key : Place → ℕ → ℕ) (l : Layout) : Type 0 where
   pub head : l.head ≡ HEADER
-  pub places : Pairwise Elsewhere l.pieces
-  pub ranges : Every (λ p. IsLinkable p.place) l.pieces
-  pub linked : Linked key l.pieces
+  pub places : Pairwise Elsewhere l.contents
+  pub ranges : Every (λ p. IsLinkable p.place) l.contents
+  pub linked : Linked key l.contents
 
 -- the free lists of a layout by rooms: what each list has first, by its class
 pub record AreLists (l : Layout) (heads : List (Option Place)) : Type 0 where
   pub links : AreLinked by_room l
   pub count : length heads ≡ CLASSES
-  pub firsts : (class : ℕ) → class < CLASSES → get_or heads class None ≡ first_free by_room (room_of class) l.pieces
+  pub firsts : (class : ℕ) → class < CLASSES → get_or heads class None ≡ first_free by_room (room_of class) l.contents
 
 -- no chunk lies in what is left of a block
 pub record IsRest (l : Layout) (active : Active) : Type 0 where
@@ -89,5 +89,5 @@ pub record IsRest (l : Layout) (active : Active) : Type 0 where
   pub used : active.used ≤ active.size
   pub bound : active.size ≤ LARGEST_BLOCK
   pub block : active.block < 2 ^ 32
-  pub clear : Every (λ p. 0 < active.size → p.place.block ≡ active.block → p.place.offset + p.room ≤ active.used) l.pieces
-  pub rooms : Every (λ p. 1 ≤ p.room) l.pieces
+  pub clear : Every (λ p. 0 < active.size → p.place.block ≡ active.block → p.place.offset + p.room ≤ active.used) l.contents
+  pub rooms : Every (λ p. 1 ≤ p.room) l.contents

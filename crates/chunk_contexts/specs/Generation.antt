@@ -2,7 +2,7 @@
 -- our own.
 use Rattle.std.specs.Prelude.{◌≡◌, ℕ, ◌+◌, ◌-◌, ◌≤◌, ◌==◌, Bool, true, false, cond, List, [], ◌∷◌, None, length, get_or, slice_set}
 use Rattle.chunk_layout.specs.Every.{Pairwise}
-use Rattle.chunk_layout.specs.Pieces.{ChunkContents, without}
+use Rattle.chunk_layout.specs.Contents.{ChunkContents, without}
 use Rattle.chunk_layout.specs.declared.blocks.TheConstants.{HEADER}
 use Rattle.chunk_layout.specs.declared.place.Place.{Place}
 use Rattle.chunk_contexts.specs.Free.{Elsewhere}
@@ -32,8 +32,8 @@ gen_freed s place = freed_by (in_block (without s.chunks place) place.block == 0
 -- how many chunks there are is counted for each block
 pub record IsCounted (r : Runs) (numbers : List ℕ) : Type 0 where
   pub run : IsRun HEADER r
-  pub places : Pairwise Elsewhere r.layout.pieces
-  pub counts : (block : ℕ) → get_or numbers block 0 ≡ in_block r.layout.pieces block
+  pub places : Pairwise Elsewhere r.layout.contents
+  pub counts : (block : ℕ) → get_or numbers block 0 ≡ in_block r.layout.contents block
   pub long : length r.layout.blocks ≤ length numbers
-  pub few : (block : ℕ) → in_block r.layout.pieces block ≤ BLOCK
-  pub left : in_block r.layout.pieces r.active.block + (r.active.size - r.active.used) ≤ BLOCK
+  pub few : (block : ℕ) → in_block r.layout.contents block ≤ BLOCK
+  pub left : in_block r.layout.contents r.active.block + (r.active.size - r.active.used) ≤ BLOCK

@@ -4,7 +4,7 @@
 use Rattle.std.specs.Prelude.{◌≡◌, ℕ, ◌+◌, ◌-◌, ◌<◌, nat_le, Bool, true, false, List, [], ◌∷◌, Option, None, replicate, length, get_or}
 use Rattle.std.specs.Prelude.{is_some, IsTrue}
 use Rattle.chunk_layout.specs.Every.{Every}
-use Rattle.chunk_layout.specs.Pieces.{ChunkContents, piece_at, with_block, without, rewritten}
+use Rattle.chunk_layout.specs.Contents.{ChunkContents, contents_at, with_block, without, rewritten}
 use Rattle.chunk_layout.specs.declared.place.Place.{Place}
 use Rattle.chunk_contexts.specs.Rooms.{rounded, over_most}
 use Rattle.chunk_contexts.specs.Free.{IsRest}
@@ -64,7 +64,7 @@ run_wrote s place bytes = record { chunks = rewritten s.chunks place bytes; bloc
 -- with other bytes in the chunk at a place, which is then the first
 abbrev pub run_put : RunState → Place → List ℕ → RunState
 run_put s place bytes = record {
-  chunks = (record { place = place; room = (piece_at s.chunks place).room; is_live = true; bytes = bytes }) ∷ without s.chunks place;
+  chunks = (record { place = place; room = (contents_at s.chunks place).room; is_live = true; bytes = bytes }) ∷ without s.chunks place;
   blocks = s.blocks;
   active = s.active;
   left = s.left;
@@ -76,10 +76,10 @@ run_reset s = record { chunks = []; blocks = replicate (length s.blocks) None; a
 
 -- ---- the fields
 abbrev pub run_of : Runs → RunState
-run_of r = record { chunks = r.layout.pieces; blocks = r.layout.blocks; active = r.active.block; left = r.active.size - r.active.used }
+run_of r = record { chunks = r.layout.contents; blocks = r.layout.blocks; active = r.active.block; left = r.active.size - r.active.used }
 
 -- the block of each chunk is there, and no chunk lies in what is left of the one in use
 pub record IsRun (width : ℕ) (r : Runs) : Type 0 where
   pub head : r.layout.head ≡ width
   pub rest : IsRest r.layout r.active
-  pub there : Every (λ p. IsTrue (is_some (get_or r.layout.blocks p.place.block None))) r.layout.pieces
+  pub there : Every (λ p. IsTrue (is_some (get_or r.layout.blocks p.place.block None))) r.layout.contents

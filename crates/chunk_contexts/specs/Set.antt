@@ -6,7 +6,7 @@
 -- the first one is kept by a reset is as in PostgreSQL 17, src/backend/utils/mmgr/aset.c.)
 use Rattle.std.specs.Prelude.{ℕ, ◌+◌, ◌-◌, ◌*◌, nat_le, nat_lt, min, Bool, true, false, cond, if◌then◌else◌, List, [], ◌∷◌, Option, Some}
 use Rattle.std.specs.Prelude.{None, slice_set, is_some}
-use Rattle.chunk_layout.specs.Pieces.{ChunkContents, piece_at, without, with_block, rewritten, size_at, only}
+use Rattle.chunk_layout.specs.Contents.{ChunkContents, contents_at, without, with_block, rewritten, size_at, only}
 use Rattle.chunk_layout.specs.declared.blocks.TheConstants.{HEADER}
 use Rattle.chunk_layout.specs.declared.place.Place.{Place}
 use Rattle.chunk_contexts.specs.Rooms.{rounded, rooms_down, room_of, class_of, over_most}
@@ -107,7 +107,7 @@ set_taken s n p = taken_by (nat_le n LARGEST) (is_in p.room s.free) (nat_le (p.r
 
 -- without a chunk
 abbrev pub set_freed : SetState → Place → SetState
-set_freed s place = let room = (piece_at s.chunks place).room in record {
+set_freed s place = let room = (contents_at s.chunks place).room in record {
   chunks = without s.chunks place;
   blocks = cond (nat_lt LARGEST room) (slice_set s.blocks place.block None) s.blocks;
   free = cond (nat_lt LARGEST room) s.free (room ∷ s.free);
@@ -119,7 +119,7 @@ set_freed s place = let room = (piece_at s.chunks place).room in record {
 -- with other bytes in the chunk at a place, which is then the first
 abbrev pub set_put : SetState → Place → List ℕ → SetState
 set_put s place bytes = record {
-  chunks = (record { place = place; room = (piece_at s.chunks place).room; is_live = true; bytes = bytes }) ∷ without s.chunks place;
+  chunks = (record { place = place; room = (contents_at s.chunks place).room; is_live = true; bytes = bytes }) ∷ without s.chunks place;
   blocks = s.blocks;
   free = s.free;
   left = s.left;

@@ -1,7 +1,7 @@
 -- What is true of the fields of an `AllocSet`.
 use Rattle.std.specs.Prelude.{◌≡◌, ◌≢◌, ℕ, ◌+◌, ◌-◌, ◌^◌, ◌<◌, ◌≤◌, ◌⊎◌, true, List, Option, Some, None, get_or, is_some, IsTrue}
 use Rattle.chunk_layout.specs.Every.{Every, Pairwise}
-use Rattle.chunk_layout.specs.Pieces.{Layout, ChunkContents, size_at}
+use Rattle.chunk_layout.specs.Contents.{Layout, ChunkContents, size_at}
 use Rattle.chunk_layout.specs.declared.place.Place.{Place}
 use Rattle.chunk_contexts.specs.Chunks.{live}
 use Rattle.chunk_contexts.specs.Rooms.{rooms}
@@ -13,9 +13,9 @@ use Rattle.chunk_contexts.specs.declared.rooms.TheConstants.{BLOCK, LARGEST, LAR
 
 abbrev pub set_of : Inside → SetState
 set_of s = record {
-  chunks = live s.lists.layout.pieces;
+  chunks = live s.lists.layout.contents;
   blocks = s.lists.layout.blocks;
-  free = free_rooms s.lists.layout.pieces;
+  free = free_rooms s.lists.layout.contents;
   left =
       s.active.size - s.active.used;
   next = s.next;
@@ -24,7 +24,7 @@ set_of s = record {
 
 -- a chunk of a set: its block is there; in the block in use it lies in the used part; it has the room of a class, or is
 -- live and larger, and then its block is neither the one in use nor the first
-pub record IsSetPiece (blocks : List (Option ℕ)) (active : Active) (first : Option ℕ) (p : ChunkContents) : Type 0 where
+pub record IsSetChunk (blocks : List (Option ℕ)) (active : Active) (first : Option ℕ) (p : ChunkContents) : Type 0 where
   pub there : IsTrue (is_some (get_or blocks p.place.block None))
   pub used : 0 < active.size → p.place.block ≡ active.block → p.place.offset + p.room ≤ active.used
   pub small : p.room ≤ LARGEST → IsTrue (is_in p.room rooms)
@@ -36,8 +36,8 @@ Alone p q = ((LARGEST < p.room) ⊎ (LARGEST < q.room)) → p.place.block ≢ q.
 
 pub record IsSet (l : Layout) (heads : List (Option Place)) (active : Active) (first : Option ℕ) : Type 0 where
   pub lists : AreLists l heads
-  pub alone : Pairwise Alone l.pieces
-  pub good : Every (IsSetPiece l.blocks active first) l.pieces
+  pub alone : Pairwise Alone l.contents
+  pub good : Every (IsSetChunk l.blocks active first) l.contents
   pub size : 0 < active.size → active.size ≡ size_at l.blocks active.block
   pub used : active.used ≤ active.size
   pub bound : active.size ≤ LARGEST_BLOCK

@@ -1,7 +1,7 @@
 -- The rules of space of an `AllocSet` in words: what is cut of a block, and how long a block is. That `Set` computes just this is
 -- a law of `AllocSet`. All of this is our own.
 use Rattle.std.specs.Prelude.{◌≡◌, ℕ, ◌+◌, ◌-◌, ◌*◌, ◌^◌, ◌<◌, ◌≤◌, List, [], ◌∷◌, ◌++◌, min, reverse, IsTrue}
-use Rattle.chunk_layout.specs.Pieces.{ChunkContents}
+use Rattle.chunk_layout.specs.Contents.{ChunkContents}
 use Rattle.chunk_layout.specs.declared.blocks.TheConstants.{HEADER}
 use Rattle.chunk_contexts.specs.Rooms.{rooms}
 use Rattle.chunk_contexts.specs.Free.{is_in}

@@ -4,7 +4,7 @@
 use Rattle.std.specs.Prelude.{◌≡◌, ℕ, ◌+◌, ◌*◌, ◌/◌, ◌≤◌, ◌==◌, ◌&&◌, ◌||◌, max, nat_lt, Bool, true, false, cond, List, [], ◌∷◌, Option}
 use Rattle.std.specs.Prelude.{Some, None, replicate, length, get_or, slice_set, is_some, IsTrue}
 use Rattle.chunk_layout.specs.Every.{Every}
-use Rattle.chunk_layout.specs.Pieces.{Layout, ChunkContents, without, with_block, rewritten, size_at}
+use Rattle.chunk_layout.specs.Contents.{Layout, ChunkContents, without, with_block, rewritten, size_at}
 use Rattle.chunk_layout.specs.declared.blocks.TheConstants.{HEADER}
 use Rattle.chunk_layout.specs.declared.place.Place.{Place}
 use Rattle.chunk_contexts.specs.Chunks.{live}
@@ -89,15 +89,15 @@ slab_reset s = record { size = s.size; chunks = []; blocks = replicate (length s
 
 -- ---- the fields
 abbrev pub slab_of : SlabChunks → SlabState
-slab_of s = record { size = s.size; chunks = live s.layout.pieces; blocks = s.layout.blocks }
+slab_of s = record { size = s.size; chunks = live s.layout.contents; blocks = s.layout.blocks }
 
 -- chunks of one size, cut from blocks one after the other
 pub record IsSlabLayout (size : ℕ) (l : Layout) : Type 0 where
   pub links : AreLinked by_block l
-  pub rooms : Every (λ p. p.room ≡ rounded size) l.pieces
-  pub there : Every (λ p. IsTrue (is_some (get_or l.blocks p.place.block None))) l.pieces
+  pub rooms : Every (λ p. p.room ≡ rounded size) l.contents
+  pub there : Every (λ p. IsTrue (is_some (get_or l.blocks p.place.block None))) l.contents
   pub sizes : (block : ℕ) → IsTrue (is_some (get_or l.blocks block None)) → size_at l.blocks block ≡ slab_block (rounded size)
-  pub ends : Every (λ p. p.place.offset + p.room ≤ in_block l.pieces p.place.block * (HEADER + rounded size)) l.pieces
+  pub ends : Every (λ p. p.place.offset + p.room ≤ in_block l.contents p.place.block * (HEADER + rounded size)) l.contents
 
 -- what is kept of a block: its first free chunk, how many chunks were cut from it, and how many of these are live
 pub record IsEntry (ps : List ChunkContents) (block : ℕ) (e : SlabBlock) : Type 0 where
@@ -113,7 +113,7 @@ pub record IsSlab (size count : ℕ) (l : Layout) (kept : List SlabBlock) (marke
   pub small : size ≤ MOST
   pub per : count ≡ per_block (rounded size)
   pub layout : IsSlabLayout size l
-  pub entries : (block : ℕ) → IsEntry l.pieces block (get_or kept block no_block)
+  pub entries : (block : ℕ) → IsEntry l.contents block (get_or kept block no_block)
   pub few : (block : ℕ) → (get_or kept block no_block).live ≤ count
   pub long : length l.blocks ≤ length kept
   pub long_marks : length l.blocks ≤ length marked

@@ -11,4 +11,4 @@ slab_state s = slab_of s.inner
 -- each live chunk has the bytes that were asked for
 pub record AreFields (s : Inside) : Type 0 where
   pub chunks : AreChunks s.inner
-  pub sizes : Every (λ p. length p.bytes ≡ s.inner.size) (live s.inner.layout.pieces)
+  pub sizes : Every (λ p. length p.bytes ≡ s.inner.size) (live s.inner.layout.contents)

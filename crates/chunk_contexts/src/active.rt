@@ -1,6 +1,6 @@
 //! The block in use: the one that chunks are cut from.
 ghost use Rattle.std.specs.Prelude.{◌≡◌, cond, ◌==◌, ◌+◌, ◌-◌, ◌≤◌, true, false, [], ◌∷◌};
-ghost use Rattle.chunk_layout.specs.Pieces.{has};
+ghost use Rattle.chunk_layout.specs.Contents.{has};
 ghost use Rattle.chunk_layout.specs.declared.blocks.TheConstants.{HEADER};
 
 use chunk_layout::{ChunkLayout, Place};
@@ -62,13 +62,13 @@ impl Active {
         requires fits { self.old.used + head + room ≤ self.old.size }
         ensures place { result ≡ record { block = self.old.block; offset = self.old.used + head } }
         ensures used { self.new ≡ record { block = self.old.block; used = self.old.used + head + room; size = self.old.size } }
-        ensures fresh { has layout.old.pieces result ≡ false }
+        ensures fresh { has layout.old.contents result ≡ false }
         ensures carved { layout.new
             ≡ record {
               head = head;
               blocks = layout.old.blocks;
-              pieces =
-                  (record { place = result; room = room; is_live = true; bytes = [] }) ∷ layout.old.pieces;
+              contents =
+                  (record { place = result; room = room; is_live = true; bytes = [] }) ∷ layout.old.contents;
             } }
         ensures rest { IsRest layout.new self.new }
     {

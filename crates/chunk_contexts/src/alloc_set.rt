@@ -2,7 +2,7 @@
 ghost use Rattle.std.specs.Prelude.{◌≡◌, ◌+◌, ◌*◌, ◌-◌, ◌<◌, ◌≤◌, ◌^◌, min, true, false, [], ◌∷◌, Some, None, IsTrue, IfSome, IfNone, IfOk};
 ghost use Rattle.std.specs.Prelude.{OnOk, OnErr, IfErr, length, get_or, is_some, nat_le, take, ◌++◌};
 ghost use Rattle.block_memory.specs.Cells.{zeros};
-ghost use Rattle.chunk_layout.specs.Pieces.{has, same_place, place_of, piece_at, total, with_block, resized};
+ghost use Rattle.chunk_layout.specs.Contents.{has, same_place, place_of, contents_at, total, with_block, resized};
 ghost use Rattle.chunk_contexts.specs.Rooms.{rounded, rooms, room_of};
 ghost use Rattle.chunk_contexts.specs.Chunks.{chunk_of, IsNewBlock};
 ghost use Rattle.chunk_contexts.specs.Free.{is_in};
@@ -174,11 +174,11 @@ impl AllocSet {
     /// Writes `bytes` to a chunk behind the first `kept` of its own, and answers its name.
     fn write(&mut self, place: Place, kept: usize, bytes: &[u8]) -> ChunkName
         requires there { IsTrue (has self.old.chunks place) }
-        requires kept { kept ≤ length (piece_at self.old.chunks place).bytes }
-        requires room { kept + length bytes.now ≤ (piece_at self.old.chunks place).room }
+        requires kept { kept ≤ length (contents_at self.old.chunks place).bytes }
+        requires room { kept + length bytes.now ≤ (contents_at self.old.chunks place).room }
         requires small { kept + length bytes.now ≤ MOST }
         ensures name { result ≡ record { block = place.block; offset = place.offset; len = kept + length bytes.now } }
-        ensures put { self.new ≡ set_put self.old place (take kept (piece_at self.old.chunks place).bytes ++ bytes.now) }
+        ensures put { self.new ≡ set_put self.old place (take kept (contents_at self.old.chunks place).bytes ++ bytes.now) }
         ensures block { IsTrue (is_some (get_or self.new.blocks place.block None)) }
     {
         self.lists.layout.put(place, kept, bytes, true);
@@ -192,11 +192,11 @@ impl AllocSet {
     /// Writes `n` zeros to a chunk behind the first `kept` of its bytes, and answers its name.
     fn write_zeros(&mut self, place: Place, kept: usize, n: usize) -> ChunkName
         requires there { IsTrue (has self.old.chunks place) }
-        requires kept { kept ≤ length (piece_at self.old.chunks place).bytes }
-        requires room { kept + n ≤ (piece_at self.old.chunks place).room }
+        requires kept { kept ≤ length (contents_at self.old.chunks place).bytes }
+        requires room { kept + n ≤ (contents_at self.old.chunks place).room }
         requires small { kept + n ≤ MOST }
         ensures name { result ≡ record { block = place.block; offset = place.offset; len = kept + n } }
-        ensures put { self.new ≡ set_put self.old place (take kept (piece_at self.old.chunks place).bytes ++ zeros n) }
+        ensures put { self.new ≡ set_put self.old place (take kept (contents_at self.old.chunks place).bytes ++ zeros n) }
         ensures block { IsTrue (is_some (get_or self.new.blocks place.block None)) }
     {
         self.lists.layout.put_zeros(place, kept, n);
@@ -212,9 +212,9 @@ impl AllocSet {
         requires apart { same_place from to ≡ false }
         requires from { IsTrue (has self.old.chunks from) }
         requires to { IsTrue (has self.old.chunks to) }
-        requires len { length (piece_at self.old.chunks from).bytes ≡ len }
-        requires room { n ≤ (piece_at self.old.chunks to).room }
-        ensures { self.new ≡ set_put self.old to (resized (piece_at self.old.chunks from).bytes n) }
+        requires len { length (contents_at self.old.chunks from).bytes ≡ len }
+        requires room { n ≤ (contents_at self.old.chunks to).room }
+        ensures { self.new ≡ set_put self.old to (resized (contents_at self.old.chunks from).bytes n) }
     {
         self.lists.layout.copy_resized(from, len, to, n);
     }
@@ -222,7 +222,7 @@ impl AllocSet {
     /// How many bytes a chunk has room for.
     fn room(&self, place: Place) -> usize
         requires { IsTrue (has self.now.chunks place) }
-        ensures { result ≡ (piece_at self.now.chunks place).room }
+        ensures { result ≡ (contents_at self.now.chunks place).room }
     {
         self.lists.layout.room(place)
     }
@@ -243,11 +243,11 @@ impl AllocSet {
     /// Makes a chunk of `len` bytes `n` bytes long, where it is.
     fn stay(&mut self, place: Place, len: usize, n: usize) -> ChunkName
         requires there { IsTrue (has self.old.chunks place) }
-        requires len { length (piece_at self.old.chunks place).bytes ≡ len }
-        requires room { n ≤ (piece_at self.old.chunks place).room }
+        requires len { length (contents_at self.old.chunks place).bytes ≡ len }
+        requires room { n ≤ (contents_at self.old.chunks place).room }
         requires small { n ≤ MOST }
         ensures name { result ≡ record { block = place.block; offset = place.offset; len = n } }
-        ensures put { self.new ≡ set_put self.old place (resized (piece_at self.old.chunks place).bytes n) }
+        ensures put { self.new ≡ set_put self.old place (resized (contents_at self.old.chunks place).bytes n) }
     {
         self.lists.layout.resize(place, len, n);
         place.named(n)
@@ -264,15 +264,15 @@ impl AllocSet {
     /// Makes a chunk of `len` bytes `n` bytes long, in a new chunk.
     fn relocate(&mut self, from: Place, len: usize, n: usize) -> Result<ChunkName, AllocError>
         requires there { IsTrue (has self.old.chunks from) }
-        requires len { length (piece_at self.old.chunks from).bytes ≡ len }
+        requires len { length (contents_at self.old.chunks from).bytes ≡ len }
         requires small { n ≤ MOST }
         ensures len { IfOk result (λ moved. moved.len ≡ n) }
         ensures fresh { IfOk result (λ moved. has self.old.chunks (place_of moved) ≡ false) }
         ensures moved { IfOk result (λ moved. self.new
-            ≡ set_freed (set_taken self.old n (chunk_of moved (set_room n) (resized (piece_at self.old.chunks from).bytes n))) from) }
+            ≡ set_freed (set_taken self.old n (chunk_of moved (set_room n) (resized (contents_at self.old.chunks from).bytes n))) from) }
         ensures lies { IfOk result (λ moved. IsNewBlock (set_growth self.old n) self.old.blocks moved.block) }
         ensures held { IfOk result
-            (λ moved. total (set_taken self.old n (chunk_of moved (set_room n) (resized (piece_at self.old.chunks from).bytes n))).blocks
+            (λ moved. total (set_taken self.old n (chunk_of moved (set_room n) (resized (contents_at self.old.chunks from).bytes n))).blocks
             ≡ total self.old.blocks + set_growth self.old n) }
         ensures refused { OnErr result ((self.new ≡ self.old) × (0 < set_growth self.old n)) }
     {

@@ -3,7 +3,7 @@ ghost use Rattle.std.specs.Prelude.{◌≡◌, ◌+◌, ◌<◌, ◌≤◌, ℕ,
 ghost use Rattle.std.specs.Prelude.{OnErr, length, get_or, is_some};
 ghost use Rattle.std.specs.Borrow.{sem};
 ghost use Rattle.block_memory.specs.Cells.{zeros};
-ghost use Rattle.chunk_layout.specs.Pieces.{ChunkContents, place_of, piece_at, without, rewritten, resized, total, AreLaid};
+ghost use Rattle.chunk_layout.specs.Contents.{ChunkContents, place_of, contents_at, without, rewritten, resized, total, AreLaid};
 ghost use Rattle.chunk_layout.specs.declared.place.Place.{Place};
 ghost use Rattle.chunk_contexts.specs.Chunks.{is_live, bytes_of, lengths, chunk_of, Adds, Keeps, KeepsOthers, IsRefused, IsResizeRefused};
 ghost use Rattle.chunk_contexts.specs.Chunks.{IsResized};
@@ -125,17 +125,17 @@ pub trait ChunkContext {
         ensures admitted { OnOk result ((frees self.old ≡ true) × (refusal self.old n ≡ None)) }
         ensures resized { IfOk result (λ new. IsResized (chunks self.old) (chunks self.new) name new n) }
         ensures keeps { IfOk result (KeepsOthers (chunks self.old) (chunks self.new) name) }
-        ensures stays { IfOk result (λ new. n ≤ (piece_at (chunks self.old) (place_of name)).room → self.new
+        ensures stays { IfOk result (λ new. n ≤ (contents_at (chunks self.old) (place_of name)).room → self.new
             ≡ put self.old (place_of name) (resized (bytes_of (chunks self.old) name) n)) }
-        ensures moved { IfOk result (λ new. (piece_at (chunks self.old) (place_of name)).room < n → self.new
+        ensures moved { IfOk result (λ new. (contents_at (chunks self.old) (place_of name)).room < n → self.new
             ≡ freed (taken self.old n (chunk_of new (room self.old n) (resized (bytes_of (chunks self.old) name) n))) (place_of name)) }
-        ensures lies { IfOk result (λ new. (piece_at (chunks self.old) (place_of name)).room < n → may_lie self.old n new.block) }
-        ensures grown { IfOk result (λ new. (piece_at (chunks self.old) (place_of name)).room < n
+        ensures lies { IfOk result (λ new. (contents_at (chunks self.old) (place_of name)).room < n → may_lie self.old n new.block) }
+        ensures grown { IfOk result (λ new. (contents_at (chunks self.old) (place_of name)).room < n
             → total (blocks (taken self.old n (chunk_of new (room self.old n) (resized (bytes_of (chunks self.old) name) n))))
             ≡ total (blocks self.old) + growth self.old n) }
         ensures most { OnOk result (total (blocks self.new) ≤ total (blocks self.old) + growth self.old n) }
         ensures refused { IfErr result (IsResizeRefused (frees self.old) (refusal self.old n) (growth self.old n)
-            (piece_at (chunks self.old) (place_of name)).room n) }
+            (contents_at (chunks self.old) (place_of name)).room n) }
         ensures unchanged { OnErr result (self.new ≡ self.old) };
 
     /// Gives up all chunks, and all blocks that the kind does not keep.
@@ -156,8 +156,8 @@ pub trait ChunkContext {
     /// what it asks.
     fn growth_to(&self, name: ChunkName, n: u32) -> u64
         requires { IsTrue (is_live (chunks self.now) name) }
-        ensures stays { n ≤ (piece_at (chunks self.now) (place_of name)).room → result ≡ 0 }
-        ensures moves { (piece_at (chunks self.now) (place_of name)).room < n → frees self.now ≡ true → result ≡ growth self.now n }
+        ensures stays { n ≤ (contents_at (chunks self.now) (place_of name)).room → result ≡ 0 }
+        ensures moves { (contents_at (chunks self.now) (place_of name)).room < n → frees self.now ≡ true → result ≡ growth self.now n }
         ensures refused { frees self.now ≡ false → result ≡ 0 };
 
     /// A law: no two live chunks share a byte, and each lies in a block. So no less is held than they have bytes.

@@ -1,9 +1,9 @@
 //! Free lists by classes, whose links stand in the free chunks.
 ghost use Rattle.std.specs.Prelude.{◌≡◌, ◌+◌, ◌-◌, ◌<◌, ◌≤◌, true, false, [], ◌∷◌, Some, None, IsTrue, IfSome, IfNone, length, get_or};
 ghost use Rattle.chunk_layout.specs.Every.{Every};
-ghost use Rattle.chunk_layout.specs.Pieces.{has, piece_at, put_at, only, size_at, IsClear};
+ghost use Rattle.chunk_layout.specs.Contents.{has, contents_at, put_at, only, size_at, IsClear};
 ghost use Rattle.chunk_contexts.specs.Rooms.{room_of, rooms, rooms_down};
-ghost use Rattle.chunk_contexts.specs.Free.{by_room, is_in, free_rooms, first_free, cut_used, cut_piece, cut_pieces, AreLists, IsRest};
+ghost use Rattle.chunk_contexts.specs.Free.{by_room, is_in, free_rooms, first_free, cut_used, cut_chunk, cut_chunks, AreLists, IsRest};
 ghost use Rattle.chunk_layout.specs.Links.{link_bytes, IsLinkable};
 ghost use Rattle.chunk_contexts.specs.Chunks.{live};
 
@@ -24,8 +24,8 @@ impl FreeLists {
         requires lists { AreLists self.old.layout self.old.heads }
         requires class { class < CLASSES }
         ensures lists { AreLists self.new.layout self.new.heads }
-        ensures none { IfNone result ((first_free by_room (room_of class) self.old.layout.pieces ≡ None) × (self.new ≡ self.old)) }
-        ensures some { IfSome result (λ place. first_free by_room (room_of class) self.old.layout.pieces ≡ Some place) }
+        ensures none { IfNone result ((first_free by_room (room_of class) self.old.layout.contents ≡ None) × (self.new ≡ self.old)) }
+        ensures some { IfSome result (λ place. first_free by_room (room_of class) self.old.layout.contents ≡ Some place) }
         ensures taken { IfSome result (λ place. self.new.layout ≡ put_at self.old.layout place 0 [] true) }
     {
         let mut first = self.heads[class];
@@ -37,11 +37,12 @@ impl FreeLists {
     /// Puts a live chunk in front of the free list of its room.
     pub(crate) fn release(&mut self, place: Place, room: usize)
         requires lists { AreLists self.old.layout self.old.heads }
-        requires live { IsTrue (has (live self.old.layout.pieces) place) }
-        requires room { (piece_at self.old.layout.pieces place).room ≡ room }
+        requires live { IsTrue (has (live self.old.layout.contents) place) }
+        requires room { (contents_at self.old.layout.contents place).room ≡ room }
         requires known { IsTrue (is_in room rooms) }
         ensures lists { AreLists self.new.layout self.new.heads }
-        ensures freed { self.new.layout ≡ put_at self.old.layout place 0 (link_bytes (first_free by_room room self.old.layout.pieces)) false }
+        ensures freed { self.new.layout ≡ put_at self.old.layout place 0 (link_bytes
+            (first_free by_room room self.old.layout.contents)) false }
     {
         let class = class_of(room);
         let mut first = self.heads[class];
@@ -55,17 +56,23 @@ impl FreeLists {
         requires known { IsTrue (is_in room rooms) }
         requires inside { place.offset + room ≤ size_at self.old.layout.blocks place.block }
         requires after { HEADER ≤ place.offset }
-        requires clear { Every (IsClear HEADER place room) self.old.layout.pieces }
-        requires none { has self.old.layout.pieces place ≡ false }
+        requires clear { Every (IsClear HEADER place room) self.old.layout.contents }
+        requires none { has self.old.layout.contents place ≡ false }
         requires links { IsLinkable place }
         ensures lists { AreLists self.new.layout self.new.heads }
         ensures cut { self.new.layout
             ≡ record {
               head = HEADER;
               blocks = self.old.layout.blocks;
-              pieces =
-                  (record { place = place; room = room; is_live = false; bytes = link_bytes (first_free by_room room self.old.layout.pieces) })
-                  ∷ self.old.layout.pieces;
+              contents =
+                  (record {
+                    place = place;
+                    room = room;
+                    is_live = false;
+                    bytes = link_bytes
+                        (first_free by_room room self.old.layout.contents);
+                  })
+                  ∷ self.old.layout.contents;
             } }
     {
         self.layout.carve(place, room);
@@ -86,8 +93,8 @@ impl FreeLists {
             ≡ record {
               head = HEADER;
               blocks = self.old.layout.blocks;
-              pieces = cut_piece room block.old.block block.old.used block.old.size
-                  self.old.layout.pieces;
+              contents = cut_chunk room block.old.block block.old.used block.old.size
+                  self.old.layout.contents;
             } }
     {
         if room + HEADER > block.left() {
@@ -110,8 +117,8 @@ impl FreeLists {
             ≡ record {
               head = HEADER;
               blocks = self.old.layout.blocks;
-              pieces = cut_pieces rooms_down block.block block.used block.size
-                  self.old.layout.pieces;
+              contents = cut_chunks rooms_down block.block block.used block.size
+                  self.old.layout.contents;
             } }
     {
         let mut rest = block;
@@ -125,7 +132,7 @@ impl FreeLists {
     pub(crate) fn has_free(&self, class: usize) -> bool
         requires lists { AreLists self.now.layout self.now.heads }
         requires class { class < CLASSES }
-        ensures { result ≡ is_in (room_of class) (free_rooms self.now.layout.pieces) }
+        ensures { result ≡ is_in (room_of class) (free_rooms self.now.layout.contents) }
     {
         self.heads[class].is_some()
     }
@@ -134,7 +141,7 @@ impl FreeLists {
     pub(crate) fn clear(&mut self, keep: Option<u32>)
         requires lists { AreLists self.old.layout self.old.heads }
         ensures lists { AreLists self.new.layout self.new.heads }
-        ensures cleared { self.new.layout ≡ record { head = HEADER; blocks = only self.old.layout.blocks keep; pieces = [] } }
+        ensures cleared { self.new.layout ≡ record { head = HEADER; blocks = only self.old.layout.blocks keep; contents = [] } }
     {
         self.layout.clear(keep);
         self.heads = [None; CLASSES];

@@ -1,6 +1,6 @@
 //! `Generation`: chunks one after the other, in blocks that go back with their last chunk.
 ghost use Rattle.std.specs.Prelude.{◌≡◌, ◌+◌, ◌<◌, ◌≤◌, ◌^◌, ℕ, IsTrue, IfOk, OnOk, OnErr, length, get_or, slice_set, ◌-◌};
-ghost use Rattle.chunk_layout.specs.Pieces.{has, same_place, piece_at, place_of, resized};
+ghost use Rattle.chunk_layout.specs.Contents.{has, same_place, contents_at, place_of, resized};
 ghost use Rattle.chunk_contexts.specs.Run.{RunState};
 ghost use Rattle.chunk_contexts.specs.GenerationFields.{generation_of, AreFields};
 
@@ -82,7 +82,7 @@ impl Generation {
     /// How many bytes a chunk has room for.
     fn room(&self, place: Place) -> usize
         requires { IsTrue (has self.now.chunks place) }
-        ensures { result ≡ (piece_at self.now.chunks place).room }
+        ensures { result ≡ (contents_at self.now.chunks place).room }
     {
         self.runs.layout.room(place)
     }
@@ -90,11 +90,11 @@ impl Generation {
     /// Makes a chunk of `len` bytes `n` bytes long, where it is.
     fn stay(&mut self, place: Place, len: usize, n: usize) -> ChunkName
         requires there { IsTrue (has self.old.chunks place) }
-        requires len { length (piece_at self.old.chunks place).bytes ≡ len }
-        requires room { n ≤ (piece_at self.old.chunks place).room }
+        requires len { length (contents_at self.old.chunks place).bytes ≡ len }
+        requires room { n ≤ (contents_at self.old.chunks place).room }
         requires small { n ≤ MOST }
         ensures name { result ≡ record { block = place.block; offset = place.offset; len = n } }
-        ensures put { self.new ≡ run_put self.old place (resized (piece_at self.old.chunks place).bytes n) }
+        ensures put { self.new ≡ run_put self.old place (resized (contents_at self.old.chunks place).bytes n) }
     {
         self.runs.layout.resize(place, len, n);
         place.named(n)
@@ -105,9 +105,9 @@ impl Generation {
         requires apart { same_place from to ≡ false }
         requires from { IsTrue (has self.old.chunks from) }
         requires to { IsTrue (has self.old.chunks to) }
-        requires len { length (piece_at self.old.chunks from).bytes ≡ len }
-        requires room { n ≤ (piece_at self.old.chunks to).room }
-        ensures { self.new ≡ run_put self.old to (resized (piece_at self.old.chunks from).bytes n) }
+        requires len { length (contents_at self.old.chunks from).bytes ≡ len }
+        requires room { n ≤ (contents_at self.old.chunks to).room }
+        ensures { self.new ≡ run_put self.old to (resized (contents_at self.old.chunks from).bytes n) }
     {
         self.runs.layout.copy_resized(from, len, to, n);
     }

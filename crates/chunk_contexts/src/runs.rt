@@ -2,7 +2,7 @@
 ghost use Rattle.std.specs.Prelude.{◌≡◌, ℕ, ◌+◌, ◌-◌, ◌<◌, ◌≤◌, ◌^◌, ◌++◌, if◌then◌else◌, true, false, [], ◌∷◌, Some, None, IsTrue, IfOk};
 ghost use Rattle.std.specs.Prelude.{OnOk, IfErr, OnErr, length, get_or, take};
 ghost use Rattle.block_memory.specs.Cells.{zeros};
-ghost use Rattle.chunk_layout.specs.Pieces.{has, piece_at, total, with_block};
+ghost use Rattle.chunk_layout.specs.Contents.{has, contents_at, total, with_block};
 ghost use Rattle.chunk_contexts.specs.Rooms.{rounded, over_most};
 ghost use Rattle.chunk_contexts.specs.Chunks.{chunk_of, Adds, IsRefused};
 ghost use Rattle.chunk_layout.specs.declared.blocks.TheConstants.{HEADER};
@@ -50,7 +50,7 @@ impl Runs {
                   (run_of self.old).active;
               left = (run_of self.old).left;
             }) }
-        ensures fresh { IfOk result (λ place. has self.old.layout.pieces place ≡ false) }
+        ensures fresh { IfOk result (λ place. has self.old.layout.contents place ≡ false) }
         ensures vacant { IfOk result (λ place. get_or self.old.layout.blocks place.block None ≡ None) }
         ensures held { OnOk result (total self.new.layout.blocks ≡ total self.old.layout.blocks + (head + room)) }
         ensures refused { OnErr result (self.new ≡ self.old) }
@@ -106,7 +106,7 @@ impl Runs {
           left = (run_of self.old).left
               - (head + room);
         } }
-        ensures fresh { has self.old.layout.pieces result ≡ false }
+        ensures fresh { has self.old.layout.contents result ≡ false }
     {
         self.active.carve(&mut self.layout, head, room)
     }
@@ -119,7 +119,7 @@ impl Runs {
         ensures run { IsRun head self.new }
         ensures taken { IfOk result (λ place. run_of self.new
             ≡ run_taken head (run_of self.old) (record { place = place; room = rounded n; is_live = true; bytes = [] })) }
-        ensures fresh { IfOk result (λ place. has self.old.layout.pieces place ≡ false) }
+        ensures fresh { IfOk result (λ place. has self.old.layout.contents place ≡ false) }
         ensures room { OnOk result (n ≤ rounded n) }
         ensures held { OnOk result (total self.new.layout.blocks ≡ total self.old.layout.blocks + run_growth head (run_of self.old) n) }
         ensures block { IfOk result (λ made. IsBlockOf (run_of self.old) (run_growth head (run_of self.old) n) made.block) }
@@ -176,7 +176,8 @@ impl Runs {
             ≡ run_taken head (run_of self.old) (chunk_of name (rounded (length bytes.now)) (bytes.now))) }
         ensures grown { OnOk result (total (run_of self.new).blocks ≡ total (run_of self.old).blocks
             + run_growth head (run_of self.old) (length bytes.now)) }
-        ensures block { IfOk result (λ made. IsBlockOf (run_of self.old) (run_growth head (run_of self.old) (length bytes.now)) made.block) }
+        ensures block { IfOk result (λ made. IsBlockOf (run_of self.old) (run_growth head (run_of self.old)
+            (length bytes.now)) made.block) }
         ensures refused { IfErr result (IsRefused (over_most (length bytes.now)) (run_growth head (run_of self.old) (length bytes.now))) }
         ensures unchanged { OnErr result (self.new ≡ self.old) }
     {

@@ -2,7 +2,7 @@
 ghost use Rattle.std.specs.Prelude.{◌≡◌, ◌≢◌, ℕ, ◌+◌, ◌*◌, ◌-◌, ◌<◌, ◌≤◌, ◌^◌, true, false, [], ◌∷◌, ◌++◌, Some, None, IsTrue, is_some};
 ghost use Rattle.std.specs.Prelude.{IfOk, OnOk, OnErr, length, get_or};
 ghost use Rattle.block_memory.specs.Cells.{zeros};
-ghost use Rattle.chunk_layout.specs.Pieces.{has, total, with_block};
+ghost use Rattle.chunk_layout.specs.Contents.{has, total, with_block};
 ghost use Rattle.chunk_contexts.specs.Chunks.{chunk_of, live, Adds, IsNewBlock};
 ghost use Rattle.chunk_contexts.specs.Rooms.{rounded};
 ghost use Rattle.chunk_contexts.specs.Slab.{per_block, slab_block, no_block, new_slab, slab_of, slab_grows, slab_taken, slab_freed};
@@ -64,16 +64,16 @@ fn take_chunk(layout: &mut ChunkLayout, entry: &mut SlabBlock, block: u32, size:
     requires layout { IsSlabLayout size layout.old }
     requires small { size ≤ MOST }
     requires there { IsTrue (is_some (get_or layout.old.blocks block None)) }
-    requires entry { IsEntry layout.old.pieces block entry.old }
+    requires entry { IsEntry layout.old.contents block entry.old }
     requires spare { entry.old.live < per_block (rounded size) }
     ensures layout { IsSlabLayout size layout.new }
-    ensures entry { IsEntry layout.new.pieces block entry.new }
-    ensures others { (k : ℕ) → k ≢ block → (e : SlabBlock) → IsEntry layout.old.pieces k e → IsEntry layout.new.pieces k e }
+    ensures entry { IsEntry layout.new.contents block entry.new }
+    ensures others { (k : ℕ) → k ≢ block → (e : SlabBlock) → IsEntry layout.old.contents k e → IsEntry layout.new.contents k e }
     ensures count { entry.new.live ≡ entry.old.live + 1 }
     ensures blocks { layout.new.blocks ≡ layout.old.blocks }
-    ensures taken { live layout.new.pieces ≡ (record { place = result; room = rounded size; is_live = true; bytes = [] })
-        ∷ live layout.old.pieces }
-    ensures fresh { has (live layout.old.pieces) result ≡ false }
+    ensures taken { live layout.new.contents ≡ (record { place = result; room = rounded size; is_live = true; bytes = [] })
+        ∷ live layout.old.contents }
+    ensures fresh { has (live layout.old.contents) result ≡ false }
     ensures block { result.block ≡ block }
 {
     let mut free = entry.free;

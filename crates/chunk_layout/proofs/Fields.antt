@@ -3,11 +3,12 @@ use Rattle.chunk_layout.proofs.Laws.{false≢true}
 use Rattle.std.proofs.Common.{◌≡◌, ℕ, ◌+◌, ◌-◌, ◌<◌, ◌≤◌, Bool, true, List, [], ◌∷◌, Option, None, map, length, get_or, set, take, sym, ap}
 use Rattle.std.proofs.Common.{◌∙◌, subst, arith, ◌⊎◌, inl, inr}
 use Rattle.chunk_layout.proofs.Words.{IsTrue, is_some, unwrap_or, option_map, Cells, Holds, IsWritten, word_bytes, Every, Layout}
-use Rattle.chunk_layout.proofs.Words.{ChunkContents, has, piece_at, put_at, with_block, outside, total, with_piece, IsInside, AreLaid}
-use Rattle.chunk_layout.proofs.Words.{AreTaken, IsClear, size_at, Blocks, block_at, poke, headed, piece_of, sizes_of, spots_of, spot_at}
+use Rattle.chunk_layout.proofs.Words.{ChunkContents, has, contents_at, put_at, with_block, outside, total, with_contents, IsInside, AreLaid}
+use Rattle.chunk_layout.proofs.Words.{AreTaken, IsClear, size_at, Blocks, block_at, poke, headed, contents_of, sizes_of, headers_of}
+use Rattle.chunk_layout.proofs.Words.{header_at}
 use Rattle.chunk_layout.proofs.Words.{Stands, IsLayout, AreVacant, Place, ChunkHeader, Inside}
 use Rattle.chunk_layout.proofs.Laws.{get_or-map, length-map, length-set, get_or_past, map-set, every_get, every_weaker, every_map}
-use Rattle.chunk_layout.proofs.Laws.{pairwise_weaker, pairwise_through, found-place, found-stands, piece-found, total-with_block}
+use Rattle.chunk_layout.proofs.Laws.{pairwise_weaker, pairwise_through, found-place, found-stands, contents-found, total-with_block}
 use Rattle.chunk_layout.proofs.Laws.{total-set_none, with_block-other, length-with_block, cases_lt, cond-true, cond-false, eq-eqb, ne_eqb}
 use Rattle.chunk_layout.proofs.Laws.{nat_tests, common_steps}
 use Rattle.chunk_layout.specs.Fields.{layout_of, AreFields}
@@ -16,31 +17,31 @@ use Rattle.chunk_layout.specs.declared.place.ChunkEvent.{ChunkEvent}
 use Rattle.chunk_layout.specs.declared.place.ChunkEvent.TheVariants.{Chunk, Written, Returned}
 use Rattle.chunk_layout.proofs.Reading.{length-read, holds-read}
 use Rattle.chunk_layout.proofs.Pokes.{some-within, sizes-poke}
-use Rattle.chunk_layout.proofs.Puts.{laid-put, pieces-put}
-use Rattle.chunk_layout.proofs.Carves.{laid-same, pieces-same, laid-dropped, pieces-dropped, laid-carved, pieces-carved}
+use Rattle.chunk_layout.proofs.Puts.{laid-put, contents-put}
+use Rattle.chunk_layout.proofs.Carves.{laid-same, contents-same, laid-dropped, contents-dropped, laid-carved, contents-carved}
 use Rattle.chunk_layout.proofs.Numbers.{map-with_block, length-with_block_low, every-with_block, every-set}
-use Rattle.chunk_layout.proofs.Lending.{laid-lent_back, pieces-lent_back}
+use Rattle.chunk_layout.proofs.Lending.{laid-lent_back, contents-lent_back}
 
 -- the size of a block by its number
 pub size-at : (bs : Blocks) (b : ℕ) → b < length bs → size_at (sizes_of bs) b ≡ length (block_at bs b)
 size-at bs b low = grind (arith, nat_tests, unwrap_or, get_or-map, option_map)
 
 -- a chunk at a place
-module _ (x : Inside) (ok : AreFields x) (l : Layout) (e : layout_of x ≡ l) (place : Place) (some : IsTrue (has l.pieces place)) where
+module _ (x : Inside) (ok : AreFields x) (l : Layout) (e : layout_of x ≡ l) (place : Place) (some : IsTrue (has l.contents place)) where
   abbrev bs : Blocks
   bs = x.blocks.items
 
   abbrev ss : List ChunkHeader
-  ss = spots_of x.notes.notes
+  ss = headers_of x.notes.notes
 
   abbrev p : ChunkContents
-  p = piece_at l.pieces place
+  p = contents_at l.contents place
 
-  pub here : has (map (piece_of bs) ss) place ≡ true
-  here = ap (λ (z : Layout). has z.pieces place) e ∙ some
+  pub here : has (map (contents_of bs) ss) place ≡ true
+  here = ap (λ (z : Layout). has z.contents place) e ∙ some
 
   abbrev t : ChunkHeader
-  t = spot_at ss place
+  t = header_at ss place
 
   abbrev t' : ChunkHeader
   t' = record { place = place; room = t.room; len = t.len; is_live = t.is_live }
@@ -52,8 +53,8 @@ module _ (x : Inside) (ok : AreFields x) (l : Layout) (e : layout_of x ≡ l) (p
   stands : Stands x.head bs t'
   stands = subst (Stands x.head bs) same (found-stands bs ss place here x.head ok.laid.stand)
 
-  found : piece_of bs t' ≡ p
-  found = ap (piece_of bs) (sym same) ∙ sym (piece-found bs ss place here) ∙ ap (λ (z : Layout). piece_at z.pieces place) e
+  found : contents_of bs t' ≡ p
+  found = ap (contents_of bs) (sym same) ∙ sym (contents-found bs ss place here) ∙ ap (λ (z : Layout). contents_at z.contents place) e
 
   pub found-some : IsTrue (is_some (get_or bs place.block None))
   found-some = stands.there
@@ -86,10 +87,10 @@ module _ (x : Inside) (ok : AreFields x) (l : Layout) (e : layout_of x ≡ l) (p
 
   -- bytes are written to it
   module _ (kept : ℕ) (bytes : List ℕ) (live : Bool) (few : kept ≤ length p.bytes) (fits : kept + length bytes ≤ p.room) where
-    few' : kept ≤ length (piece_at (map (piece_of bs) ss) place).bytes
+    few' : kept ≤ length (contents_at (map (contents_of bs) ss) place).bytes
     few' = grind (arith, nat_tests)
 
-    fits' : kept + length bytes ≤ (piece_at (map (piece_of bs) ss) place).room
+    fits' : kept + length bytes ≤ (contents_at (map (contents_of bs) ss) place).room
     fits' = grind (arith, nat_tests)
 
     module _ (y : Inside) (head : y.head ≡ x.head) (held : y.held ≡ x.held) (marks : y.vacant ≡ x.vacant) (blocks : y.blocks.items
@@ -100,7 +101,7 @@ module _ (x : Inside) (ok : AreFields x) (l : Layout) (e : layout_of x ≡ l) (p
 
       pub fields-put : AreFields y
       fields-put = record {
-        laid = subst (λ (z : ℕ × (Blocks × List ChunkEvent)). IsLayout z.0 z.1.0 (spots_of z.1.1))
+        laid = subst (λ (z : ℕ × (Blocks × List ChunkEvent)). IsLayout z.0 z.1.0 (headers_of z.1.1))
             (λ i. (sym head i, (sym blocks i, sym notes i))) (laid-put x.head bs ss ok.laid place here kept bytes live few' fits');
         held = held ∙ ok.held ∙ ap total sizes;
         small = subst (Every (λ (o : Option ℕ). unwrap_or o 0 ≤ 2147483648)) sizes ok.small;
@@ -109,12 +110,12 @@ module _ (x : Inside) (ok : AreFields x) (l : Layout) (e : layout_of x ≡ l) (p
       }
 
       pub layout-put : layout_of y ≡ put_at l place kept bytes live
-      layout-put = let pieces = ap (λ (z : Blocks × List ChunkEvent). map (piece_of z.0) (spots_of z.1)) (λ i. (blocks i, notes i))
-          ∙ pieces-put x.head bs ss ok.laid place here kept bytes live few' fits' in grind (arith, nat_tests, sizes)
+      layout-put = let contents = ap (λ (z : Blocks × List ChunkEvent). map (contents_of z.0) (headers_of z.1)) (λ i. (blocks i, notes i))
+          ∙ contents-put x.head bs ss ok.laid place here kept bytes live few' fits' in grind (arith, nat_tests, sizes)
 
   -- its bytes are lent
   module _ (n : ℕ) (count : length p.bytes ≡ n) (ws : List ℕ) where
-    count' : length (piece_at (map (piece_of bs) ss) place).bytes ≡ n
+    count' : length (contents_at (map (contents_of bs) ss) place).bytes ≡ n
     count' = grind (arith, nat_tests)
 
     module _ (y : Inside) (head : y.head ≡ x.head) (held : y.held ≡ x.held) (marks : y.vacant ≡ x.vacant) (blocks : y.blocks.items
@@ -132,12 +133,12 @@ module _ (x : Inside) (ok : AreFields x) (l : Layout) (e : layout_of x ≡ l) (p
       }
 
       pub layout-lent : layout_of y ≡ layout_with l place ws
-      layout-lent = grind (arith, nat_tests, pieces-lent_back, here, count', sizes-lent)
+      layout-lent = grind (arith, nat_tests, contents-lent_back, here, count', sizes-lent)
 
 -- a chunk is made
 module _ (x : Inside) (ok : AreFields x) (l : Layout) (e : layout_of x ≡ l) (place : Place) (room : ℕ) (some' : 1 ≤ room)
     (inside' : place.offset + room ≤ size_at l.blocks place.block)
-    (after : l.head ≤ place.offset) (clear : Every (IsClear l.head place room) l.pieces) where
+    (after : l.head ≤ place.offset) (clear : Every (IsClear l.head place room) l.contents) where
   abbrev cs : Blocks
   cs = x.blocks.items
 
@@ -153,8 +154,8 @@ module _ (x : Inside) (ok : AreFields x) (l : Layout) (e : layout_of x ≡ l) (p
   pub carve-after : x.head ≤ place.offset
   carve-after = subst (λ (z : Layout). z.head ≤ place.offset) (sym e) after
 
-  clear' : Every (IsClear x.head place room) (map (piece_of cs) (spots_of x.notes.notes))
-  clear' = subst (λ (z : Layout). Every (IsClear z.head place room) z.pieces) (sym e) clear
+  clear' : Every (IsClear x.head place room) (map (contents_of cs) (headers_of x.notes.notes))
+  clear' = subst (λ (z : Layout). Every (IsClear z.head place room) z.contents) (sym e) clear
 
   module _ (y : Inside) (head : y.head ≡ x.head) (held : y.held ≡ x.held) (marks : y.vacant ≡ x.vacant) (blocks : y.blocks.items
       ≡ headed x.head cs place room)
@@ -171,11 +172,11 @@ module _ (x : Inside) (ok : AreFields x) (l : Layout) (e : layout_of x ≡ l) (p
       vacant = grind (arith, nat_tests, same-sizes);
     }
 
-    pub layout-carved : layout_of y ≡ with_piece l (record { place = place; room = room; is_live = true; bytes = [] })
+    pub layout-carved : layout_of y ≡ with_contents l (record { place = place; room = room; is_live = true; bytes = [] })
     layout-carved = grind (
       arith,
       nat_tests,
-      pieces-carved x.head cs (spots_of x.notes.notes) ok.laid place room,
+      contents-carved x.head cs (headers_of x.notes.notes) ok.laid place room,
       carve-some,
       carve-after,
       carve-inside,
@@ -207,12 +208,12 @@ module _ (x : Inside) (ok : AreFields x) (l : Layout) (e : layout_of x ≡ l) (b
     sizes' = grind (arith, nat_tests, sizes_of, map-with_block length ds b block, with_block, sizes_of ds)
 
     same-blocks : Every (λ (s : ChunkHeader). get_or (with_block ds b block) s.place.block None ≡ get_or ds s.place.block None)
-        (spots_of x.notes.notes)
-    same-blocks = grind (arith, nat_tests, with_block, spots_of, with_block-other, every_weaker, false≢true)
+        (headers_of x.notes.notes)
+    same-blocks = grind (arith, nat_tests, with_block, headers_of, with_block-other, every_weaker, false≢true)
 
     pub fields-taken : AreFields y
     fields-taken = record {
-      laid = grind (arith, nat_tests, laid-same ds (with_block ds b block) x.head (spots_of x.notes.notes), same-blocks);
+      laid = grind (arith, nat_tests, laid-same ds (with_block ds b block) x.head (headers_of x.notes.notes), same-blocks);
       held = held ∙ ap (λ (n : ℕ). n + len) ok.held ∙ sym (ap total sizes' ∙ total-taken);
       small = grind (arith, nat_tests, sizes', every-with_block, len);
       few = subst (λ (z : List (Option ℕ)). length z < 4294967296) (sym sizes') (count few);
@@ -228,11 +229,11 @@ module _ (x : Inside) (ok : AreFields x) (l : Layout) (e : layout_of x ≡ l) (b
           ]
         ]
 
-    pub layout-taken : layout_of y ≡ record { head = l.head; blocks = with_block l.blocks b len; pieces = l.pieces }
+    pub layout-taken : layout_of y ≡ record { head = l.head; blocks = with_block l.blocks b len; contents = l.contents }
     layout-taken = grind (
       arith,
       nat_tests,
-      pieces-same ds (with_block ds b block) x.head (spots_of x.notes.notes),
+      contents-same ds (with_block ds b block) x.head (headers_of x.notes.notes),
       same-blocks,
       sizes',
       len,
@@ -258,14 +259,14 @@ module _ (x : Inside) (ok : AreFields x) (l : Layout) (e : layout_of x ≡ l) (b
     pub fields-dropped : AreFields y
     fields-dropped = grind (arith, nat_tests, laid-dropped, held-dropped, sizes-back, every-set, length-set, vacant)
 
-    pub layout-dropped : layout_of y ≡ record { head = l.head; blocks = set l.blocks b None; pieces = outside l.pieces b }
-    layout-dropped = grind (arith, nat_tests, pieces-dropped, sizes-back)
+    pub layout-dropped : layout_of y ≡ record { head = l.head; blocks = set l.blocks b None; contents = outside l.contents b }
+    layout-dropped = grind (arith, nat_tests, contents-dropped, sizes-back)
 
 pub small-any : (x : Inside) → AreFields x → (b : ℕ) → length (block_at x.blocks.items b) ≤ 2147483648
 small-any x ok b = grind (arith, nat_tests, cases_lt, get_or_past, every_get, length-map, size-at)
 
-inside-block : (head : ℕ) (bs : Blocks) (s : ChunkHeader) → Stands head bs s → IsInside (sizes_of bs) (piece_of bs s)
+inside-block : (head : ℕ) (bs : Blocks) (s : ChunkHeader) → Stands head bs s → IsInside (sizes_of bs) (contents_of bs s)
 inside-block head bs s stands = grind (arith, nat_tests, common_steps)
 
-pub laid-is : (x : Inside) → AreFields x → AreLaid (sizes_of x.blocks.items) (map (piece_of x.blocks.items) (spots_of x.notes.notes))
+pub laid-is : (x : Inside) → AreFields x → AreLaid (sizes_of x.blocks.items) (map (contents_of x.blocks.items) (headers_of x.notes.notes))
 laid-is x ok = grind (arith, nat_tests, common_steps, pairwise_through, pairwise_weaker, every_map, every_weaker, inside-block)

@@ -7,6 +7,6 @@ pub mod Numbers
 pub mod Carves
 pub mod Lending
 pub mod Fields
-pub mod PieceLaws
+pub mod ContentsLaws
 pub mod MarkLaws
 pub mod Vacancy

@@ -1,6 +1,7 @@
 -- What a write to a block changes.
 use Rattle.std.proofs.Common.{◌≡◌, ◌≢◌, ℕ, ◌+◌, ◌<◌, ◌≤◌, ◌⊎◌, List, Option, Some, None, length, get_or, arith}
-use Rattle.chunk_layout.proofs.Words.{IsTrue, is_some, option_map, Cells, with_bytes, Blocks, cells_of, block_at, poke, piece_of, sizes_of}
+use Rattle.chunk_layout.proofs.Words.{IsTrue, is_some, option_map, Cells, with_bytes, Blocks, cells_of, block_at, poke, contents_of}
+use Rattle.chunk_layout.proofs.Words.{sizes_of}
 use Rattle.chunk_layout.proofs.Words.{Stands, ChunkHeader}
 use Rattle.chunk_layout.proofs.Laws.{false≢true, get_or-set_same, set-get_or, map-set, length-with_bytes, holds_kept, length-word_bytes}
 use Rattle.chunk_layout.proofs.Laws.{nat_tests, common_steps}
@@ -50,8 +51,8 @@ module _ (bs : Blocks) (b at : ℕ) (bytes : List ℕ) (some : IsTrue (is_some (
     beside_bytes : s.place.block ≡ b → (s.place.offset + s.len ≤ at) ⊎ (at + length bytes ≤ s.place.offset)
     beside_bytes same = grind (arith, nat_tests)
 
-    pub piece-poke : piece_of after s ≡ piece_of bs s
-    piece-poke = grind (arith, nat_tests, common_steps, kept, read-kept, beside_bytes)
+    pub chunk-poke : contents_of after s ≡ contents_of bs s
+    chunk-poke = grind (arith, nat_tests, common_steps, kept, read-kept, beside_bytes)
 
     pub stands-poke : Stands head after s
     stands-poke = grind (

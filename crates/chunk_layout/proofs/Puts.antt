@@ -1,13 +1,15 @@
 -- Bytes are written to a chunk, behind some that it keeps.
 use Rattle.chunk_layout.proofs.Laws.{nat_tests, cases_lt, length-take-le, length-append, get_or_append_left, get_or-append_right, holds_at}
 use Rattle.chunk_layout.proofs.Laws.{holds_each, holds_kept, holds_by_write, holds_part, written_of_holds, length-word_bytes, every_both}
-use Rattle.chunk_layout.proofs.Laws.{every_weaker, every_filter, pairwise_filter, map_same, found-place, piece-found, found-stands}
-use Rattle.chunk_layout.proofs.Laws.{some-spot, apart-found, without-spot}
+use Rattle.chunk_layout.proofs.Laws.{every_weaker, every_filter, pairwise_filter, map_same, found-place, contents-found, found-stands}
+use Rattle.chunk_layout.proofs.Laws.{some-header, apart-found, without-header}
 use Rattle.std.proofs.Common.{◌≡◌, ◌≢◌, ℕ, ◌+◌, ◌-◌, ◌≤◌, ◌⊎◌, inl, Bool, true, List, ◌∷◌, ◌++◌, map, length, take, sym, ap, subst, arith}
-use Rattle.chunk_layout.proofs.Words.{Cells, Holds, with_bytes, word_bytes, Every, ChunkContents, piece_at, has, without, Blocks, block_at}
-use Rattle.chunk_layout.proofs.Words.{poke, read, piece_of, spot_at, spot_with, without_spot, Stands, Apart, IsLayout, Place, ChunkHeader}
+use Rattle.chunk_layout.proofs.Words.{Cells, Holds, with_bytes, word_bytes, Every, ChunkContents, contents_at, has, without, Blocks}
+use Rattle.chunk_layout.proofs.Words.{block_at}
+use Rattle.chunk_layout.proofs.Words.{poke, read, contents_of, header_at, header_with, without_header, Stands, Apart, IsLayout, Place}
+use Rattle.chunk_layout.proofs.Words.{ChunkHeader}
 use Rattle.chunk_layout.proofs.Reading.{read-holds, holds-read, length-read}
-use Rattle.chunk_layout.proofs.Pokes.{poke-here, length-poke, some-poke, piece-poke, stands-poke}
+use Rattle.chunk_layout.proofs.Pokes.{poke-here, length-poke, some-poke, chunk-poke, stands-poke}
 
 -- bytes that stand one after the other
 pub holds_append : (cells : Cells) (at : ℕ) (xs ys : List ℕ) → Holds cells at xs → Holds cells (at + length xs) ys
@@ -26,14 +28,14 @@ holds_append cells at xs ys h k = grind (
 )
 
 module _ (head : ℕ) (bs : Blocks) (ss : List ChunkHeader) (laid : IsLayout head bs ss) (place : Place)
-    (some : has (map (piece_of bs) ss) place ≡ true) (kept : ℕ) (bytes : List ℕ) (live : Bool)
-    (few : kept ≤ length (piece_at (map (piece_of bs) ss) place).bytes) (fits : kept
-    + length bytes ≤ (piece_at (map (piece_of bs) ss) place).room) where
+    (some : has (map (contents_of bs) ss) place ≡ true) (kept : ℕ) (bytes : List ℕ) (live : Bool)
+    (few : kept ≤ length (contents_at (map (contents_of bs) ss) place).bytes) (fits : kept
+    + length bytes ≤ (contents_at (map (contents_of bs) ss) place).room) where
   abbrev t : ChunkHeader
-  t = spot_at ss place
+  t = header_at ss place
 
-  abbrev pieces : List ChunkContents
-  pieces = map (piece_of bs) ss
+  abbrev contents : List ChunkContents
+  contents = map (contents_of bs) ss
 
   abbrev cells : Cells
   cells = block_at bs place.block
@@ -52,11 +54,11 @@ module _ (head : ℕ) (bs : Blocks) (ss : List ChunkHeader) (laid : IsLayout hea
   stands : Stands head bs here
   stands = subst (Stands head bs) is-here (found-stands bs ss place some head laid.stand)
 
-  count : t.len ≡ length (piece_at pieces place).bytes
-  count = grind (arith, nat_tests, length-read cells place.offset t.len stands.written, piece-found, piece_of, is-here)
+  count : t.len ≡ length (contents_at contents place).bytes
+  count = grind (arith, nat_tests, length-read cells place.offset t.len stands.written, contents-found, contents_of, is-here)
 
-  big : t.room ≡ (piece_at pieces place).room
-  big = grind (arith, nat_tests, piece-found, piece_of, is-here)
+  big : t.room ≡ (contents_at contents place).room
+  big = grind (arith, nat_tests, contents-found, contents_of, is-here)
 
   room : place.offset + kept + length bytes ≤ length cells
   room = omega (arith, fits, big, stands.inside)
@@ -96,7 +98,7 @@ module _ (head : ℕ) (bs : Blocks) (ss : List ChunkHeader) (laid : IsLayout hea
 
   -- the chunk as it is then
   abbrev then' : ChunkHeader
-  then' = spot_with ss place n live
+  then' = header_with ss place n live
 
   stands-put : Stands head after then'
   stands-put = record {
@@ -111,15 +113,15 @@ module _ (head : ℕ) (bs : Blocks) (ss : List ChunkHeader) (laid : IsLayout hea
         (inl (omega (arith, length-word_bytes t.room, stands.after, eight))) (stands.header eight));
   }
 
-  others : Every (λ (s : ChunkHeader). Apart head s here) (without_spot ss place)
-  others = subst (λ (x : ChunkHeader). Every (λ (s : ChunkHeader). Apart head s x) (without_spot ss place)) is-here
-      (apart-found head ss place (some-spot bs ss place some) laid.apart)
+  others : Every (λ (s : ChunkHeader). Apart head s here) (without_header ss place)
+  others = subst (λ (x : ChunkHeader). Every (λ (s : ChunkHeader). Apart head s x) (without_header ss place)) is-here
+      (apart-found head ss place (some-header bs ss place some) laid.apart)
 
   untouched : (s : ChunkHeader) → Apart head s here → (s.place.block ≢ place.block) ⊎ ((s.place.offset + s.room ≤ place.offset + kept)
       ⊎ (place.offset + kept + length bytes + head ≤ s.place.offset))
   untouched s v1 = grind (arith, nat_tests, big)
 
-  pub laid-put : IsLayout head after (then' ∷ without_spot ss place)
+  pub laid-put : IsLayout head after (then' ∷ without_header ss place)
   laid-put = grind (
     arith,
     nat_tests,
@@ -134,15 +136,15 @@ module _ (head : ℕ) (bs : Blocks) (ss : List ChunkHeader) (laid : IsLayout hea
     pairwise_filter (Apart head),
   )
 
-  pub pieces-put : map (piece_of after) (then' ∷ without_spot ss place)
+  pub contents-put : map (contents_of after) (then' ∷ without_header ss place)
       ≡ (record {
         place = place;
-        room = (piece_at pieces place).room;
+        room = (contents_at contents place).room;
         is_live = live;
-        bytes = take kept (piece_at pieces place).bytes
+        bytes = take kept (contents_at contents place).bytes
             ++ bytes;
-      }) ∷ without pieces place
-  pieces-put = grind (
+      }) ∷ without contents place
+  contents-put = grind (
     arith,
     nat_tests,
     room,
@@ -152,17 +154,17 @@ module _ (head : ℕ) (bs : Blocks) (ss : List ChunkHeader) (laid : IsLayout hea
     new-long,
     holds,
     map_same,
-    piece_of after,
-    piece_of bs,
-    without_spot ss place,
+    contents_of after,
+    contents_of bs,
+    without_header ss place,
     every_both (Stands head bs) (λ (s : ChunkHeader). Apart head s here),
-    piece-poke bs place.block
+    chunk-poke bs place.block
         (place.offset + kept) bytes stands.there head,
     untouched,
     every_filter (Stands head bs),
     others,
-    without-spot bs ss place,
-    piece-found,
-    piece_of,
+    without-header bs ss place,
+    contents-found,
+    contents_of,
     is-here,
   )

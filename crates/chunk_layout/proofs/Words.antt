@@ -2,11 +2,12 @@
 pub use Rattle.block_memory.specs.Cells.{Cells, Holds, IsWritten, with_bytes, zeros}
 pub use Rattle.block_memory.specs.Words.{word_bytes}
 pub use Rattle.chunk_layout.specs.Every.{Every, Pairwise}
-pub use Rattle.chunk_layout.specs.Pieces.{AreApart, AreLaid, AreTaken, IsClear, IsInside, Layout, ChunkContents, has, only, outside}
-pub use Rattle.chunk_layout.specs.Pieces.{piece_at, put_at, resized, rewritten, same_place, size_at, total, with_block, with_bytes_of}
-pub use Rattle.chunk_layout.specs.Pieces.{with_piece, without}
-pub use Rattle.chunk_layout.specs.ChunkHeaders.{Apart, Blocks, IsLayout, Stands, block_at, cells_of, has_spot, headed, no_spot, piece_of}
-pub use Rattle.chunk_layout.specs.ChunkHeaders.{poke, read, sizes_of, spot_at, spot_is_at, spot_with, spots_of, without_spot}
+pub use Rattle.chunk_layout.specs.Contents.{AreApart, AreLaid, AreTaken, IsClear, IsInside, Layout, ChunkContents, has, only, outside}
+pub use Rattle.chunk_layout.specs.Contents.{contents_at, put_at, resized, rewritten, same_place, size_at, total, with_block, with_bytes_of}
+pub use Rattle.chunk_layout.specs.Contents.{with_contents, without}
+pub use Rattle.chunk_layout.specs.ChunkHeaders.{Apart, Blocks, IsLayout, Stands, block_at, cells_of, has_header, headed, no_header}
+pub use Rattle.chunk_layout.specs.ChunkHeaders.{contents_of}
+pub use Rattle.chunk_layout.specs.ChunkHeaders.{poke, read, sizes_of, header_at, header_is_at, header_with, headers_of, without_header}
 pub use Rattle.chunk_layout.specs.Vacant.{AreVacant}
 pub use Rattle.chunk_layout.specs.declared.layout.ChunkLayout.TheInside.{Inside}
 pub use Rattle.chunk_layout.specs.declared.place.Place.{Place}

@@ -1,11 +1,11 @@
--- The chunks that the notes tell of, and what the blocks hold for them. All of this is our own.
+-- The chunks that the events of a layout tell of, and what the blocks hold for them. All of this is our own.
 use Rattle.std.specs.Prelude.{◌≡◌, ◌≢◌, if◌then◌else◌, false, ℕ, ◌+◌, ◌-◌, ◌≤◌, ◌==◌, ◌⊎◌, Bool, not, List, [], ◌∷◌, Option, Some, None}
 use Rattle.std.specs.Prelude.{length, get_or, slice_set, map, unwrap_or, option_map, is_some, take, drop, IsTrue}
 use Rattle.std.specs.List.{filter, list_any}
 use Rattle.block_memory.specs.Cells.{Cells, Holds, IsWritten, with_bytes}
 use Rattle.block_memory.specs.Words.{word_bytes}
 use Rattle.chunk_layout.specs.Every.{Every, Pairwise, first_by}
-use Rattle.chunk_layout.specs.Pieces.{ChunkContents, same_place}
+use Rattle.chunk_layout.specs.Contents.{ChunkContents, same_place}
 use Rattle.chunk_layout.specs.declared.blocks.TheConstants.{HEADER}
 use Rattle.chunk_layout.specs.declared.place.Place.{Place}
 use Rattle.chunk_layout.specs.declared.place.ChunkHeader.{ChunkHeader}
@@ -30,44 +30,44 @@ poke bs block at bytes = slice_set bs block (Some (with_bytes (block_at bs block
 abbrev pub headed : ℕ → Blocks → Place → ℕ → Blocks
 headed head bs place room = if head == HEADER then poke bs place.block (place.offset - HEADER) (word_bytes room) else bs
 
--- ---- the spots that the notes tell of
-abbrev pub spot_is_at : Place → ChunkHeader → Bool
-spot_is_at place s = same_place s.place place
+-- ---- the headers that the events tell of
+abbrev pub header_is_at : Place → ChunkHeader → Bool
+header_is_at place s = same_place s.place place
 
-abbrev pub no_spot : ChunkHeader
-no_spot = record { place = record { block = 0; offset = 0 }; room = 0; len = 0; is_live = false }
+abbrev pub no_header : ChunkHeader
+no_header = record { place = record { block = 0; offset = 0 }; room = 0; len = 0; is_live = false }
 
-abbrev pub has_spot : List ChunkHeader → Place → Bool
-has_spot ss place = list_any (spot_is_at place) ss
+abbrev pub has_header : List ChunkHeader → Place → Bool
+has_header ss place = list_any (header_is_at place) ss
 
-abbrev pub spot_at : List ChunkHeader → Place → ChunkHeader
-spot_at ss place = first_by (spot_is_at place) no_spot ss
+abbrev pub header_at : List ChunkHeader → Place → ChunkHeader
+header_at ss place = first_by (header_is_at place) no_header ss
 
-abbrev pub without_spot : List ChunkHeader → Place → List ChunkHeader
-without_spot ss place = filter (λ s. not (spot_is_at place s)) ss
+abbrev pub without_header : List ChunkHeader → Place → List ChunkHeader
+without_header ss place = filter (λ s. not (header_is_at place s)) ss
 
--- the spot at a place, with other bytes
-abbrev pub spot_with : List ChunkHeader → Place → ℕ → Bool → ChunkHeader
-spot_with ss place len live = record { place = place; room = (spot_at ss place).room; len = len; is_live = live }
+-- the header of the chunk at a place, with so many bytes, live or not
+abbrev pub header_with : List ChunkHeader → Place → ℕ → Bool → ChunkHeader
+header_with ss place len live = record { place = place; room = (header_at ss place).room; len = len; is_live = live }
 
-abbrev pub noted : ChunkEvent → List ChunkHeader → List ChunkHeader
-noted (Chunk s) ss = s ∷ without_spot ss s.place
-noted (Written place len live) ss = spot_with ss place len live ∷ without_spot ss place
-noted (Gone place) ss = without_spot ss place
-noted (Returned block) ss = filter (λ s. not (s.place.block == block)) ss
-noted Cleared ss = []
+abbrev pub after_event : ChunkEvent → List ChunkHeader → List ChunkHeader
+after_event (Chunk s) ss = s ∷ without_header ss s.place
+after_event (Written place len live) ss = header_with ss place len live ∷ without_header ss place
+after_event (Gone place) ss = without_header ss place
+after_event (Returned block) ss = filter (λ s. not (s.place.block == block)) ss
+after_event Cleared ss = []
 
-abbrev pub spots_of : List ChunkEvent → List ChunkHeader
-spots_of [] = []
-spots_of (note ∷ notes) = noted note (spots_of notes)
+abbrev pub headers_of : List ChunkEvent → List ChunkHeader
+headers_of [] = []
+headers_of (event ∷ events) = after_event event (headers_of events)
 
--- ---- the pieces that they are
+-- ---- the contents of the chunks that they are of
 -- the bytes of n cells, where these were written
 abbrev pub read : Cells → ℕ → ℕ → List ℕ
 read cells at n = map (λ c. unwrap_or c 0) (take n (drop at cells))
 
-abbrev pub piece_of : Blocks → ChunkHeader → ChunkContents
-piece_of bs s = record {
+abbrev pub contents_of : Blocks → ChunkHeader → ChunkContents
+contents_of bs s = record {
   place = s.place;
   room = s.room;
   is_live = s.is_live;

@@ -3,8 +3,9 @@ use Rattle.std.proofs.Common.{◌≡◌, ℕ, inl, inr, Bool, true, false, not, 
 use Rattle.std.specs.Prelude.{◌||◌, ◌==◌}
 use Rattle.std.proofs.lemmas.Bool.{and_from, eq-eqb}
 use Rattle.chunk_layout.specs.Every.{Every, Pairwise}
-use Rattle.chunk_layout.specs.Pieces.{ChunkContents, same_place, is_at, has, piece_at, no_piece, without}
-use Rattle.chunk_layout.specs.ChunkHeaders.{Blocks, spot_is_at, no_spot, has_spot, spot_at, without_spot, piece_of, Stands, Apart}
+use Rattle.chunk_layout.specs.Contents.{ChunkContents, same_place, is_at, has, contents_at, no_contents, without}
+use Rattle.chunk_layout.specs.ChunkHeaders.{Blocks, header_is_at, no_header, has_header, header_at, without_header, contents_of, Stands}
+use Rattle.chunk_layout.specs.ChunkHeaders.{Apart}
 use Rattle.chunk_layout.specs.declared.place.Place.{Place}
 use Rattle.chunk_layout.specs.declared.place.ChunkHeader.{ChunkHeader}
 use Rattle.chunk_layout.specs.ListLaws.{first_has, first_passes, first_map, any_map, filter_map_same, every_weaker, every_filter}
@@ -23,39 +24,39 @@ apart-sym head s t (inr (inl before)) = inr (inr before)
 apart-sym head s t (inr (inr behind)) = inr (inl behind)
 
 -- all others are apart from the chunk at a place
-pub apart-found : (head : ℕ) (ss : List ChunkHeader) (place : Place) → has_spot ss place ≡ true → Pairwise (Apart head) ss
-    → Every (λ s. Apart head s (spot_at ss place)) (without_spot ss place)
+pub apart-found : (head : ℕ) (ss : List ChunkHeader) (place : Place) → has_header ss place ≡ true → Pairwise (Apart head) ss
+    → Every (λ s. Apart head s (header_at ss place)) (without_header ss place)
 apart-found head [] place some pairs = tt
 apart-found head (s ∷ ss) place some pairs =
-    let Goal : Bool → Type 0 = λ b. ((b || has_spot ss place) ≡ true)
-    → Every (λ (x : ChunkHeader). Apart head x (cond b s (spot_at ss place)))
-    (cond (not b) (s ∷ without_spot ss place) (without_spot ss place)) in
-    (elim (spot_is_at place s) as Goal [
-      | true ↦ λ _. every_filter (λ (x : ChunkHeader). Apart head x s) (λ (x : ChunkHeader). not (spot_is_at place x)) ss
+    let Goal : Bool → Type 0 = λ b. ((b || has_header ss place) ≡ true)
+    → Every (λ (x : ChunkHeader). Apart head x (cond b s (header_at ss place)))
+    (cond (not b) (s ∷ without_header ss place) (without_header ss place)) in
+    (elim (header_is_at place s) as Goal [
+      | true ↦ λ _. every_filter (λ (x : ChunkHeader). Apart head x s) (λ (x : ChunkHeader). not (header_is_at place x)) ss
           (every_weaker (Apart head s) (λ (x : ChunkHeader). Apart head x s) (apart-sym head s) ss pairs.0)
-      | false ↦ λ there. (first_has (Apart head s) (spot_is_at place) no_spot ss there pairs.0, apart-found head ss place there pairs.1)
+      | false ↦ λ there. (first_has (Apart head s) (header_is_at place) no_header ss there pairs.0, apart-found head ss place there pairs.1)
     ]) some
 
--- the same, of the pieces that the spots are
+-- the same, of the contents of the chunks that the headers are of
 module _ (bs : Blocks) (ss : List ChunkHeader) (place : Place) where
-  abbrev pieces : List ChunkContents
-  pieces = map (piece_of bs) ss
+  abbrev contents : List ChunkContents
+  contents = map (contents_of bs) ss
 
-  pub has-spot : has pieces place ≡ has_spot ss place
-  has-spot = any_map (is_at place) (piece_of bs) ss
+  pub has-header : has contents place ≡ has_header ss place
+  has-header = any_map (is_at place) (contents_of bs) ss
 
-  pub without-spot : map (piece_of bs) (without_spot ss place) ≡ without pieces place
-  without-spot = filter_map_same (λ (p : ChunkContents). not (is_at place p)) (piece_of bs) ss
+  pub without-header : map (contents_of bs) (without_header ss place) ≡ without contents place
+  without-header = filter_map_same (λ (p : ChunkContents). not (is_at place p)) (contents_of bs) ss
 
-  module _ (some : has pieces place ≡ true) where
-    pub some-spot : has_spot ss place ≡ true
-    some-spot = sym has-spot ∙ some
+  module _ (some : has contents place ≡ true) where
+    pub some-header : has_header ss place ≡ true
+    some-header = sym has-header ∙ some
 
-    pub found-place : (spot_at ss place).place ≡ place
-    found-place = same-place (spot_at ss place).place place (first_passes (spot_is_at place) no_spot ss some-spot)
+    pub found-place : (header_at ss place).place ≡ place
+    found-place = same-place (header_at ss place).place place (first_passes (header_is_at place) no_header ss some-header)
 
-    pub piece-found : piece_at pieces place ≡ piece_of bs (spot_at ss place)
-    piece-found = first_map (is_at place) (piece_of bs) no_spot no_piece ss some
+    pub contents-found : contents_at contents place ≡ contents_of bs (header_at ss place)
+    contents-found = first_map (is_at place) (contents_of bs) no_header no_contents ss some
 
-    pub found-stands : (head : ℕ) → Every (Stands head bs) ss → Stands head bs (spot_at ss place)
-    found-stands head stand = first_has (Stands head bs) (spot_is_at place) no_spot ss some-spot stand
+    pub found-stands : (head : ℕ) → Every (Stands head bs) ss → Stands head bs (header_at ss place)
+    found-stands head stand = first_has (Stands head bs) (header_is_at place) no_header ss some-header stand

@@ -1,5 +1,5 @@
 pub mod Every
-pub mod Pieces
+pub mod Contents
 pub mod ChunkHeaders
 pub mod Fields
 pub mod Lends
@@ -10,4 +10,4 @@ pub mod Links
 pub mod FindingLaws
 pub mod ListLaws
 pub mod NumberLaws
-pub mod PieceLaws
+pub mod ContentsLaws

@@ -3,7 +3,7 @@ use Rattle.std.proofs.Common.{◌≡◌, ◌≢◌, ℕ, zero, suc, ◌+◌, ◌
 use Rattle.std.proofs.Common.{suc-le-suc, sym, ◌∙◌, subst}
 use Rattle.std.specs.Prelude.{unwrap_or}
 use Rattle.std.proofs.Math.Nat.{not-suc-le-zero, le_of_suc-le-suc, le_refl, le-add_right, suc-add, add-zero, zero-add, add_comm, add_assoc}
-use Rattle.chunk_layout.specs.Pieces.{with_block, total}
+use Rattle.chunk_layout.specs.Contents.{with_block, total}
 
 pub with_block-here : {X : Type 0} (xs : List (Option X)) (n : ℕ) (x : X) → n ≤ length xs → get_or (with_block xs n x) n None ≡ Some x
 with_block-here [] zero x low = refl

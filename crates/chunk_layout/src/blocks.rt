@@ -2,7 +2,7 @@
 ghost use Rattle.std.specs.Prelude.{◌≡◌, ◌+◌, ◌-◌, ◌<◌, ◌≤◌, ◌^◌, ◌⊎◌, Some, None, IsSome, IfSome, IfOk, OnErr, length, get_or, slice_set};
 ghost use Rattle.block_memory.specs.Cells.{IsWritten, Holds, zeros};
 ghost use Rattle.block_memory.specs.Words.{word_bytes};
-ghost use Rattle.chunk_layout.specs.Pieces.{with_block, AreTaken};
+ghost use Rattle.chunk_layout.specs.Contents.{with_block, AreTaken};
 ghost use Rattle.chunk_layout.specs.Vacant.{AreVacant};
 ghost use Rattle.chunk_layout.specs.ChunkHeaders.{block_at, poke, headed, sizes_of};
 

@@ -4,8 +4,9 @@ ghost use Rattle.std.specs.Prelude.{OnErr, length, get_or, slice_set, option_map
 ghost use Rattle.std.specs.Borrow.{sem};
 ghost use Rattle.block_memory.specs.Cells.{zeros};
 ghost use Rattle.chunk_layout.specs.Every.{Every};
-ghost use Rattle.chunk_layout.specs.Pieces.{has, same_place, is_kept, piece_at, put_at, with_piece, without, outside, with_block, size_at};
-ghost use Rattle.chunk_layout.specs.Pieces.{total, only, AreLaid, AreTaken, IsClear, resized, Layout};
+ghost use Rattle.chunk_layout.specs.Contents.{has, same_place, is_kept, contents_at, put_at, with_contents, without, outside, with_block};
+ghost use Rattle.chunk_layout.specs.Contents.{size_at};
+ghost use Rattle.chunk_layout.specs.Contents.{total, only, AreLaid, AreTaken, IsClear, resized, Layout};
 ghost use Rattle.chunk_layout.specs.Fields.{layout_of, AreFields};
 
 use crate::blocks::{
@@ -41,11 +42,11 @@ impl Model for ChunkLayout {
 }
 
 impl ChunkLayout {
-    ghost use Rattle.chunk_layout.specs.Lends.{lends_piece};
+    ghost use Rattle.chunk_layout.specs.Lends.{lends_contents};
 
     /// Makes a layout of no block. With `headers`, each chunk has a header before it, which holds its room.
     pub fn new(alloc: Global, headers: bool) -> ChunkLayout
-        ensures { result ≡ record { head = if headers then HEADER else 0; blocks = []; pieces = [] } }
+        ensures { result ≡ record { head = if headers then HEADER else 0; blocks = []; contents = [] } }
     {
         ChunkLayout {
             head: if headers { HEADER } else { 0 },
@@ -59,7 +60,7 @@ impl ChunkLayout {
 
     /// A law: no two chunks share a byte, and each lies in its block.
     pub fn are_laid(&self)
-        ensures { AreLaid self.now.blocks self.now.pieces }
+        ensures { AreLaid self.now.blocks self.now.contents }
     {
         let _blocks = &self.blocks;
     }
@@ -81,9 +82,9 @@ impl ChunkLayout {
 
     /// The bytes of a chunk that has `len` of them.
     pub fn get(&self, place: Place, len: usize) -> &[u8]
-        requires there { IsTrue (has self.now.pieces place) }
-        requires len { length (piece_at self.now.pieces place).bytes ≡ len }
-        ensures value { result.now ≡ (piece_at self.now.pieces place).bytes }
+        requires there { IsTrue (has self.now.contents place) }
+        requires len { length (contents_at self.now.contents place).bytes ≡ len }
+        ensures value { result.now ≡ (contents_at self.now.contents place).bytes }
         ensures len { length result.now ≡ len }
     {
         read_bytes(
@@ -96,10 +97,10 @@ impl ChunkLayout {
 
     /// Lends the bytes of a chunk that has `len` of them, to be changed.
     pub fn get_mut(&mut self, place: Place, len: usize) -> &mut [u8]
-        requires there { IsTrue (has self.old.pieces place) }
-        requires len { length (piece_at self.old.pieces place).bytes ≡ len }
-        ensures* writes_back { sem 𝓛 (lends_piece self.entry place result) }
-        ensures value { result.now ≡ (piece_at self.old.pieces place).bytes }
+        requires there { IsTrue (has self.old.contents place) }
+        requires len { length (contents_at self.old.contents place).bytes ≡ len }
+        ensures* writes_back { sem 𝓛 (lends_contents self.entry place result) }
+        ensures value { result.now ≡ (contents_at self.old.contents place).bytes }
         ensures len { length result.now ≡ len }
     {
         let block = self.blocks[place.block as usize].as_mut().unwrap();
@@ -108,9 +109,9 @@ impl ChunkLayout {
 
     /// Writes `bytes` to a chunk, behind the first `kept` of its own. What stood behind these is gone.
     pub fn put(&mut self, place: Place, kept: usize, bytes: &[u8], is_live: bool)
-        requires there { IsTrue (has self.old.pieces place) }
-        requires kept { kept ≤ length (piece_at self.old.pieces place).bytes }
-        requires room { kept + length bytes.now ≤ (piece_at self.old.pieces place).room }
+        requires there { IsTrue (has self.old.contents place) }
+        requires kept { kept ≤ length (contents_at self.old.contents place).bytes }
+        requires room { kept + length bytes.now ≤ (contents_at self.old.contents place).room }
         ensures { self.new ≡ put_at self.old place kept bytes.now is_live }
     {
         write_bytes(
@@ -128,9 +129,9 @@ impl ChunkLayout {
 
     /// Writes `n` zeros to a live chunk, behind the first `kept` of its bytes. What stood behind these is gone.
     pub fn put_zeros(&mut self, place: Place, kept: usize, n: usize)
-        requires there { IsTrue (has self.old.pieces place) }
-        requires kept { kept ≤ length (piece_at self.old.pieces place).bytes }
-        requires room { kept + n ≤ (piece_at self.old.pieces place).room }
+        requires there { IsTrue (has self.old.contents place) }
+        requires kept { kept ≤ length (contents_at self.old.contents place).bytes }
+        requires room { kept + n ≤ (contents_at self.old.contents place).room }
         ensures { self.new ≡ put_at self.old place kept (zeros n) true }
     {
         write_zeros(
@@ -151,8 +152,8 @@ impl ChunkLayout {
         requires room { 1 ≤ room }
         requires inside { place.offset + room ≤ size_at self.old.blocks place.block }
         requires after { self.old.head ≤ place.offset }
-        requires clear { Every (IsClear self.old.head place room) self.old.pieces }
-        ensures { self.new ≡ with_piece self.old (record { place = place; room = room; is_live = true; bytes = [] }) }
+        requires clear { Every (IsClear self.old.head place room) self.old.contents }
+        ensures { self.new ≡ with_contents self.old (record { place = place; room = room; is_live = true; bytes = [] }) }
     {
         write_header(&mut self.blocks, self.head, place, room);
         self.notes.add(&ChunkEvent::Chunk(ChunkHeader {
@@ -166,8 +167,8 @@ impl ChunkLayout {
     /// How many bytes a chunk has room for, as its header says.
     pub fn room(&self, place: Place) -> usize
         requires headers { self.now.head ≡ HEADER }
-        requires there { IsTrue (has self.now.pieces place) }
-        ensures { result ≡ (piece_at self.now.pieces place).room }
+        requires there { IsTrue (has self.now.contents place) }
+        ensures { result ≡ (contents_at self.now.contents place).room }
     {
         let blocks = &self.blocks;
         let at = place.offset as usize - HEADER;
@@ -176,7 +177,7 @@ impl ChunkLayout {
 
     /// Gives up a chunk. The room is not used again before its block is given back.
     pub fn forget(&mut self, place: Place)
-        ensures { self.new ≡ record { head = self.old.head; blocks = self.old.blocks; pieces = without self.old.pieces place } }
+        ensures { self.new ≡ record { head = self.old.head; blocks = self.old.blocks; contents = without self.old.contents place } }
     {
         self.notes.add(&ChunkEvent::Gone(place));
     }
@@ -190,7 +191,7 @@ impl ChunkLayout {
         ensures needed { IfOk result (λ block. block ≡ length self.old.blocks → AreTaken self.old.blocks) }
         ensures name { IfOk result (λ block. block < 2 ^ 32) }
         ensures taken { IfOk result (λ block. self.new
-            ≡ record { head = self.old.head; blocks = with_block self.old.blocks block len; pieces = self.old.pieces }) }
+            ≡ record { head = self.old.head; blocks = with_block self.old.blocks block len; contents = self.old.contents }) }
         ensures refused { OnErr result (self.new ≡ self.old) }
     {
         let block = RawBlock::new(self.alloc, len)?;
@@ -205,7 +206,7 @@ impl ChunkLayout {
         ensures { self.new ≡ record {
           head = self.old.head;
           blocks = slice_set self.old.blocks block None;
-          pieces = outside self.old.pieces
+          contents = outside self.old.contents
               block;
         } }
     {
@@ -216,7 +217,7 @@ impl ChunkLayout {
 
     /// Gives up all chunks. Their room is not used again before their blocks are given back.
     fn forget_all(&mut self)
-        ensures { self.new ≡ record { head = self.old.head; blocks = self.old.blocks; pieces = [] } }
+        ensures { self.new ≡ record { head = self.old.head; blocks = self.old.blocks; contents = [] } }
     {
         self.notes.add(&ChunkEvent::Cleared);
     }
@@ -230,7 +231,7 @@ impl ChunkLayout {
 
     /// Gives up all chunks, and gives all blocks back but the one to keep.
     pub fn clear(&mut self, keep: Option<u32>)
-        ensures { self.new ≡ record { head = self.old.head; blocks = only self.old.blocks keep; pieces = [] } }
+        ensures { self.new ≡ record { head = self.old.head; blocks = only self.old.blocks keep; contents = [] } }
     {
         self.forget_all();
         for block in 0..self.numbers() {
@@ -243,12 +244,12 @@ impl ChunkLayout {
     /// Copies the first `n` of the `len` bytes of a chunk to another one, which has no other bytes then.
     pub fn copy(&mut self, from: Place, len: usize, to: Place, n: usize)
         requires apart { same_place from to ≡ false }
-        requires from { IsTrue (has self.old.pieces from) }
-        requires to { IsTrue (has self.old.pieces to) }
-        requires len { length (piece_at self.old.pieces from).bytes ≡ len }
+        requires from { IsTrue (has self.old.contents from) }
+        requires to { IsTrue (has self.old.contents to) }
+        requires len { length (contents_at self.old.contents from).bytes ≡ len }
         requires few { n ≤ len }
-        requires room { n ≤ (piece_at self.old.pieces to).room }
-        ensures { self.new ≡ put_at self.old to 0 (take n (piece_at self.old.pieces from).bytes) true }
+        requires room { n ≤ (contents_at self.old.contents to).room }
+        ensures { self.new ≡ put_at self.old to 0 (take n (contents_at self.old.contents from).bytes) true }
     {
         let mut part = [0u8; PART];
         self.put_zeros(to, 0, 0);
@@ -264,10 +265,10 @@ impl ChunkLayout {
 
     /// Makes a live chunk of `len` bytes `n` bytes long: the front that both lengths have is kept, and what is new is zero.
     pub fn resize(&mut self, place: Place, len: usize, n: usize)
-        requires there { IsTrue (has self.old.pieces place) }
-        requires len { length (piece_at self.old.pieces place).bytes ≡ len }
-        requires room { n ≤ (piece_at self.old.pieces place).room }
-        ensures { self.new ≡ put_at self.old place 0 (resized (piece_at self.old.pieces place).bytes n) true }
+        requires there { IsTrue (has self.old.contents place) }
+        requires len { length (contents_at self.old.contents place).bytes ≡ len }
+        requires room { n ≤ (contents_at self.old.contents place).room }
+        ensures { self.new ≡ put_at self.old place 0 (resized (contents_at self.old.contents place).bytes n) true }
     {
         let kept = len.min(n);
         self.put_zeros(place, kept, n - kept);
@@ -276,11 +277,11 @@ impl ChunkLayout {
     /// Gives a live chunk the bytes of another one, of which there are `len`, as far as `n`, and zeros behind these.
     pub fn copy_resized(&mut self, from: Place, len: usize, to: Place, n: usize)
         requires apart { same_place from to ≡ false }
-        requires from { IsTrue (has self.old.pieces from) }
-        requires to { IsTrue (has self.old.pieces to) }
-        requires len { length (piece_at self.old.pieces from).bytes ≡ len }
-        requires room { n ≤ (piece_at self.old.pieces to).room }
-        ensures { self.new ≡ put_at self.old to 0 (resized (piece_at self.old.pieces from).bytes n) true }
+        requires from { IsTrue (has self.old.contents from) }
+        requires to { IsTrue (has self.old.contents to) }
+        requires len { length (contents_at self.old.contents from).bytes ≡ len }
+        requires room { n ≤ (contents_at self.old.contents to).room }
+        ensures { self.new ≡ put_at self.old to 0 (resized (contents_at self.old.contents from).bytes n) true }
     {
         let kept = len.min(n);
         self.copy(from, len, to, kept);

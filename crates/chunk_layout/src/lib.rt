@@ -1,8 +1,8 @@
 //! Chunks that lie in blocks, apart from one another: the account that every kind of memory context keeps.
 //!
-//! A [`ChunkLayout`] owns blocks and knows, in notes that take no memory, which parts of them are chunks. It is seen as
-//! the sizes of its blocks and a list of pieces (`specs/Pieces.antt`): a place, a room, whether the chunk is live, and
-//! the bytes that were written to it. What a call does to the list is its contract; that no two pieces share a byte is
+//! A [`ChunkLayout`] owns blocks and knows, by events that take no memory, which parts of them are chunks. It is seen as
+//! the sizes of its blocks and the contents of its chunks (`specs/Contents.antt`): of each its place, its room, whether it is
+//! live, and the bytes that were written to it. What a call does to them is its contract; that no two chunks share a byte is
 //! kept by every call.
 #![tactic(auto)]
 

@@ -1,6 +1,6 @@
 //! Lists of free chunks, in which each names the next by its own bytes.
 ghost use Rattle.std.specs.Prelude.{◌≡◌, ◌≤◌, Option, Some, None, true, false, [], IsTrue, IfSome, IfNone, length};
-ghost use Rattle.chunk_layout.specs.Pieces.{has, piece_at, put_at};
+ghost use Rattle.chunk_layout.specs.Contents.{has, contents_at, put_at};
 ghost use Rattle.chunk_layout.specs.declared.place.Place.{Place};
 ghost use Rattle.chunk_layout.specs.Links.{place_bytes, link_bytes, IsLink};
 
@@ -51,11 +51,12 @@ fn read_link(bytes: &[u8]) -> Option<Place>
 
 /// Takes the first chunk of a free list, if there is one. It is live then, and has no bytes.
 pub fn take_first(layout: &mut ChunkLayout, first: &mut Option<Place>) -> Option<Place>
-    requires { (place : Place) → first.old ≡ Some place → (IsTrue (has layout.old.pieces place))
-        × (length (piece_at layout.old.pieces place).bytes ≡ 8) }
+    requires { (place : Place) → first.old ≡ Some place → (IsTrue (has layout.old.contents place))
+        × (length (contents_at layout.old.contents place).bytes ≡ 8) }
     ensures none { IfNone result ((first.old ≡ None) × (first.new ≡ None) × (layout.new ≡ layout.old)) }
     ensures some { IfSome result (λ place. (first.old ≡ Some place) × (layout.new ≡ put_at layout.old place 0 [] true)) }
-    ensures next { IfSome result (λ place. (next : Option Place) → IsLink next → (piece_at layout.old.pieces place).bytes ≡ link_bytes next
+    ensures next { IfSome result (λ place. (next : Option Place) → IsLink next → (contents_at layout.old.contents place).bytes
+        ≡ link_bytes next
         → first.new ≡ next) }
 {
     let place = (*first)?;
@@ -67,8 +68,8 @@ pub fn take_first(layout: &mut ChunkLayout, first: &mut Option<Place>) -> Option
 
 /// Puts a chunk in front of a free list.
 pub fn put_first(layout: &mut ChunkLayout, first: &mut Option<Place>, place: Place)
-    requires there { IsTrue (has layout.old.pieces place) }
-    requires room { 8 ≤ (piece_at layout.old.pieces place).room }
+    requires there { IsTrue (has layout.old.contents place) }
+    requires room { 8 ≤ (contents_at layout.old.contents place).room }
     ensures freed { layout.new ≡ put_at layout.old place 0 (link_bytes first.old) false }
     ensures first { first.new ≡ Some place }
 {

@@ -5,7 +5,7 @@ ghost use Rattle.chunk_layout.specs.Marks.{IsArranged};
 use std::alloc::{AllocError, Global};
 use std::marker::Model;
 
-/// Marks on the numbers below a bound. Each call but `add` takes no memory, and each but `clear` takes constant time.
+/// Marks on the numbers below a bound. Each call takes constant time, `add` on average; `add` alone takes memory.
 ///
 /// The marked numbers stand before the others in a list of all, and each number knows its place there. (P. Briggs and
 /// L. Torczon, An efficient representation for sparse sets, 1993.)

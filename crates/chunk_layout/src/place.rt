@@ -1,7 +1,7 @@
 //! Where a chunk lies, and its name.
 ghost use Rattle.std.specs.Prelude.{◌≡◌, ◌<◌, ◌^◌, length};
 ghost use Rattle.std.specs.Int.{w32, to_be_bytes};
-ghost use Rattle.chunk_layout.specs.Pieces.{name_bytes, place_of};
+ghost use Rattle.chunk_layout.specs.Contents.{name_bytes, place_of};
 
 /// Where the bytes of a chunk begin: the number of its block, and an offset in bytes from the block's start.
 #[derive(Clone, Copy, Debug, PartialEq, Eq)]
@@ -76,7 +76,7 @@ impl ChunkName {
     }
 }
 
-/// What is noted of a chunk: where it lies, how many bytes it has room for, how many of these were written, and whether
+/// What is after_event of a chunk: where it lies, how many bytes it has room for, how many of these were written, and whether
 /// somebody has its name.
 #[derive(Clone, Copy)]
 pub struct ChunkHeader {

@@ -1,6 +1,6 @@
 -- The words that the proofs cite, of this crate and of those below, in one place to import them from.
 pub use Rattle.chunk_contexts.specs.Chunks.{Adds, IsRefused, IsResizeRefused, IsResized, Keeps, KeepsOthers, chunk_of}
-pub use Rattle.chunk_layout.specs.Pieces.{piece_at, place_of, resized, without}
+pub use Rattle.chunk_layout.specs.Contents.{contents_at, place_of, resized, without}
 pub use Rattle.list_laws.specs.Outcomes.{always_err}
 pub use Rattle.context_tree.specs.Contexts.{blocks_of, can_free, chunk_bytes, chunks_of, growth_of, has_chunk, held_by, may_lie_in}
 pub use Rattle.context_tree.specs.Contexts.{new_context, no_context, refusal_of, room_in, with_bytes, with_chunk, with_resized}

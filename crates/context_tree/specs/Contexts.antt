@@ -1,7 +1,7 @@
 -- A context of any kind: what is said of the four kinds, by its kind.
 -- (PostgreSQL 17, src/backend/utils/mmgr/README: contexts of several kinds with the same calls; all else is our own)
 use Rattle.std.specs.Prelude.{◌≡◌, ℕ, ◌*◌, nat_lt, Bool, true, false, List, Option, None, length}
-use Rattle.chunk_layout.specs.Pieces.{ChunkContents, total}
+use Rattle.chunk_layout.specs.Contents.{ChunkContents, total}
 use Rattle.chunk_layout.specs.declared.place.Place.{Place}
 use Rattle.chunk_layout.specs.declared.place.ChunkName.{ChunkName}
 use Rattle.chunk_layout.specs.declared.blocks.TheConstants.{HEADER}

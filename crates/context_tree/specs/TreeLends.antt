@@ -1,7 +1,7 @@
 -- What a tree ends as, once a `&mut` to a chunk of one of its contexts has ended.
 use Rattle.std.specs.Prelude.{ℕ, List}
 use Rattle.std.specs.Borrow.{Fml, MutBor, Array, Lends, u8}
-use Rattle.chunk_layout.specs.Pieces.{place_of}
+use Rattle.chunk_layout.specs.Contents.{place_of}
 use Rattle.chunk_layout.specs.declared.place.ChunkName.{ChunkName}
 use Rattle.context_tree.specs.Contexts.{with_bytes}
 use Rattle.context_tree.specs.Tree.{TreeState, context_at, with_context}

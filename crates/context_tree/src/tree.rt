@@ -3,7 +3,7 @@ ghost use Rattle.std.specs.Prelude.{◌≡◌, ◌+◌, ◌*◌, ◌-◌, ◌<�
 ghost use Rattle.std.specs.Prelude.{IsTrue, MatchResult, length, get_or, is_some, slice_set};
 ghost use Rattle.smallvec.specs.SmallVec.{HasRoomFor};
 ghost use Rattle.block_memory.specs.Cells.{zeros};
-ghost use Rattle.chunk_layout.specs.Pieces.{place_of, without, piece_at, resized, total, AreLaid};
+ghost use Rattle.chunk_layout.specs.Contents.{place_of, without, contents_at, resized, total, AreLaid};
 ghost use Rattle.chunk_contexts.specs.Chunks.{lengths, chunk_of, Adds, Keeps, KeepsOthers, IsRefused, IsResizeRefused, IsResized};
 ghost use Rattle.chunk_contexts.specs.declared.error.ContextError.TheVariants.{NoMemory, NotSupported};
 ghost use Rattle.context_tree.specs.Contexts.{chunks_of, blocks_of, room_in, refusal_of, growth_of, can_free, may_lie_in, with_chunk};
@@ -400,7 +400,8 @@ impl Tree {
         ensures grown { OnOk result (held_by (context_at self.new id) ≡ held_by (context_at self.old id)
             + growth_of (context_at self.old id) n) }
         ensures refused { IfErr result
-            (IsRefusedBy (is_there self.old id) (IsRefused (refusal_of (context_at self.old id) n) (growth_of (context_at self.old id) n))) }
+            (IsRefusedBy (is_there self.old id) (IsRefused (refusal_of (context_at self.old id) n) (growth_of
+            (context_at self.old id) n))) }
         ensures unchanged { OnErr result (self.new ≡ self.old) }
     {
         self.check(id)?;
@@ -444,22 +445,22 @@ impl Tree {
         ensures resized { IfOk result (λ new. IsResized (chunks_of (context_at self.old id)) (chunks_of (context_at self.new id)) name new
             n) }
         ensures keeps { IfOk result (KeepsOthers (chunks_of (context_at self.old id)) (chunks_of (context_at self.new id)) name) }
-        ensures stays { IfOk result (λ new. n ≤ (piece_at (chunks_of (context_at self.old id)) (place_of name)).room → self.new
+        ensures stays { IfOk result (λ new. n ≤ (contents_at (chunks_of (context_at self.old id)) (place_of name)).room → self.new
             ≡ with_context self.old id (with_resized (context_at self.old id) (place_of name)
             (resized (chunk_bytes (context_at self.old id) name) n))) }
-        ensures moved { IfOk result (λ new. (piece_at (chunks_of (context_at self.old id)) (place_of name)).room < n → self.new
+        ensures moved { IfOk result (λ new. (contents_at (chunks_of (context_at self.old id)) (place_of name)).room < n → self.new
             ≡ with_context self.old id
             (without_chunk (with_chunk (context_at self.old id) n (chunk_of new (room_in (context_at self.old id) n)
             (resized (chunk_bytes (context_at self.old id) name) n))) (place_of name))) }
-        ensures lies { IfOk result (λ new. (piece_at (chunks_of (context_at self.old id)) (place_of name)).room < n
+        ensures lies { IfOk result (λ new. (contents_at (chunks_of (context_at self.old id)) (place_of name)).room < n
             → may_lie_in (context_at self.old id) n new.block) }
-        ensures grown { IfOk result (λ new. (piece_at (chunks_of (context_at self.old id)) (place_of name)).room < n
+        ensures grown { IfOk result (λ new. (contents_at (chunks_of (context_at self.old id)) (place_of name)).room < n
             → held_by (with_chunk (context_at self.old id) n (chunk_of new (room_in (context_at self.old id) n)
             (resized (chunk_bytes (context_at self.old id) name) n))) ≡ held_by (context_at self.old id)
             + growth_of (context_at self.old id) n) }
         ensures refused { IfErr result
             (IsRefusedBy (is_there self.old id) (IsResizeRefused (can_free (context_at self.old id)) (refusal_of (context_at self.old id) n)
-            (growth_of (context_at self.old id) n) (piece_at (chunks_of (context_at self.old id)) (place_of name)).room n)) }
+            (growth_of (context_at self.old id) n) (contents_at (chunks_of (context_at self.old id)) (place_of name)).room n)) }
         ensures unchanged { OnErr result (self.new ≡ self.old) }
     {
         self.check(id)?;

@@ -1,23 +1,24 @@
 -- Arrays in a set that change.
 use Rattle.std.specs.Prelude.{◌≡◌, refl, ℕ, true, false, cond, if◌then◌else◌, List, [], ◌∷◌, length, IsTrue}
 use Rattle.std.proofs.Common.{ap, arith}
-use Rattle.group_table.proofs.Words.{ChunkContents, place_of, same_place, is_at, piece_at, rewritten, with_bytes_of, Place, ChunkName}
+use Rattle.group_table.proofs.Words.{ChunkContents, place_of, same_place, is_at, contents_at, rewritten, with_bytes_of, Place, ChunkName}
 use Rattle.group_table.proofs.Words.{SetState, set_wrote, chunks_of, has_chunk, chunk_bytes, with_bytes, Context, AllocSet, IsRewritten}
 use Rattle.chunk_contexts.specs.Chunks.{KeepsOthers}
 use Rattle.std.proofs.lemmas.Bool.Decides.{nat_tests}
 use Rattle.std.proofs.lemmas.Grind.{common_steps}
 
 -- a chunk that is written over keeps its room
-room_kept : (ps : List ChunkContents) (place : Place) (bytes : List ℕ) (q : Place) → (piece_at (rewritten ps place bytes) q).room
-    ≡ (piece_at ps q).room
+room_kept : (ps : List ChunkContents) (place : Place) (bytes : List ℕ) (q : Place) → (contents_at (rewritten ps place bytes) q).room
+    ≡ (contents_at ps q).room
 room_kept [] place bytes q = refl
 room_kept (p ∷ ps) place bytes q =
-    elim (is_at place p) as (λ b. (piece_at (if b then (with_bytes_of p bytes ∷ ps) else (p ∷ rewritten ps place bytes)) q).room
-    ≡ (piece_at (p ∷ ps) q).room) [
-      | true ↦ elim (is_at q p) as (λ b. (cond b (with_bytes_of p bytes) (piece_at ps q)).room ≡ (cond b p (piece_at ps q)).room)
+    elim (is_at place p) as (λ b. (contents_at (if b then (with_bytes_of p bytes ∷ ps) else (p ∷ rewritten ps place bytes)) q).room
+    ≡ (contents_at (p ∷ ps) q).room) [
+      | true ↦ elim (is_at q p) as (λ b. (cond b (with_bytes_of p bytes) (contents_at ps q)).room ≡ (cond b p (contents_at ps q)).room)
           [ true ↦ refl | false ↦ refl ]
-      | false ↦ let rest = room_kept ps place bytes q in elim (is_at q p) as (λ b. (cond b p (piece_at (rewritten ps place bytes) q)).room
-          ≡ (cond b p (piece_at ps q)).room) [ true ↦ refl | false ↦ rest ]
+      | false ↦ let rest = room_kept ps place bytes q in elim (is_at q p) as (λ b. (cond b p (contents_at
+          (rewritten ps place bytes) q)).room
+          ≡ (cond b p (contents_at ps q)).room) [ true ↦ refl | false ↦ rest ]
     ]
 
 pub rewritten_once : (c : Context) (s : SetState) (name : ChunkName) (bytes : List ℕ) → c ≡ AllocSet s

@@ -3,7 +3,7 @@ use Rattle.std.specs.Prelude.{◌≡◌, ◌≢◌, refl, ℕ, zero, suc, ◌+�
 use Rattle.std.specs.Prelude.{if◌then◌else◌, List, [], ◌∷◌, Option, Some, None, get_or, slice_set, is_some, unwrap_or}
 use Rattle.std.proofs.Common.{inl, inr, sym, ◌∙◌, ap, subst, arith, add-one}
 use Rattle.std.proofs.lemmas.Bool.{cases_lt, lt-ltb, le-ltb, le-leb, eq-eqb, ne_eqb, false≢true}
-use Rattle.group_table.proofs.Words.{ChunkContents, place_of, piece_at, size_at, total, with_block, ChunkName, rounded, rooms, room_of}
+use Rattle.group_table.proofs.Words.{ChunkContents, place_of, contents_at, size_at, total, with_block, ChunkName, rounded, rooms, room_of}
 use Rattle.group_table.proofs.Words.{class_of, SetState, new_set, set_room, set_growth, set_taken, set_freed, growth_by, taken_by, grown}
 use Rattle.group_table.proofs.Words.{buckets, array_block, bucket_blocks, buckets_in, buckets_for, most_buckets, IsFirst, HasSpace}
 use Rattle.group_table.proofs.Words.{HasFirst, IsArrayHeld, HoldsArray, AreArraysHeld, LARGEST}
@@ -222,9 +222,9 @@ size_without bs block other differ = ap (λ o. unwrap_or o 0) (Rattle.std.proofs
 
 -- there was none
 module _ (s m : SetState) (old name : ChunkName) (n : ℕ) (is : AreArraysHeld s (Some old) name n) (same : m.blocks ≡ s.blocks)
-    (room : (piece_at m.chunks (place_of old)).room ≡ set_room old.len) where
+    (room : (contents_at m.chunks (place_of old)).room ≡ set_room old.len) where
   abbrev r : ℕ
-  r = (piece_at m.chunks (place_of old)).room
+  r = (contents_at m.chunks (place_of old)).room
 
   abbrev freed : SetState
   freed = set_freed m (place_of old)

@@ -3,7 +3,7 @@ use Rattle.std.specs.Prelude.{◌≡◌, refl, ℕ, ◌+◌, ◌*◌, ◌<◌, �
 use Rattle.std.specs.Prelude.{slice_get, slice_set, is_some, IsTrue}
 use Rattle.std.proofs.Common.{sym, ◌∙◌, ap, subst, arith, rules}
 use Rattle.std.proofs.lemmas.Bool.{leb-true, false≢true}
-use Rattle.group_table.proofs.Words.{ChunkContents, same_place, place_of, piece_at, size_at, total, Place, ChunkName, is_live, bytes_of}
+use Rattle.group_table.proofs.Words.{ChunkContents, same_place, place_of, contents_at, size_at, total, Place, ChunkName, is_live, bytes_of}
 use Rattle.group_table.proofs.Words.{SetState, set_room, set_freed, chunks_of, has_chunk, chunk_bytes, without_chunk, held_by, TreeState}
 use Rattle.group_table.proofs.Words.{context_at, with_context, Context, AllocSet, bucket_at, HasAll, TableState, IsSetWith, IsBump}
 use Rattle.group_table.proofs.Words.{IsSlabOf, IsFirst, IsBesideFirst, HasArray, AreGroups, IsPlaced, IsStanding, IsArrayIn, IsArrayOf}
@@ -18,7 +18,7 @@ use Rattle.group_table.proofs.StandLaws.{SetOf, set_of, set_with}
 use Rattle.group_table.proofs.TreeFacts.{at_same, placed_kept, same_links, same_number, only_twice}
 use Rattle.group_table.proofs.InsertLaws.{keys_left, states_left}
 use Rattle.std.proofs.lemmas.Bool.Decides.{nat_tests}
-use Rattle.chunk_layout.specs.PieceLaws.{piece_at-without, same_place-sym}
+use Rattle.chunk_layout.specs.ContentsLaws.{contents_at-without, same_place-sym}
 use Rattle.std.proofs.lemmas.Grind.{common_steps}
 
 -- two places are the same either way
@@ -189,19 +189,19 @@ module _ {H : Type 0} (hash_of : H → List ℕ → ℕ) (t : TableState H) (nam
       blocks_same : m.blocks ≡ s.blocks
       blocks_same = written.blocks ∙ ap (λ (x : SetState). x.blocks) same_set
 
-      room_at : (q : Place) → (piece_at m.chunks q).room ≡ (piece_at s.chunks q).room
-      room_at q = written.rooms q ∙ ap (λ (x : SetState). (piece_at x.chunks q).room) same_set
+      room_at : (q : Place) → (contents_at m.chunks q).room ≡ (contents_at s.chunks q).room
+      room_at q = written.rooms q ∙ ap (λ (x : SetState). (contents_at x.chunks q).room) same_set
 
       apart : same_place (place_of old) (place_of name) ≡ false
       apart = same_back (place_of name) (place_of old) (spare.apart old array)
 
       -- a block that goes back is not the first
-      freed_by : (large : Bool) → nat_lt LARGEST (piece_at m.chunks (place_of old)).room ≡ large → (block : ℕ) → s.first ≡ Some block
+      freed_by : (large : Bool) → nat_lt LARGEST (contents_at m.chunks (place_of old)).room ≡ large → (block : ℕ) → s.first ≡ Some block
           → size_at (cond large (slice_set m.blocks old.block None) m.blocks) block ≡ 16384
       freed_by true is_large block here =
-          let room : (piece_at m.chunks (place_of old)).room ≡ set_room old.len = room_at (place_of old) ∙ was.beside.room in
+          let room : (contents_at m.chunks (place_of old)).room ≡ set_room old.len = room_at (place_of old) ∙ was.beside.room in
           let long : 8192 < old.len = not_short
-          (λ short. omega (arith, leb-true 8193 (piece_at m.chunks (place_of old)).room is_large, room, short_room old.len short)) in
+          (λ short. omega (arith, leb-true 8193 (contents_at m.chunks (place_of old)).room is_large, room, short_room old.len short)) in
           size_without m.blocks old.block block (λ same. was.beside.own long (here ∙ ap (λ x. Some x) same))
           ∙ ap (λ bs. size_at bs block) blocks_same ∙ set.with.0.size block here
         where
@@ -212,14 +212,14 @@ module _ {H : Type 0} (hash_of : H → List ℕ → ℕ) (t : TableState H) (nam
       first_left : IsFirst freed
       first_left = record {
         none = λ gone_first. absurd (false≢true (sym (ap is_some (sym first_same ∙ gone_first)) ∙ was.first));
-        size = λ block here. freed_by (nat_lt LARGEST (piece_at m.chunks (place_of old)).room) refl block (sym first_same ∙ here);
+        size = λ block here. freed_by (nat_lt LARGEST (contents_at m.chunks (place_of old)).room) refl block (sym first_same ∙ here);
       }
 
       beside_left : IsBesideFirst freed name
       beside_left =
           let spared = (spare_at s set.is).1 in
           record {
-            room = ap (λ (x : ChunkContents). x.room) (piece_at-without m.chunks (place_of old) (place_of name) apart)
+            room = ap (λ (x : ChunkContents). x.room) (contents_at-without m.chunks (place_of old) (place_of name) apart)
                 ∙ room_at (place_of name) ∙ spared.room;
             own = λ long here. spared.own long (sym first_same ∙ here);
           }
@@ -238,7 +238,7 @@ module _ {H : Type 0} (hash_of : H → List ℕ → ℕ) (t : TableState H) (nam
       less_held =
           let now_held : held_by (context_at after t.buckets) ≡ total freed.blocks = ap held_by is_freed in
           let was_held : held_by b ≡ total m.blocks = ap held_by set.is ∙ ap total (sym blocks_same) in
-          omega (arith, now_held, was_held, less (nat_lt LARGEST (piece_at m.chunks (place_of old)).room))
+          omega (arith, now_held, was_held, less (nat_lt LARGEST (contents_at m.chunks (place_of old)).room))
         where
           less : (large : Bool) → total (cond large (slice_set m.blocks old.block None) m.blocks) ≤ total m.blocks
           less true = omega (arith, total_without m.blocks old.block)

@@ -4,7 +4,7 @@ use Rattle.std.specs.Prelude.{slice_get, is_some, unwrap_or, IsTrue}
 use Rattle.std.proofs.Common.{inl, inr, sym, ◌∙◌, ap, subst, arith, rules}
 use Rattle.std.proofs.lemmas.Bool.{cases_eq, false≢true}
 use Rattle.std.proofs.lemmas.List.{length_push}
-use Rattle.group_table.proofs.Words.{same_place, place_of, piece_at, ChunkName, SetState, has_chunk, chunk_bytes, TreeState, context_at}
+use Rattle.group_table.proofs.Words.{same_place, place_of, contents_at, ChunkName, SetState, has_chunk, chunk_bytes, TreeState, context_at}
 use Rattle.group_table.proofs.Words.{Context, bucket_at, IsIndex, Holds, Puts, TableState, IsSlot, HasNo, IsSetWith, IsBump, IsSlabOf}
 use Rattle.group_table.proofs.Words.{IsFirst, HasArray, AreGroups, IsStanding, IsArrayIn, IsArrayOf, bucket_of, slot_of, IsRewritten}
 use Rattle.group_table.proofs.Words.{IsArrayAt, OnlyIn, HasNext, IsNext, bytes_at, count_of, with_slot, Bucket, Slot}
@@ -195,7 +195,7 @@ module _ {H : Type 0} (hash_of : H → List ℕ → ℕ) (t : TableState H) (slo
           );
           first = ap is_some first_same ∙ was.first;
           beside = record {
-            room = written.rooms (place_of name) ∙ ap (λ (x : SetState). (piece_at x.chunks (place_of name)).room) same_set
+            room = written.rooms (place_of name) ∙ ap (λ (x : SetState). (contents_at x.chunks (place_of name)).room) same_set
                 ∙ was.beside.room;
             own = λ long here. was.beside.own long (sym first_same ∙ here);
           };

@@ -3,7 +3,8 @@ use Rattle.std.specs.Prelude.{◌≡◌, ◌≢◌, refl, ℕ, zero, suc, ◌+�
 use Rattle.std.specs.Prelude.{unwrap_or, is_some}
 use Rattle.std.proofs.Common.{inl, inr, sym, ◌∙◌, ap, subst, arith}
 use Rattle.std.proofs.lemmas.Bool.{leb-true, false≢true, false_from_ne_true, cond-true}
-use Rattle.group_table.proofs.Words.{ChunkContents, place_of, is_at, has, piece_at, size_at, total, with_block, ChunkName, over_most, rooms}
+use Rattle.group_table.proofs.Words.{ChunkContents, place_of, is_at, has, contents_at, size_at, total, with_block, ChunkName, over_most}
+use Rattle.group_table.proofs.Words.{rooms}
 use Rattle.group_table.proofs.Words.{room_of, class_of, SetState, new_set, set_room, set_growth, set_taken, taken_by, dedicated, IsFirst}
 use Rattle.group_table.proofs.Words.{IsBesideFirst, HasFirst, LARGEST}
 use Rattle.chunk_contexts.specs.Chunks.{chunk_of}
@@ -54,8 +55,8 @@ module _ (s : SetState) (n : ℕ) (name : ChunkName) (bytes : List ℕ) where
   abbrev pub taken : SetState
   taken = set_taken s n p
 
-  room_of_new : (chunks : List ChunkContents) → (piece_at (p ∷ chunks) (place_of name)).room ≡ set_room n
-  room_of_new chunks = ap (λ (x : ChunkContents). x.room) (cond-true (is_at (place_of name) p) p (piece_at chunks (place_of name))
+  room_of_new : (chunks : List ChunkContents) → (contents_at (p ∷ chunks) (place_of name)).room ≡ set_room n
+  room_of_new chunks = ap (λ (x : ChunkContents). x.room) (cond-true (is_at (place_of name) p) p (contents_at chunks (place_of name))
       (place-same (place_of name)))
 
   -- one with a block of its own
@@ -81,7 +82,7 @@ module _ (s : SetState) (n : ℕ) (name : ChunkName) (bytes : List ℕ) where
 
     pub large_beside : IsBesideFirst taken name
     large_beside = record {
-      room = ap (λ ps. (piece_at ps (place_of name)).room) large_chunks ∙ room_of_new s.chunks ∙ ap set_room (sym len);
+      room = ap (λ ps. (contents_at ps (place_of name)).room) large_chunks ∙ room_of_new s.chunks ∙ ap set_room (sym len);
       own = λ long is. not_first s name.block (p.room + 8) first sum (sym large_same ∙ is);
     }
 

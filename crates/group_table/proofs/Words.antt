@@ -7,8 +7,8 @@ pub use Rattle.chunk_contexts.specs.Rooms.{over_most, rounded}
 pub use Rattle.chunk_contexts.specs.Set.{SetState, dedicated, growth_by, new_set, set_freed, set_growth, set_reset, set_room, set_taken}
 pub use Rattle.chunk_contexts.specs.Set.{set_wrote, taken_by}
 pub use Rattle.chunk_contexts.specs.declared.rooms.TheConstants.{LARGEST, MOST}
-pub use Rattle.chunk_layout.specs.Pieces.{ChunkContents, has, is_at, only, piece_at, place_of, rewritten, same_place, size_at, total}
-pub use Rattle.chunk_layout.specs.Pieces.{with_block, with_bytes_of}
+pub use Rattle.chunk_layout.specs.Contents.{ChunkContents, has, is_at, only, contents_at, place_of, rewritten, same_place, size_at, total}
+pub use Rattle.chunk_layout.specs.Contents.{with_block, with_bytes_of}
 pub use Rattle.chunk_layout.specs.declared.place.ChunkName.{ChunkName}
 pub use Rattle.chunk_layout.specs.declared.place.Place.{Place}
 pub use Rattle.context_tree.specs.Contexts.{IsCounted, blocks_of, chunk_bytes, chunks_of, growth_of, has_chunk, held_by, kind_refusal}

@@ -1,7 +1,7 @@
 -- Arrays of buckets in a set of a tree.
 use Rattle.std.specs.Prelude.{◌≡◌, ℕ, ◌+◌, ◌-◌, ◌*◌, ◌/◌, ◌<◌, ◌≤◌, List, [], ◌∷◌, ◌++◌, Option, Some, None, length, is_some, IsTrue, true}
 use Rattle.std.specs.Prelude.{false}
-use Rattle.chunk_layout.specs.Pieces.{same_place, place_of, piece_at}
+use Rattle.chunk_layout.specs.Contents.{same_place, place_of, contents_at}
 use Rattle.chunk_layout.specs.declared.place.Place.{Place}
 use Rattle.chunk_layout.specs.declared.place.ChunkName.{ChunkName}
 use Rattle.chunk_contexts.specs.Chunks.{KeepsOthers}
@@ -27,7 +27,7 @@ pub record IsRewritten (before after : Context) (name : ChunkName) : Type 0 wher
   pub left : new.left ≡ old.left
   pub next : new.next ≡ old.next
   pub first : new.first ≡ old.first
-  pub rooms : (place : Place) → (piece_at new.chunks place).room ≡ (piece_at old.chunks place).room
+  pub rooms : (place : Place) → (contents_at new.chunks place).room ≡ (contents_at old.chunks place).room
   pub lives : IsTrue (has_chunk after name)
   pub keeps : KeepsOthers (chunks_of before) (chunks_of after) name name
 

@@ -1,6 +1,6 @@
 -- What the contexts of a table hold, as it is counted by its keys.
 use Rattle.std.specs.Prelude.{◌≡◌, ℕ, ◌+◌, ◌*◌, ◌<◌, nat_le, Bool, false, List, [], ◌∷◌, Option, Some, None, map, length}
-use Rattle.chunk_layout.specs.Pieces.{size_at, total}
+use Rattle.chunk_layout.specs.Contents.{size_at, total}
 use Rattle.chunk_layout.specs.declared.place.ChunkName.{ChunkName}
 use Rattle.chunk_contexts.specs.Rooms.{rounded}
 use Rattle.chunk_contexts.specs.Run.{RunState}

@@ -1,7 +1,7 @@
 -- What is true of a table and the tree in which its contexts are.
 use Rattle.std.specs.Prelude.{◌≡◌, ◌≢◌, ℕ, ◌*◌, ◌/◌, ◌<◌, ◌≤◌, ◌⊎◌, true, false, List, [], Option, Some, None, length, get_or, slice_get}
 use Rattle.std.specs.Prelude.{is_some, IsTrue}
-use Rattle.chunk_layout.specs.Pieces.{same_place, place_of, piece_at, size_at, total}
+use Rattle.chunk_layout.specs.Contents.{same_place, place_of, contents_at, size_at, total}
 use Rattle.chunk_layout.specs.declared.place.ChunkName.{ChunkName}
 use Rattle.chunk_contexts.specs.Chunks.{is_live, bytes_of}
 use Rattle.chunk_contexts.specs.Set.{SetState, new_set, set_room}
@@ -52,7 +52,7 @@ pub record IsFirst (s : SetState) : Type 0 where
 
 -- a chunk has the room of its class; and one that has a block of its own is not in the first block
 pub record IsBesideFirst (s : SetState) (name : ChunkName) : Type 0 where
-  pub room : (piece_at s.chunks (place_of name)).room ≡ set_room name.len
+  pub room : (contents_at s.chunks (place_of name)).room ≡ set_room name.len
   pub own : LARGEST < name.len → s.first ≢ Some name.block
 
 -- the bucket of a group, whose key is a chunk of this context; and the slot of a bucket's group

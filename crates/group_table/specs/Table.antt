@@ -8,7 +8,7 @@ use Rattle.context_tree.specs.declared.links.ContextId.{ContextId}
 use Rattle.group_table.specs.declared.table.Slot.{Slot}
 
 -- the context below which it has its own, and these; how many bytes a state has; what hashes its keys; the name of the bucket
--- array, if there is one; the groups in the order in which they came; and how many more can be noted without memory
+-- array, if there is one; the groups in the order in which they came; and how many more can be after_event without memory
 pub record TableState (H : Type 0) : Type 0 where
   pub parent : ContextId
   pub buckets : ContextId

@@ -1,6 +1,6 @@
 //! Arrays of buckets that are chunks of a context.
 ghost use Rattle.std.specs.Prelude.{◌≡◌, ◌+◌, ◌<◌, ◌≤◌, ℕ, None, false};
-ghost use Rattle.chunk_layout.specs.Pieces.{place_of, same_place};
+ghost use Rattle.chunk_layout.specs.Contents.{place_of, same_place};
 ghost use Rattle.chunk_contexts.specs.Chunks.{KeepsOthers};
 ghost use Rattle.context_tree.specs.Contexts.{chunks_of, without_chunk};
 ghost use Rattle.context_tree.specs.Tree.{context_at, with_context};

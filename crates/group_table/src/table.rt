@@ -2,7 +2,7 @@
 ghost use Rattle.std.specs.Prelude.{◌≡◌, ◌≢◌, ◌*◌, ◌-◌, ◌^◌, ◌+◌, ◌<◌, ◌≤◌, ℕ, List, [], ◌∷◌, ◌++◌, Some, None, MatchOption, IfSome};
 ghost use Rattle.std.specs.Prelude.{IfNone, IfOk, IfErr, OnOk, OnErr, IsTrue, true, false, map, length, slice_get, slice_set};
 ghost use Rattle.std.specs.Prelude.{slice_index_or};
-ghost use Rattle.chunk_layout.specs.Pieces.{place_of};
+ghost use Rattle.chunk_layout.specs.Contents.{place_of};
 ghost use Rattle.chunk_layout.specs.declared.blocks.TheConstants.{HEADER};
 ghost use Rattle.chunk_contexts.specs.declared.rooms.TheConstants.{BLOCK};
 ghost use Rattle.context_tree.specs.Contexts.{has_chunk, chunk_bytes, with_bytes, held_by, growth_of};

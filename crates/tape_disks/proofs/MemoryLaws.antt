@@ -9,7 +9,7 @@ use Rattle.std.proofs.lemmas.Bool.Decides.{nat_tests}
 use Rattle.std.proofs.lemmas.Grind.{common_steps}
 use Rattle.std.proofs.lemmas.List.{places, get_or-replicate, get_or_past}
 use Rattle.block_memory.specs.Cells.{zeros}
-use Rattle.chunk_layout.specs.Pieces.{ChunkContents}
+use Rattle.chunk_layout.specs.Contents.{ChunkContents}
 use Rattle.chunk_layout.specs.declared.place.ChunkName.{ChunkName}
 use Rattle.chunk_contexts.specs.Chunks.{is_live, bytes_of, Keeps, KeepsOthers}
 use Rattle.tape_disks.specs.Memory.{MemoryState, name_of, byte_in, byte_at, IsSameBeside, ArePages}

@@ -3,7 +3,7 @@ use Rattle.std.specs.Prelude.{◌≡◌, ◌≢◌, ℕ, ◌+◌, ◌/◌, ◌%�
 use Rattle.std.specs.Map.{lookup}
 use Rattle.std.specs.BTreeMap.{is_at}
 use Rattle.std.specs.Ordering.{nat_cmp}
-use Rattle.chunk_layout.specs.Pieces.{ChunkContents, place_of, same_place}
+use Rattle.chunk_layout.specs.Contents.{ChunkContents, place_of, same_place}
 use Rattle.chunk_layout.specs.declared.place.ChunkName.{ChunkName}
 use Rattle.chunk_contexts.specs.Chunks.{is_live, bytes_of}
 use Rattle.tape_disks.specs.declared.limits.TheConstants.{PAGE}

@@ -24,19 +24,19 @@ invariant_of-self c =
     ≡ record {
       head = 8;
       blocks = l.blocks;
-      pieces =
-          (record { place = record { block = a.block; offset = a.used + 8 }; room = c.args.room; is_live = true; bytes = [] }) ∷ l.pieces;
+      contents =
+          (record { place = record { block = a.block; offset = a.used + 8 }; room = c.args.room; is_live = true; bytes = [] }) ∷ l.contents;
     } =
     c.carve.ensures.carved
     ∙ (λ i. record {
       head = 8;
       blocks = l.blocks;
-      pieces =
-          (record { place = c.carve.ensures.place i; room = c.args.room; is_live = true; bytes = [] }) ∷ l.pieces;
+      contents =
+          (record { place = c.carve.ensures.place i; room = c.args.room; is_live = true; bytes = [] }) ∷ l.contents;
     }) in
     grind (arith, nat_tests, common_steps, set-carved l x.lists.heads a x.first c.self.invariant.set c.args.room c.requires.known fits)
 
 pub returns-clause-fresh : goal.returns-clause-fresh
 returns-clause-fresh c =
-    ap (λ (s : SetState). has s.chunks c.carve.result) (sym c.self.view_is) ∙ live-none c.self.inside.lists.layout.pieces c.carve.result
+    ap (λ (s : SetState). has s.chunks c.carve.result) (sym c.self.view_is) ∙ live-none c.self.inside.lists.layout.contents c.carve.result
     c.carve.ensures.fresh

@@ -1,6 +1,6 @@
 use Rattle.chunk_contexts.proofs.Laws.{common_steps, nat_tests}
 use Rattle.std.proofs.Common.{◌≡◌, ◌∷◌, ℕ, [], Option, Some, None, true, refl, sym, ap, ◌∙◌, subst, arith}
-use Rattle.chunk_contexts.proofs.Words.{Layout, with_block, Active, rooms_down, cut_pieces, AreLists, IsRest}
+use Rattle.chunk_contexts.proofs.Words.{Layout, with_block, Active, rooms_down, cut_chunks, AreLists, IsRest}
 use Rattle.chunk_contexts.specs.Set.{or_first}
 use Rattle.std.specs.Option.{option_or}
 use Rattle.chunk_contexts.specs.SetFields.{IsSet}
@@ -22,11 +22,12 @@ pub carve-requires-clause-room : goal.carve-requires-clause-room
 carve-requires-clause-room c = omega (arith, in-some c.args.room c.requires.known)
 
 -- the layout after what was left of the block was cut up
-cut-is : (l t m : Layout) (a : Active) (b size : ℕ) → t ≡ record { head = l.head; blocks = with_block l.blocks b size; pieces = l.pieces }
-    → m ≡ record { head = 8; blocks = t.blocks; pieces = cut_pieces rooms_down a.block a.used a.size t.pieces }
-    → m ≡ record { head = 8; blocks = with_block l.blocks b size; pieces = cut_pieces rooms_down a.block a.used a.size l.pieces }
+cut-is : (l t m : Layout) (a : Active) (b size : ℕ) → t
+    ≡ record { head = l.head; blocks = with_block l.blocks b size; contents = l.contents }
+    → m ≡ record { head = 8; blocks = t.blocks; contents = cut_chunks rooms_down a.block a.used a.size t.contents }
+    → m ≡ record { head = 8; blocks = with_block l.blocks b size; contents = cut_chunks rooms_down a.block a.used a.size l.contents }
 cut-is l t m a b size taken cut = cut
-    ∙ ap (λ (z : Layout). record { head = 8; blocks = z.blocks; pieces = cut_pieces rooms_down a.block a.used a.size z.pieces }) taken
+    ∙ ap (λ (z : Layout). record { head = 8; blocks = z.blocks; contents = cut_chunks rooms_down a.block a.used a.size z.contents }) taken
 
 pub carve-requires-clause-rest : goal.carve-requires-clause-rest
 carve-requires-clause-rest c =
@@ -58,15 +59,15 @@ invariant_of-self-2 c =
     ≡ record {
       head = 8;
       blocks = k.layout.blocks;
-      pieces =
-          (record { place = record { block = b; offset = 8 }; room = c.args.room; is_live = true; bytes = [] }) ∷ k.layout.pieces;
+      contents =
+          (record { place = record { block = b; offset = 8 }; room = c.args.room; is_live = true; bytes = [] }) ∷ k.layout.contents;
     } =
     c.carve.ensures.carved
     ∙ (λ i. record {
       head = 8;
       blocks = k.layout.blocks;
-      pieces =
-          (record { place = c.carve.ensures.place i; room = c.args.room; is_live = true; bytes = [] }) ∷ k.layout.pieces;
+      contents =
+          (record { place = c.carve.ensures.place i; room = c.args.room; is_live = true; bytes = [] }) ∷ k.layout.contents;
     }) in
     let first = c.or-self-inside.ensures ∙ or-is x.first b in
     let bounds = c.self.invariant.next in
@@ -85,7 +86,7 @@ returns-clause-fresh c = grind (
   nat_tests,
   common_steps,
   cut-live rooms_down,
-  live-none c.cut_up.new.self.layout.pieces
+  live-none c.cut_up.new.self.layout.contents
       c.carve.result c.carve.ensures.fresh,
 )
 

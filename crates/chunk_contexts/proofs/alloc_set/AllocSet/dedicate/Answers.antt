@@ -1,5 +1,5 @@
 use Rattle.std.proofs.Common.{◌≡◌, ◌+◌, ◌-◌, ◌∷◌, ℕ, None, get_or, [], true, false, sym, ap, ◌∙◌, subst, arith}
-use Rattle.chunk_contexts.proofs.Words.{Layout, ChunkContents, has, with_piece, with_block, size_at, Place, live, free_rooms}
+use Rattle.chunk_contexts.proofs.Words.{Layout, ChunkContents, has, with_contents, with_block, size_at, Place, live, free_rooms}
 use Rattle.chunk_contexts.proofs.Laws.{every_weaker, without-none, common_steps, nat_tests}
 use Rattle.chunk_contexts.specs.Set.{SetState, dedicated}
 use Rattle.chunk_contexts.specs.SetFields.{IsSet}
@@ -21,11 +21,12 @@ pub carve-requires-clause-clear : goal.carve-requires-clause-clear
 carve-requires-clause-clear c = grind (arith, nat_tests, common_steps, every_weaker)
 
 made : (l t m : Layout) (p : ChunkContents) (size : ℕ) → l.head ≡ 8 → t
-    ≡ record { head = l.head; blocks = with_block l.blocks p.place.block size; pieces = l.pieces } → m ≡ with_piece t p
-    → has l.pieces p.place ≡ false
-    → m ≡ record { head = 8; blocks = with_block l.blocks p.place.block size; pieces = p ∷ l.pieces }
-made l t m p size head taken carved none = carved ∙ ap (λ (z : Layout). with_piece z p) taken
-    ∙ (λ i. record { head = head i; blocks = with_block l.blocks p.place.block size; pieces = p ∷ without-none l.pieces p.place none i })
+    ≡ record { head = l.head; blocks = with_block l.blocks p.place.block size; contents = l.contents } → m ≡ with_contents t p
+    → has l.contents p.place ≡ false
+    → m ≡ record { head = 8; blocks = with_block l.blocks p.place.block size; contents = p ∷ l.contents }
+made l t m p size head taken carved none = carved ∙ ap (λ (z : Layout). with_contents z p) taken
+    ∙ (λ i.
+    record { head = head i; blocks = with_block l.blocks p.place.block size; contents = p ∷ without-none l.contents p.place none i })
 
 pub invariant_of-self-2 : goal.invariant_of-self-2
 invariant_of-self-2 c =
@@ -48,9 +49,9 @@ returns-clause-taken c =
     let same = made l c.take_block.new.self c.carve.new.self p (c.args.room + 8) is.lists.links.head c.in_ok-block.ensures.taken
     c.carve.ensures (own-fresh l x.lists.heads x.active x.first is b (c.args.room + 8) f.1 f.0 n c.args.room c.requires.large) in
     ap (λ (z : Layout). let s : SetState = record {
-      chunks = live z.pieces;
+      chunks = live z.contents;
       blocks = z.blocks;
-      free = free_rooms z.pieces;
+      free = free_rooms z.contents;
       left =
           x.active.size - x.active.used;
       next = x.next;
@@ -64,7 +65,7 @@ returns-clause-fresh c =
     c.in_ok-block.ensures.name in let is = c.self.invariant.set in
     let place : Place = record { block = b; offset = 8 } in
     ap (λ (s : SetState). has s.chunks place) (sym c.self.view_is)
-    ∙ live-none l.pieces place (own-fresh l x.lists.heads x.active x.first is b (c.args.room + 8) f.1 f.0 n c.args.room
+    ∙ live-none l.contents place (own-fresh l x.lists.heads x.active x.first is b (c.args.room + 8) f.1 f.0 n c.args.room
     c.requires.large)
 
 pub returns-clause-held : goal.returns-clause-held

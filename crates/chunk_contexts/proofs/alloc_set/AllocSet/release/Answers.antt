@@ -28,8 +28,8 @@ invariant_of-self-2 c = grind (
   common_steps,
   fields-released c.self.inside c.self.invariant c.args.self.now c.self.view_is
       c.args.place c.requires (omega (arith, c.room-room.ensures, c.if-room-gt-LARGEST.false)) c.room-room.result (sym c.room-room.ensures)
-      (seen-known c.self.inside c.self.invariant c.args.self.now c.self.view_is c.args.place c.requires c.room-room.result c.room-room.ensures
-      c.if-room-gt-LARGEST.false) c.release.new.self c.release.ensures.freed c.release.ensures.lists,
+      (seen-known c.self.inside c.self.invariant c.args.self.now c.self.view_is c.args.place c.requires
+      c.room-room.result c.room-room.ensures c.if-room-gt-LARGEST.false) c.release.new.self c.release.ensures.freed c.release.ensures.lists,
 )
 
 pub returns : goal.returns
@@ -39,6 +39,6 @@ returns c = grind (
   common_steps,
   state-released c.self.inside c.self.invariant c.args.self.now c.self.view_is c.args.place
       c.requires (omega (arith, c.room-room.ensures, c.if-room-gt-LARGEST.false)) c.room-room.result (sym c.room-room.ensures)
-      (seen-known c.self.inside c.self.invariant c.args.self.now c.self.view_is c.args.place c.requires c.room-room.result c.room-room.ensures
-      c.if-room-gt-LARGEST.false) c.release.new.self c.release.ensures.freed c.release.ensures.lists,
+      (seen-known c.self.inside c.self.invariant c.args.self.now c.self.view_is c.args.place c.requires
+      c.room-room.result c.room-room.ensures c.if-room-gt-LARGEST.false) c.release.new.self c.release.ensures.freed c.release.ensures.lists,
 )

@@ -2,7 +2,7 @@ use Rattle.chunk_contexts.proofs.Laws.{common_steps, nat_tests}
 use Rattle.std.proofs.Common.{length, ap, ◌∙◌, arith}
 use Rattle.chunk_contexts.proofs.Words.{ChunkContents, has, place_of, ChunkName}
 use Rattle.chunk_contexts.specs.Set.{set_room}
-use Rattle.chunk_contexts.proofs.SetMoves.{made-apart, made-from, made-source, made-there, made-piece, filled-is, filled-from}
+use Rattle.chunk_contexts.proofs.SetMoves.{made-apart, made-from, made-source, made-there, made-contents, filled-is, filled-from}
 use Rattle.chunk_contexts.proofs.alloc_set.AllocSet.relocate.Goals as goal
 
 pub fill-requires-clause-apart : goal.fill-requires-clause-apart
@@ -27,7 +27,7 @@ fill-requires-clause-room c = omega (
   arith,
   c.in_ok-place.ensures.room,
   ap (λ (p : ChunkContents). p.room)
-      (made-piece c.args.self.now c.claim.new.self c.claim.new.self c.args.n c.in_ok-place.place c.args.from (set_room c.args.n)
+      (made-contents c.args.self.now c.claim.new.self c.claim.new.self c.args.n c.in_ok-place.place c.args.from (set_room c.args.n)
       c.requires.there c.in_ok-place.ensures.fresh c.in_ok-place.ensures.taken),
 )
 

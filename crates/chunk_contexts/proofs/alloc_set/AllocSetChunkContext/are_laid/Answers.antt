@@ -9,7 +9,7 @@ returns c = grind (
   arith,
   nat_tests,
   common_steps,
-  laid-live c.self.inside.lists.layout.blocks c.self.inside.lists.layout.pieces
+  laid-live c.self.inside.lists.layout.blocks c.self.inside.lists.layout.contents
       c.are_laid.ensures,
   laid-enough,
 )

@@ -31,8 +31,8 @@ returns c =
       (
         refl,
         λ w.
-            let chunks = ap (λ (p : Place). live (rewritten l.pieces p w)) c.place.ensures ∙ live-over place w l.pieces places in
-            let free = ap (λ (p : Place). free_rooms (rewritten l.pieces p w)) c.place.ensures ∙ rooms-over place w l.pieces places in
+            let chunks = ap (λ (p : Place). live (rewritten l.contents p w)) c.place.ensures ∙ live-over place w l.contents places in
+            let free = ap (λ (p : Place). free_rooms (rewritten l.contents p w)) c.place.ensures ∙ rooms-over place w l.contents places in
             (λ i. record {
               chunks = chunks i;
               blocks = l.blocks;

@@ -1,6 +1,6 @@
 use Rattle.chunk_contexts.proofs.Laws.{common_steps, nat_tests}
 use Rattle.std.proofs.Common.{◌≡◌, ◌∷◌, List, sym, ap, ◌∙◌, subst, arith}
-use Rattle.chunk_contexts.proofs.Words.{ChunkContents, place_of, piece_at, without, resized, Place, ChunkName, bytes_of, chunk_of}
+use Rattle.chunk_contexts.proofs.Words.{ChunkContents, place_of, contents_at, without, resized, Place, ChunkName, bytes_of, chunk_of}
 use Rattle.chunk_contexts.proofs.Words.{IsResized}
 use Rattle.chunk_contexts.specs.Set.{SetState, set_room, set_put, set_taken, set_freed}
 use Rattle.chunk_contexts.proofs.SetMoves.{resized-stays, resized-moved, taken-chunks}
@@ -13,9 +13,9 @@ returns-then-len-room-clause-resized c =
     let s = c.args.self.now in let name = c.args.name in let n = c.args.n in
     let same : place_of c.stay.result ≡ place_of name = ap place_of c.stay.ensures.name ∙ c.place-place.ensures in
     let state : c.stay.new.self ≡ set_put s (place_of name) (resized (bytes_of s.chunks name) n) =
-    c.stay.ensures.put ∙ ap (λ (p : Place). set_put s p (resized (piece_at s.chunks p).bytes n)) c.place-place.ensures in
+    c.stay.ensures.put ∙ ap (λ (p : Place). set_put s p (resized (contents_at s.chunks p).bytes n)) c.place-place.ensures in
     subst (λ (t : SetState). IsResized s.chunks t.chunks name c.stay.result n) (sym state)
-    (resized-stays s.chunks name c.stay.result n (piece_at s.chunks (place_of name)).room same
+    (resized-stays s.chunks name c.stay.result n (contents_at s.chunks (place_of name)).room same
     (ap (λ (m : ChunkName). m.len) c.stay.ensures.name))
 
 pub returns-clause-resized : goal.returns-clause-resized
@@ -24,7 +24,7 @@ returns-clause-resized c =
     let p : ChunkContents = chunk_of new (set_room n) (resized (bytes_of s.chunks name) n) in
     let state : c.relocate.new.self ≡ set_freed (set_taken s n p) (place_of name) =
     c.in_ok-relocate.ensures.moved
-    ∙ ap (λ (q : Place). set_freed (set_taken s n (chunk_of new (set_room n) (resized (piece_at s.chunks q).bytes n))) q)
+    ∙ ap (λ (q : Place). set_freed (set_taken s n (chunk_of new (set_room n) (resized (contents_at s.chunks q).bytes n))) q)
     c.place-place.ensures in
     let chunks : c.relocate.new.self.chunks ≡ without (p ∷ s.chunks) (place_of name) = ap (λ (t : SetState). t.chunks) state
     ∙ ap (λ (cs : List ChunkContents). without cs (place_of name)) (taken-chunks s n p) in

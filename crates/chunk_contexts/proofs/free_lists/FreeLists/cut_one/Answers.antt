@@ -37,10 +37,10 @@ returns-clause-rest c =
       room = room;
       is_live = false;
       bytes =
-          link_bytes (first_free by_room room s.layout.pieces);
+          link_bytes (first_free by_room room s.layout.contents);
     } in
     let more = rest-more s.layout b c.requires.rest 8 room some (omega (arith, c.if-room-left.false, c.left.ensures)) p refl refl in
     subst (λ (l : Layout). IsRest l (record { block = b.block; used = b.used + (8 + room); size = b.size })) (sym c.cut.ensures.cut)
-    (subst (λ (n : ℕ). IsRest (record { head = 8; blocks = s.layout.blocks; pieces = p ∷ s.layout.pieces })
+    (subst (λ (n : ℕ). IsRest (record { head = 8; blocks = s.layout.blocks; contents = p ∷ s.layout.contents })
     (record { block = b.block; used = n; size = b.size })) (add_assoc b.used 8 room)
     (record { size = more.size; used = more.used; bound = more.bound; block = more.block; clear = more.clear; rooms = more.rooms }))

@@ -1,5 +1,5 @@
 use Rattle.std.proofs.Common.{◌≡◌, ◌+◌, ◌<◌, ◌∷◌, ℕ, List, length, get_or, drop, sym, ap, ◌∙◌, arith}
-use Rattle.chunk_contexts.proofs.Words.{Layout, ChunkContents, Active, rooms_down, cut_used, cut_piece}
+use Rattle.chunk_contexts.proofs.Words.{Layout, ChunkContents, Active, rooms_down, cut_used, cut_chunk}
 use Rattle.chunk_contexts.proofs.Laws.{drop_more, common_steps, nat_tests}
 use Rattle.chunk_contexts.proofs.ClassLaws.{room-down, length-down}
 use Rattle.chunk_contexts.proofs.free_lists.FreeLists.cut_up.Goals as goal
@@ -11,7 +11,7 @@ loop-index-preserved c =
     let b = c.args.block in
     let one = c.cut_one.ensures in
     let rest = c.loop-index.rest in
-    let ps : List ChunkContents = c.loop-index.self.layout.pieces in
+    let ps : List ChunkContents = c.loop-index.self.layout.contents in
     let low : i < length rooms_down = omega (arith, length-down, c.loop-index-test.true) in
     let room : get_or rooms_down i 0 ≡ c.room_of-room.result = room-down i (omega (arith, c.loop-index-test.true))
     ∙ sym c.room_of-room.ensures.value in
@@ -19,8 +19,8 @@ loop-index-preserved c =
     ∙ ap (λ (r : ℕ). r ∷ drop (i + 1) rooms_down) room in
     let used : c.cut_one.new.block.used ≡ cut_used c.room_of-room.result rest.used b.size = ap (λ (a : Active). a.used) one.used
     ∙ ap (cut_used c.room_of-room.result rest.used) v.size in
-    let pieces : c.cut_one.new.self.layout.pieces ≡ cut_piece c.room_of-room.result b.block rest.used b.size ps = ap
-    (λ (l : Layout). l.pieces) one.cut ∙ (λ j. cut_piece c.room_of-room.result (v.block j) rest.used (v.size j) ps) in
+    let contents : c.cut_one.new.self.layout.contents ≡ cut_chunk c.room_of-room.result b.block rest.used b.size ps = ap
+    (λ (l : Layout). l.contents) one.cut ∙ (λ j. cut_chunk c.room_of-room.result (v.block j) rest.used (v.size j) ps) in
     grind (arith, nat_tests, common_steps)
 
 pub returns-clause-cut : goal.returns-clause-cut

@@ -17,7 +17,7 @@ returns-clause-lists c =
     c.in_ok-place.ensures in
     let first = sym (are.firsts c.args.class low) ∙ e.some.0 in
     let w = was s.layout s.heads are c.args.class place low first in
-    let next = e.next (first_free by_room (room_of c.args.class) (without s.layout.pieces place))
+    let next = e.next (first_free by_room (room_of c.args.class) (without s.layout.contents place))
     (link-next s.layout s.heads are c.args.class place low first) w.bytes in
     subst (λ (l : Layout). AreLists l (set s.heads c.args.class c.take_first.new.first)) (sym e.some.1)
     (lists-reused s.layout s.heads are c.args.class place low first c.take_first.new.first next)

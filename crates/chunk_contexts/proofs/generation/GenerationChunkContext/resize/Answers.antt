@@ -1,7 +1,7 @@
 use Rattle.std.proofs.Common.{◌≡◌, ◌+◌, ◌∷◌, ℕ, List, true, false, sym, ap, ◌∙◌, subst, arith}
-use Rattle.chunk_contexts.proofs.Words.{zeros, ChunkContents, same_place, place_of, has, piece_at, without, resized, total, Place}
+use Rattle.chunk_contexts.proofs.Words.{zeros, ChunkContents, same_place, place_of, has, contents_at, without, resized, total, Place}
 use Rattle.chunk_contexts.proofs.Words.{ChunkName, bytes_of, chunk_of, IsResized, rounded}
-use Rattle.chunk_contexts.proofs.Laws.{length-zeros, same_place-sym, has-later, piece_at-later, common_steps, nat_tests}
+use Rattle.chunk_contexts.proofs.Laws.{length-zeros, same_place-sym, has-later, contents_at-later, common_steps, nat_tests}
 use Rattle.chunk_contexts.specs.Run.{RunState, run_growth, run_put, run_taken}
 use Rattle.chunk_contexts.specs.Generation.{gen_freed}
 use Rattle.chunk_contexts.proofs.GenMoves.{freed-chunks, freed-less}
@@ -20,9 +20,9 @@ returns-then-len-room c =
     let n = c.args.n in
     let same : place_of c.stay.result ≡ place_of name = ap place_of c.stay.ensures.name ∙ c.place-place.ensures in
     let state : c.stay.new.self ≡ run_put s (place_of name) (resized (bytes_of s.chunks name) n) = c.stay.ensures.put
-    ∙ ap (λ (p : Place). run_put s p (resized (piece_at s.chunks p).bytes n)) c.place-place.ensures in
+    ∙ ap (λ (p : Place). run_put s p (resized (contents_at s.chunks p).bytes n)) c.place-place.ensures in
     let is : IsResized s.chunks c.stay.new.self.chunks name c.stay.result n = subst (λ (t : RunState). IsResized s.chunks t.chunks name
-    c.stay.result n) (sym state) (resized-stays s.chunks name c.stay.result n (piece_at s.chunks (place_of name)).room same
+    c.stay.result n) (sym state) (resized-stays s.chunks name c.stay.result n (contents_at s.chunks (place_of name)).room same
     (ap (λ (m : ChunkName). m.len) c.stay.ensures.name)) in
     grind (arith, nat_tests, common_steps, resized-keeps s.chunks c.stay.new.self.chunks name c.stay.result n is)
 
@@ -36,16 +36,16 @@ returns-in_err-moved-clause-unchanged c = grind (arith, nat_tests, common_steps)
 module _ (s t u : RunState) (name new : ChunkName) (n room : ℕ) (xs : List ℕ) (there : has s.chunks (place_of name)
     ≡ true) (none : has s.chunks (place_of new) ≡ false) (made : t ≡ run_taken 8 s (chunk_of new room xs))
     (a b : Place) (is-old : a ≡ place_of name) (is-new : b ≡ place_of new) (filled : u
-    ≡ run_put t b (resized (piece_at t.chunks a).bytes n)) where
+    ≡ run_put t b (resized (contents_at t.chunks a).bytes n)) where
   apart : same_place (place_of new) (place_of name) ≡ false
   apart = same_place-sym (place_of new) (place_of name) ∙ apart-places s.chunks (place_of name) (place_of new) there none
 
   chunks : t.chunks ≡ chunk_of new room xs ∷ s.chunks
   chunks = ap (λ (z : RunState). z.chunks) made ∙ run-chunks 8 s (chunk_of new room xs)
 
-  source : piece_at t.chunks a ≡ piece_at s.chunks (place_of name)
-  source = ap (piece_at t.chunks) is-old ∙ ap (λ (cs : List ChunkContents). piece_at cs (place_of name)) chunks
-      ∙ piece_at-later (chunk_of new room xs) s.chunks (place_of name) apart
+  source : contents_at t.chunks a ≡ contents_at s.chunks (place_of name)
+  source = ap (contents_at t.chunks) is-old ∙ ap (λ (cs : List ChunkContents). contents_at cs (place_of name)) chunks
+      ∙ contents_at-later (chunk_of new room xs) s.chunks (place_of name) apart
 
   abbrev p : ChunkContents
   p = chunk_of new room (resized (bytes_of s.chunks name) n)

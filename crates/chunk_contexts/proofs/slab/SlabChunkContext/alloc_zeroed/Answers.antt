@@ -29,7 +29,8 @@ returns c =
     let told = c.in_ok-name.ensures in let n = c.args.n in let s = c.self.inside.inner in let name = c.in_ok-name.name in let after =
     c.alloc_zeroed.new.self in
     let same : n ≡ s.size = admitted-size (over_most n) n s.size c.in_ok-check_size.ensures in
-    let added = subst (λ m. Adds (live s.layout.pieces) (live after.layout.pieces) name (rounded s.size) (zeros m)) (sym same) told.added in
+    let added = subst (λ m. Adds (live s.layout.contents) (live after.layout.contents) name (rounded s.size) (zeros m))
+    (sym same) told.added in
     let taken = told.taken ∙ ap (λ m. slab_taken (slab_of s) (chunk_of name (rounded s.size) (zeros m))) (sym same) in
     let it = served _ _ c.self.view_is after told.chunks n name (zeros n) c.in_ok-check_size.ensures same added told.lies taken told.grown
     in

@@ -9,7 +9,7 @@ returns c = grind (
   arith,
   nat_tests,
   common_steps,
-  laid-live c.self.inside.inner.layout.blocks c.self.inside.inner.layout.pieces
+  laid-live c.self.inside.inner.layout.blocks c.self.inside.inner.layout.contents
       c.are_laid.ensures,
   laid-enough,
 )

@@ -10,7 +10,7 @@ pub invariant_of-self : goal.invariant_of-self
 invariant_of-self c = record {
   chunks = c.release.ensures.chunks;
   sizes = subst (λ (s : SlabState). Every (λ (p : ChunkContents). length p.bytes ≡ s.size) s.chunks) (sym c.release.ensures.freed)
-      (every_filter (λ (p : ChunkContents). length p.bytes ≡ c.self.inside.inner.size) _ (live c.self.inside.inner.layout.pieces)
+      (every_filter (λ (p : ChunkContents). length p.bytes ≡ c.self.inside.inner.size) _ (live c.self.inside.inner.layout.contents)
       c.self.invariant.sizes);
 }
 

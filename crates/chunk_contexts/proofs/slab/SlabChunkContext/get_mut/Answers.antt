@@ -21,8 +21,8 @@ invariant_of-self-lent c = λ w.
       chunks = slab-lent t.size t.per t.layout t.blocks.items t.spare c.self.invariant.chunks place
           (view-here c.self.inside c.self.invariant c.args.self.now c.self.view_is c.args.name c.requires) w;
       sizes = subst (Every (λ (p : ChunkContents). length p.bytes ≡ t.size))
-          (sym (live-over place w t.layout.pieces c.self.invariant.chunks.layout.links.places))
-          (sizes-rewritten t.size (live t.layout.pieces) place w c.self.invariant.sizes);
+          (sym (live-over place w t.layout.contents c.self.invariant.chunks.layout.links.places))
+          (sizes-rewritten t.size (live t.layout.contents) place w c.self.invariant.sizes);
     })
 
 pub returns : goal.returns
@@ -34,7 +34,7 @@ returns c =
       (
         refl,
         λ w.
-            let chunks = ap (λ (p : Place). live (rewritten l.pieces p w)) c.place.ensures ∙ live-over place w l.pieces places in
+            let chunks = ap (λ (p : Place). live (rewritten l.contents p w)) c.place.ensures ∙ live-over place w l.contents places in
             (λ i. record { size = t.size; chunks = chunks i; blocks = l.blocks })
             ∙ ap (λ (s : SlabState). slab_wrote s place w) c.self.view_is,
       ),

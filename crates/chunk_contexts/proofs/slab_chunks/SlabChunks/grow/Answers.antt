@@ -13,7 +13,7 @@ returns-clause-chunks c =
     (b.taken ∙ ap (λ (n : ℕ). let l : Layout = record {
       head = s.layout.head;
       blocks = with_block s.layout.blocks c.in_ok-block.block n;
-      pieces = s.layout.pieces;
+      contents = s.layout.contents;
     } in l) (c.slab_block.ensures ∙ ap slab_block c.rounded.ensures.value))
     (omega (arith, e.room, c.numbers-numbers.ensures)) (omega (arith, m.room, c.numbers-numbers.ensures)) c.mark.new.self
     c.mark.ensures.long c.mark.ensures.marked

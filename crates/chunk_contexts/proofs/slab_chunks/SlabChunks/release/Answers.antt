@@ -10,7 +10,7 @@ use Rattle.chunk_contexts.proofs.SlabMoves.{chunks-back}
 use Rattle.chunk_contexts.proofs.slab_chunks.SlabChunks.release.Goals as goal
 
 module _ (s : SlabChunks) (is : IsSlab s.size s.per s.layout s.blocks.items s.spare) (place : Place)
-    (there : Rattle.std.specs.Prelude.IsTrue (Rattle.chunk_layout.specs.Pieces.has (live s.layout.pieces) place)) where
+    (there : Rattle.std.specs.Prelude.IsTrue (Rattle.chunk_layout.specs.Contents.has (live s.layout.contents) place)) where
   low : place.block < length s.layout.blocks
   low = there-low s.size s.per s.layout s.blocks.items s.spare is place.block (live-block s.size s.per s.layout s.blocks.items s.spare is
       place there)
@@ -24,7 +24,7 @@ module _ (s : SlabChunks) (is : IsSlab s.size s.per s.layout s.blocks.items s.sp
   read : (e : SlabBlock) → e ≡ get_or s.blocks.items place.block e → e ≡ get_or s.blocks.items place.block no_block
   read e is-read = get_or_read s.blocks.items place.block e low-kept is-read no_block
 
-  left : in_block (without (live s.layout.pieces) place) place.block + 1 ≡ (get_or s.blocks.items place.block no_block).live
+  left : in_block (without (live s.layout.contents) place) place.block + 1 ≡ (get_or s.blocks.items place.block no_block).live
   left = fewer s.size s.per s.layout s.blocks.items s.spare is place there
 
 pub index-entry-requires : goal.index-entry-requires
@@ -55,12 +55,12 @@ returns-then-entry-eq1 c = record {
       let s = c.args.self.now in let place = c.args.place in let was = read s c.requires.chunks place c.requires.there
       c.index-entry.result.now c.index-entry.ensures in
       let last = ap (λ (b : SlabBlock). b.live) (sym was) ∙ c.if-entry-eq1.true in
-      let none : in_block (without (live s.layout.pieces) place) place.block
+      let none : in_block (without (live s.layout.contents) place) place.block
       ≡ 0 = omega (arith, left s c.requires.chunks place c.requires.there, last) in
-      let blocks = cond-true (in_block (without (live s.layout.pieces) place) place.block == 0)
+      let blocks = cond-true (in_block (without (live s.layout.contents) place) place.block == 0)
       (Rattle.std.proofs.Common.set s.layout.blocks place.block None) s.layout.blocks
-      (eq-eqb (in_block (without (live s.layout.pieces) place) place.block) 0 none) in
-      let chunks = ap (λ (l : Layout). live l.pieces) c.give_back.ensures
+      (eq-eqb (in_block (without (live s.layout.contents) place) place.block) 0 none) in
+      let chunks = ap (λ (l : Layout). live l.contents) c.give_back.ensures
       ∙ chunks-back s.size s.per s.layout s.blocks.items s.spare c.requires.chunks place c.requires.there last c.give_back.new.self
       c.give_back.ensures c.unmark.new.self c.unmark.ensures.long c.unmark.ensures.marked in
       λ i. record { size = s.size; chunks = chunks i; blocks = (ap (λ (l : Layout). l.blocks) c.give_back.ensures ∙ sym blocks) i };
@@ -120,11 +120,11 @@ returns-clause-chunks c =
 pub returns-clause-freed : goal.returns-clause-freed
 returns-clause-freed c =
     let s = c.args.self.now in let place = c.args.place in
-    let more : in_block (without (live s.layout.pieces) place) place.block ≡ 0
+    let more : in_block (without (live s.layout.contents) place) place.block ≡ 0
     → ⊥ = λ none. omega (arith, none, left s c.requires.chunks place c.requires.there, some c) in
-    let blocks = cond-false (in_block (without (live s.layout.pieces) place) place.block == 0)
+    let blocks = cond-false (in_block (without (live s.layout.contents) place) place.block == 0)
     (Rattle.std.proofs.Common.set s.layout.blocks place.block None) s.layout.blocks
-    (ne_eqb (in_block (without (live s.layout.pieces) place) place.block) 0 more) in
+    (ne_eqb (in_block (without (live s.layout.contents) place) place.block) 0 more) in
     let chunks = chunks-freed s.size s.per s.layout s.blocks.items s.spare c.requires.chunks place c.requires.there c.put_first.new.layout
     (made c) (some c) c.mark.new.self c.mark.ensures.long c.mark.ensures.marked in
     λ i. record { size = s.size; chunks = chunks i; blocks = (ap (λ (l : Layout). l.blocks) (made c) ∙ sym blocks) i }

@@ -9,8 +9,8 @@ use Rattle.chunk_contexts.proofs.slab_chunks.SlabChunks.take.Goals as goal
 
 module _ (size count : ℕ) (l : Layout) (kept : List SlabBlock) (marked : List Bool) (is : IsSlab size count l kept marked) (k : ℕ)
     (spare : get_or marked k false ≡ true)
-    (m : Layout) (e : SlabBlock) (layout : IsSlabLayout size m) (here : IsEntry m.pieces k e) (others : (j : ℕ) → j ≢ k → (b : SlabBlock)
-    → IsEntry l.pieces j b → IsEntry m.pieces j b) (blocks : m.blocks ≡ l.blocks) where
+    (m : Layout) (e : SlabBlock) (layout : IsSlabLayout size m) (here : IsEntry m.contents k e) (others : (j : ℕ) → j ≢ k → (b : SlabBlock)
+    → IsEntry l.contents j b → IsEntry m.contents j b) (blocks : m.blocks ≡ l.blocks) where
   there : IsTrue (is_some (get_or l.blocks k None))
   there = marked-there size count l kept marked is k spare
 

@@ -1,7 +1,7 @@
 use Rattle.std.proofs.lemmas.Bool.Decides.{nat_tests}
 use Rattle.std.proofs.Common.{None, arith, ext_get_or}
-use Rattle.chunk_layout.specs.Pieces.{only}
-use Rattle.chunk_layout.proofs.PieceLaws.{length-only}
+use Rattle.chunk_layout.specs.Contents.{only}
+use Rattle.chunk_layout.proofs.ContentsLaws.{length-only}
 use Rattle.chunk_layout.proofs.layout.ChunkLayout.clear.Goals as goal
 
 pub returns : goal.returns

@@ -1,4 +1,4 @@
-use Rattle.chunk_layout.proofs.PieceLaws.{put-resized}
+use Rattle.chunk_layout.proofs.ContentsLaws.{put-resized}
 use Rattle.chunk_layout.proofs.layout.ChunkLayout.copy_resized.Goals as goal
 
 pub returns : goal.returns

@@ -1,6 +1,6 @@
 use Rattle.chunk_layout.proofs.Laws.{nat_tests, length-zeros}
 use Rattle.std.proofs.Common.{◌≤◌, ◌+◌, ℕ, List, true, length, arith}
-use Rattle.chunk_layout.proofs.Words.{zeros, piece_at, Inside}
+use Rattle.chunk_layout.proofs.Words.{zeros, contents_at, Inside}
 use Rattle.chunk_layout.proofs.Fields.{found-low, found-some, found-inside, found-small, fields-put, layout-put}
 use Rattle.chunk_layout.proofs.layout.ChunkLayout.put_zeros.Goals as goal
 
@@ -46,7 +46,7 @@ invariant_of-self c =
       notes = c.add.new.self;
       alloc = x.alloc;
     } in
-    let fits : c.args.kept + length z ≤ (piece_at c.args.self.now.pieces c.args.place).room = omega
+    let fits : c.args.kept + length z ≤ (contents_at c.args.self.now.contents c.args.place).room = omega
     (arith, c.requires.room, length-zeros c.args.n) in
     grind (
       arith,
@@ -66,7 +66,7 @@ returns c =
       notes = c.add.new.self;
       alloc = x.alloc;
     } in
-    let fits : c.args.kept + length z ≤ (piece_at c.args.self.now.pieces c.args.place).room = omega
+    let fits : c.args.kept + length z ≤ (contents_at c.args.self.now.contents c.args.place).room = omega
     (arith, c.requires.room, length-zeros c.args.n) in
     grind (
       arith,

@@ -1,7 +1,8 @@
 use Rattle.std.proofs.Common.{◌≡◌, ◌+◌, ◌<◌, ◌≤◌, true, None, inl, inr, get_or, sym, ap, subst, ◌∙◌, arith}
 use Rattle.std.proofs.lemmas.Bool.{cases_lt}
 use Rattle.std.specs.Prelude.{IsTrue}
-use Rattle.context_tree.proofs.Words.{always_err, piece_at, place_of, resized, chunk_of, IsResized, IsResizeRefused, KeepsOthers, chunks_of}
+use Rattle.context_tree.proofs.Words.{always_err, contents_at, place_of, resized, chunk_of, IsResized, IsResizeRefused, KeepsOthers}
+use Rattle.context_tree.proofs.Words.{chunks_of}
 use Rattle.context_tree.proofs.Words.{chunk_bytes, room_in, refusal_of, growth_of, can_free, may_lie_in, held_by, with_resized, with_chunk}
 use Rattle.context_tree.proofs.Words.{without_chunk, has_chunk, is_there, Context}
 use Rattle.context_tree.proofs.Bounds.{resized-held}
@@ -29,7 +30,7 @@ returns-in_err-resize-clause-refused c =
     let at = lent (goal.at.returns-in_err-resize-clause-refused c).After-deref_mut in
     let n = c.args.n in let own = c.in_err-resize.field-0.0 in
     let refused = said _ _ _ _ at c.resize.new.self c.index-deref_mut-id.result (λ a _. IsResizeRefused (can_free a) (refusal_of a n)
-    (growth_of a n) (piece_at (chunks_of a) (place_of c.args.name)).room n own) c.in_err-resize.ensures.refused in
+    (growth_of a n) (contents_at (chunks_of a) (place_of c.args.name)).room n own) c.in_err-resize.ensures.refused in
     refused-own _ (is_there c.args.self.now c.args.id) c.from_residual-in_err-resize.result own c.from_residual-in_err-resize.ensures.1
     at.there refused
 
@@ -51,16 +52,16 @@ returns c =
       keeps = said (λ a b. KeepsOthers (chunks_of a) (chunks_of b) name to) told.keeps;
       stays = λ room.
           new-by _ _ _ _ at new other (λ a. with_resized a (place_of name) (resized (chunk_bytes a name) n))
-          (told.stays (subst (λ (a : Context). n ≤ (piece_at (chunks_of a) (place_of name)).room) (sym old) room));
+          (told.stays (subst (λ (a : Context). n ≤ (contents_at (chunks_of a) (place_of name)).room) (sym old) room));
       moved = λ room.
           new-by _ _ _ _ at new other (λ a. without_chunk (with_chunk a n (chunk_of to (room_in a n) (resized (chunk_bytes a name) n)))
           (place_of name))
-          (told.moved (subst (λ (a : Context). (piece_at (chunks_of a) (place_of name)).room < n) (sym old) room));
+          (told.moved (subst (λ (a : Context). (contents_at (chunks_of a) (place_of name)).room < n) (sym old) room));
       lies = λ room. said (λ a _. may_lie_in a n to.block)
-          (told.lies (subst (λ (a : Context). (piece_at (chunks_of a) (place_of name)).room < n) (sym old) room));
+          (told.lies (subst (λ (a : Context). (contents_at (chunks_of a) (place_of name)).room < n) (sym old) room));
       grown = λ room.
           said (λ a _. held_by (with_chunk a n (chunk_of to (room_in a n) (resized (chunk_bytes a name) n))) ≡ held_by a + growth_of a n)
-          (told.grown (subst (λ (a : Context). (piece_at (chunks_of a) (place_of name)).room < n) (sym old) room));
+          (told.grown (subst (λ (a : Context). (contents_at (chunks_of a) (place_of name)).room < n) (sym old) room));
       refused = tt;
       unchanged = tt;
     }
@@ -73,9 +74,9 @@ invariant_of-self-2 c =
     let a : Context = get_or c.deref_mut.result.now c.args.id.slot other in
     let read = read-changed c.self.inside at.are c.args.self.now at.view c.args.id at.there c.deref.result.now c.deref_mut.result.now other
     c.index-deref-id.result c.deref.ensures at.same c.index-deref-id.is in
-    let less : held_by new ≤ held_by a + c.growth_to-growth.result = elim (cases_lt (piece_at (chunks_of a) (place_of name)).room n) [
+    let less : held_by new ≤ held_by a + c.growth_to-growth.result = elim (cases_lt (contents_at (chunks_of a) (place_of name)).room n) [
       | inl more ↦
-          let growth = c.growth_to-growth.ensures.moves (subst (λ (b : Context). (piece_at (chunks_of b) (place_of name)).room < n)
+          let growth = c.growth_to-growth.ensures.moves (subst (λ (b : Context). (contents_at (chunks_of b) (place_of name)).room < n)
           (sym read) more) (subst (λ (b : Context). can_free b ≡ true) (sym read) told.admitted.0) in
           omega (arith, told.most, growth, ap (λ (b : Context). growth_of b n) read)
       | inr fits ↦

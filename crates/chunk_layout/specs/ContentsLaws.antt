@@ -2,7 +2,7 @@
 use Rattle.std.proofs.Common.{◌≡◌, Bool, true, false, not, List, [], ◌∷◌, cond, refl, sym, ap, ◌∙◌, inl, inr, arith}
 use Rattle.std.specs.Prelude.{◌||◌}
 use Rattle.std.proofs.lemmas.Bool.{cases_Bool, cond-true, cond-false, not_from_true, not_from_false, or_parts}
-use Rattle.chunk_layout.specs.Pieces.{ChunkContents, same_place, is_at, has, piece_at, without}
+use Rattle.chunk_layout.specs.Contents.{ChunkContents, same_place, is_at, has, contents_at, without}
 use Rattle.chunk_layout.specs.declared.place.Place.{Place}
 use Rattle.chunk_layout.specs.FindingLaws.{same-place}
 use Rattle.std.proofs.lemmas.Bool.Decides.{nat_tests}
@@ -19,8 +19,8 @@ module _ (p : ChunkContents) (ps : List ChunkContents) where
   pub has-first : (place : Place) → is_at place p ≡ true → has (p ∷ ps) place ≡ true
   has-first place here = ap (λ (b : Bool). b || has ps place) here
 
-  pub piece_at-first : (place : Place) → is_at place p ≡ true → piece_at (p ∷ ps) place ≡ p
-  piece_at-first place here = cond-true (is_at place p) p (piece_at ps place) here
+  pub contents_at-first : (place : Place) → is_at place p ≡ true → contents_at (p ∷ ps) place ≡ p
+  contents_at-first place here = cond-true (is_at place p) p (contents_at ps place) here
 
   pub without-first : (place : Place) → is_at place p ≡ true → without (p ∷ ps) place ≡ without ps place
   without-first place here = cond-false (not (is_at place p)) (p ∷ without ps place) (without ps place) (not_from_true (is_at place p) here)
@@ -28,8 +28,8 @@ module _ (p : ChunkContents) (ps : List ChunkContents) where
   pub has-later : (place : Place) → is_at place p ≡ false → has (p ∷ ps) place ≡ has ps place
   has-later place there = ap (λ (b : Bool). b || has ps place) there
 
-  pub piece_at-later : (place : Place) → is_at place p ≡ false → piece_at (p ∷ ps) place ≡ piece_at ps place
-  piece_at-later place there = cond-false (is_at place p) p (piece_at ps place) there
+  pub contents_at-later : (place : Place) → is_at place p ≡ false → contents_at (p ∷ ps) place ≡ contents_at ps place
+  contents_at-later place there = cond-false (is_at place p) p (contents_at ps place) there
 
   pub without-later : (place : Place) → is_at place p ≡ false → without (p ∷ ps) place ≡ p ∷ without ps place
   without-later place there = cond-true (not (is_at place p)) (p ∷ without ps place) (without ps place)
@@ -46,14 +46,15 @@ has-without (p ∷ ps) place other ne = elim (cases_Bool (is_at place p)) [
       ∙ ap (λ (b : Bool). is_at other p || b) (has-without ps place other ne)
 ]
 
-pub piece_at-without : (ps : List ChunkContents) (place other : Place) → same_place place other ≡ false → piece_at (without ps place) other
-    ≡ piece_at ps other
-piece_at-without [] place other ne = refl
-piece_at-without (p ∷ ps) place other ne = elim (cases_Bool (is_at place p)) [
-  | inl here ↦ ap (λ (t : List ChunkContents). piece_at t other) (without-first p ps place here) ∙ piece_at-without ps place other ne
-      ∙ sym (piece_at-later p ps other (other-place p place other here ne))
-  | inr there ↦ ap (λ (t : List ChunkContents). piece_at t other) (without-later p ps place there)
-      ∙ ap (λ (q : ChunkContents). cond (is_at other p) p q) (piece_at-without ps place other ne)
+pub contents_at-without : (ps : List ChunkContents) (place other : Place) → same_place place other ≡ false → contents_at
+    (without ps place) other
+    ≡ contents_at ps other
+contents_at-without [] place other ne = refl
+contents_at-without (p ∷ ps) place other ne = elim (cases_Bool (is_at place p)) [
+  | inl here ↦ ap (λ (t : List ChunkContents). contents_at t other) (without-first p ps place here) ∙ contents_at-without ps place other ne
+      ∙ sym (contents_at-later p ps other (other-place p place other here ne))
+  | inr there ↦ ap (λ (t : List ChunkContents). contents_at t other) (without-later p ps place there)
+      ∙ ap (λ (q : ChunkContents). cond (is_at other p) p q) (contents_at-without ps place other ne)
 ]
 
 pub has_not-without : (ps : List ChunkContents) (place : Place) → has (without ps place) place ≡ false

@@ -34,11 +34,11 @@ is_at place p = same_place p.place place
 abbrev pub has : List ChunkContents → Place → Bool
 has ps place = list_any (is_at place) ps
 
-abbrev pub no_piece : ChunkContents
-no_piece = record { place = record { block = 0; offset = 0 }; room = 0; is_live = false; bytes = [] }
+abbrev pub no_contents : ChunkContents
+no_contents = record { place = record { block = 0; offset = 0 }; room = 0; is_live = false; bytes = [] }
 
-abbrev pub piece_at : List ChunkContents → Place → ChunkContents
-piece_at ps place = first_by (is_at place) no_piece ps
+abbrev pub contents_at : List ChunkContents → Place → ChunkContents
+contents_at ps place = first_by (is_at place) no_contents ps
 
 -- the chunks without the one at a place, and without those of a block
 abbrev pub without : List ChunkContents → Place → List ChunkContents
@@ -65,7 +65,7 @@ resized bytes n = take n bytes ++ zeros (n - length bytes)
 pub record Layout : Type 0 where
   pub head : ℕ
   pub blocks : List (Option ℕ)
-  pub pieces : List ChunkContents
+  pub contents : List ChunkContents
 
 -- the size of a block, and 0 where there is none
 abbrev pub size_at : List (Option ℕ) → ℕ → ℕ
@@ -110,21 +110,21 @@ only blocks None = replicate (length blocks) None
 only blocks (Some block) = slice_set (replicate (length blocks) None) block (get_or blocks block None)
 
 -- a layout in which a chunk is the first one, whatever was at its place
-abbrev pub with_piece : Layout → ChunkContents → Layout
-with_piece l p = record { head = l.head; blocks = l.blocks; pieces = p ∷ without l.pieces p.place }
+abbrev pub with_contents : Layout → ChunkContents → Layout
+with_contents l p = record { head = l.head; blocks = l.blocks; contents = p ∷ without l.contents p.place }
 
--- a chunk of so much room at a place, header included, has no byte of the piece, header included
+-- a chunk of so much room at a place, header included, has no byte of the other chunk, header included
 abbrev pub IsClear : ℕ → Place → ℕ → ChunkContents → Type 0
 IsClear head place room p = (p.place.block ≢ place.block) ⊎ ((p.place.offset + p.room + head ≤ place.offset)
     ⊎ (place.offset + room + head ≤ p.place.offset))
 
 -- the chunk at a place with other bytes behind the first ones that it keeps, live or not
 abbrev pub put_at : Layout → Place → ℕ → List ℕ → Bool → Layout
-put_at l place kept bytes live = with_piece l
+put_at l place kept bytes live = with_contents l
     (record {
       place = place;
-      room = (piece_at l.pieces place).room;
+      room = (contents_at l.contents place).room;
       is_live = live;
-      bytes = take kept (piece_at l.pieces place).bytes
+      bytes = take kept (contents_at l.contents place).bytes
           ++ bytes;
     })
