@@ -1,5 +1,5 @@
 use Rattle.std.proofs.Common.{◌≡◌, ◌+◌, ◌<◌, ◌∷◌, ◌++◌, [], ℕ, List, false, length, get_or, drop, ap, sym, subst, ◌∙◌, add-one}
-use Rattle.spill_partitions.proofs.Words.{OnTape, one_or_none, partitions, PartitionsState, AreSpilled, pages_of, written_pages}
+use Rattle.spill_partitions.proofs.Words.{OnTape, one_or_none, partitions_of, PartitionsState, AreSpilled, pages_of, written_pages}
 use Rattle.spill_partitions.proofs.PageLaws.{IsPaged, paged_start, paged_step, paged_end, rest_apart}
 use Rattle.std.proofs.Math.Seq.{drop-cons}
 use Rattle.std.proofs.lemmas.List.{drop_all}
@@ -76,7 +76,7 @@ loop-partition-preserved g c =
           (drop c.loop-partition.partition-index c.deref-partition-items.result.now)
           (drop (c.loop-partition.partition-index + 1) c.deref-partition-items.result.now)
           x
-          (g.D.TapeDisk.writes c.args.disk.now) (pages_of (partitions c.args.self.now.level spilled)) (written_pages c.args.self.now)
+          (g.D.TapeDisk.writes c.args.disk.now) (pages_of (partitions_of c.args.self.now.level spilled)) (written_pages c.args.self.now)
           (g.D.TapeDisk.writes c.loop-partition.disk) (g.D.TapeDisk.writes c.leave.new.disk) here c.leave.ensures.others
           (rest_apart (drop (c.loop-partition.partition-index + 1) c.deref-partition-items.result.now) (c.loop-partition.self.reading
           ++ c.loop-partition.self.pending) x.tape.index
@@ -99,7 +99,7 @@ pub returns-clause-paged : goal.returns-clause-paged
 returns-clause-paged g c = λ spilled ahead pending had.
     paged_end (g.D.TapeDisk.last c.loop-partition.disk) c.loop-partition.self.tapes
     (drop c.loop-partition.partition-index c.deref-partition-items.result.now)
-    (g.D.TapeDisk.writes c.args.disk.now) (pages_of (partitions c.args.self.now.level spilled)) (written_pages c.args.self.now)
+    (g.D.TapeDisk.writes c.args.disk.now) (pages_of (partitions_of c.args.self.now.level spilled)) (written_pages c.args.self.now)
     (g.D.TapeDisk.writes c.loop-partition.disk)
     (drop_all c.loop-partition.partition-index c.deref-partition-items.result.now c.loop-partition-test.false)
     (c.loop-partition.invariant.pages spilled ahead pending had)

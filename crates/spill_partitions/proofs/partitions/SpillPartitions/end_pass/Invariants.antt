@@ -12,7 +12,7 @@ invariant-loop-partition g l = record {
       (spilled ahead : List Record) (pending : List PendingPartition)
       → HasPartitions (g.D.TapeDisk.last l.fn.disk) l.fn.self spilled ahead pending
       → IsPaged (g.D.TapeDisk.last l.disk) l.self.tapes (drop l.partition-index l.partition-items) (g.D.TapeDisk.writes l.fn.disk)
-      (pages_of (partitions l.fn.self.level spilled)) (written_pages l.fn.self) (g.D.TapeDisk.writes l.disk);
+      (pages_of (partitions_of l.fn.self.level spilled)) (written_pages l.fn.self) (g.D.TapeDisk.writes l.disk);
   partitions : IsEnding (g.D.TapeDisk.last l.fn.disk) (g.D.TapeDisk.last l.disk) l.fn.self l.self
       (drop l.partition-index l.partition-items);
   disk : DiskFrame g.D.TapeDisk 0 l.fn.disk l.disk;
