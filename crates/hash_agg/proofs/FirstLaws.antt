@@ -4,7 +4,8 @@ use Rattle.std.specs.List.Sorted.{IsPermutation}
 use Rattle.std.proofs.Common.{sym, ap, subst, arith}
 use Rattle.std.proofs.lemmas.List.Sorted.{length_permutation}
 use Rattle.std.proofs.lemmas.List.Sums.{sum_by-cons}
-use Rattle.hash_agg.proofs.Words.{Query, EachFits, Setting, Record, PendingPartition, lists, left_by, PartitionsState, HasLists, count_of}
+use Rattle.hash_agg.proofs.Words.{Query, EachFits, Setting, Record, PendingPartition, partitions_of}
+use Rattle.hash_agg.proofs.Words.{left_by, PartitionsState, HasPartitions, count_of}
 use Rattle.hash_agg.proofs.Words.{spilled_number, waiting_number, pages_of, written_pages, Entry, Rises, Brought, rows_in, all_rows}
 use Rattle.hash_agg.proofs.Words.{IsUnderway, Piece, PassState, Holds, records_of, total, Costs, AddsUp, pass_cost, Work}
 use Rattle.hash_agg.proofs.SpillLaws.{nothing_spills}
@@ -27,7 +28,7 @@ input_few (x ∷ inputs) (suc i) input at =
 
 -- before any input
 pub first_holds : (q : Query) (s : Setting) (pass : PassState) → pass.entries ≡ [] → pass.lists.partitions ≡ []
-    → HasLists pass.last pass.lists [] [] [] → Holds q s pass [] [] []
+    → HasPartitions pass.last pass.lists [] [] [] → Holds q s pass [] [] []
 first_holds q s pass empty clear none = (
   [],
   none,
@@ -46,26 +47,28 @@ first_total entries lists empty none =
 pub first_waits : (q : Query) (s : Setting) (pieces : List Piece) (pass : PassState) (run : List Entry) (after : PartitionsState) (now : ℕ
     → ℕ → Type 0) (before done : Work) (start written end : ℕ) → IsPermutation pass.entries run → Rises run → pass.lists.level ≡ 0
     → EachFits s (records_of q s.width pieces) → written ≡ start + written_pages pass.lists
-    → ((spilled ahead : List Record) (pending : List PendingPartition) → HasLists pass.last pass.lists spilled ahead pending
-    → HasLists now after [] ahead (pending ++ left_by pass.lists.level spilled))
-    → ((spilled ahead : List Record) (pending : List PendingPartition) → HasLists pass.last pass.lists spilled ahead pending → end
-    + written_pages pass.lists ≡ written + pages_of (lists pass.lists.level spilled))
-    → ((spilled ahead : List Record) (pending : List PendingPartition) (pages : ℕ) → HasLists pass.last pass.lists spilled ahead pending
+    → ((spilled ahead : List Record) (pending : List PendingPartition) → HasPartitions pass.last pass.lists spilled ahead pending
+    → HasPartitions now after [] ahead (pending ++ left_by pass.lists.level spilled))
+    → ((spilled ahead : List Record) (pending : List PendingPartition) → HasPartitions pass.last pass.lists spilled ahead pending → end
+    + written_pages pass.lists ≡ written + pages_of (partitions_of pass.lists.level spilled))
+    → ((spilled ahead : List Record) (pending : List PendingPartition) (pages : ℕ)
+    → HasPartitions pass.last pass.lists spilled ahead pending
     → AddsUp before (pass_cost s.width pass.entries (length spilled) pages) done)
-    → Holds q s pass pieces [] [] → IsUnderway q s pieces run (HasLists now after [] []) before done start end
+    → Holds q s pass pieces [] [] → IsUnderway q s pieces run (HasPartitions now after [] []) before done start end
 first_waits q s pieces pass run after now before done start written end moved rises top fit so_far left paged adds
     (spilled, has, stands, spills) =
-    let all : pages_of (lists pass.lists.level spilled) ≡ pages_of (lists 0 spilled) = ap (λ level. pages_of (lists level spilled)) top in
+    let all : pages_of (partitions_of pass.lists.level spilled)
+    ≡ pages_of (partitions_of 0 spilled) = ap (λ level. pages_of (partitions_of level spilled)) top in
     let sum = paged spilled [] [] has in
     record {
       pending = left_by pass.lists.level spilled;
       has = left spilled [] [] has;
       waits = waits_first q s.hash pieces run spilled pass.lists.level (ends q s.hash pieces pass.entries run spilled spilled moved rises
           refl stands);
-      made = pass_cost s.width pass.entries (length spilled) (pages_of (lists 0 spilled));
-      costs = subst (λ level. Costs q s pieces (pass_cost s.width pass.entries (length spilled) (pages_of (lists 0 spilled)))
+      made = pass_cost s.width pass.entries (length spilled) (pages_of (partitions_of 0 spilled));
+      costs = subst (λ level. Costs q s pieces (pass_cost s.width pass.entries (length spilled) (pages_of (partitions_of 0 spilled)))
           (left_by level spilled)) (sym top) (costs_first q s pieces pass.entries pass.lists.partitions spilled fit spills);
-      adds = adds spilled [] [] (pages_of (lists 0 spilled)) has;
+      adds = adds spilled [] [] (pages_of (partitions_of 0 spilled)) has;
       paged = omega (arith, all, sum, so_far);
     }
 

@@ -2,8 +2,10 @@
 use Rattle.std.specs.Prelude.{◌≡◌, refl, ℕ, ◌+◌, ◌≤◌, List, [], ◌∷◌, ◌++◌, length, IsTrue}
 use Rattle.std.proofs.Common.{sym, ◌∙◌, ap, subst, arith}
 use Rattle.std.specs.List.Sorted.{IsPermutation}
-use Rattle.hash_agg.proofs.Words.{Query, Cost, both, Setting, IsWellFormed, Record, PendingPartition, lists, left_by, PartitionsState}
-use Rattle.hash_agg.proofs.Words.{HasLists, BeginsLast, AreOn, pages_of, written_pages, meaning, Plan, Entry, Rises, Ghosts, CountsWithin}
+use Rattle.hash_agg.proofs.Words.{Query, Cost, both, Setting, IsWellFormed, Record}
+use Rattle.hash_agg.proofs.Words.{PendingPartition, partitions_of, left_by, PartitionsState}
+use Rattle.hash_agg.proofs.Words.{HasPartitions, BeginsLast, AreOn, pages_of, written_pages, meaning, Plan}
+use Rattle.hash_agg.proofs.Words.{Entry, Rises, Ghosts, CountsWithin}
 use Rattle.hash_agg.proofs.Words.{IsDone, IsSafeRun, IsUnderway, MadeFirst, MadeLater, query_of, setting_in, Brought, Given, AllGive, Pass}
 use Rattle.hash_agg.proofs.Words.{Piece, AreOnce, CountUpTo, Stands, setting_of, ReadsList, CanReadList, all_pieces, brought_by, Waits}
 use Rattle.hash_agg.proofs.Words.{Costs, AddsUp, pass_cost, Work}
@@ -15,13 +17,13 @@ use Rattle.hash_agg.proofs.WorkLaws.{adds_twice, costs_next, costs_end}
 -- what an aggregation has under way between two passes, no two of whose entries have the same key
 pub record IsWaiting (q : Query) (s : Setting) (pieces : List Piece) (entries : List Entry) (lists : PartitionsState) (last : ℕ → ℕ
     → Type 0) (start now : Work) (from written : ℕ) : Type 0 where
-  pub underway : IsUnderway q s pieces entries (HasLists last lists [] []) start now from written
+  pub underway : IsUnderway q s pieces entries (HasPartitions last lists [] []) start now from written
   pub once : AreOnce entries
 
 module _ (plan : Plan) (hf : List ℕ → ℕ) (pieces : List Piece) (entries none : List Entry) (before begun : PartitionsState) (last : ℕ → ℕ
     → Type 0) (start mid : Work) (from there : ℕ) (w : IsWaiting (meaning plan.query.now) (setting_of plan hf) pieces entries before last
     start mid from there) (count : CountUpTo (meaning plan.query.now) plan.most pieces)
-    (begins : (pending : List PendingPartition) → HasLists last before [] [] pending → BeginsLast last begun pending) where
+    (begins : (pending : List PendingPartition) → HasPartitions last before [] [] pending → BeginsLast last begun pending) where
   pub pass_can : CanReadList plan hf (record { entries = none; lists = begun; last = last })
   pass_can =
       let u = w.underway in
@@ -34,13 +36,13 @@ module _ (plan : Plan) (hf : List ℕ → ℕ) (pieces : List Piece) (entries no
       → IsWellFormed (meaning plan.query.now) → read.level ≡ begun.level
       → ReadsList plan hf (record { entries = none; lists = begun; last = last }) (record { entries = es; lists = read; last = then })
       → IsPermutation es run → Rises run
-      → ((spilled ahead : List Record) (pending : List PendingPartition) → HasLists then read spilled ahead pending
-      → HasLists now after [] ahead (pending ++ left_by read.level spilled))
-      → ((spilled ahead : List Record) (pending : List PendingPartition) (pages : ℕ) → HasLists then read spilled ahead pending
+      → ((spilled ahead : List Record) (pending : List PendingPartition) → HasPartitions then read spilled ahead pending
+      → HasPartitions now after [] ahead (pending ++ left_by read.level spilled))
+      → ((spilled ahead : List Record) (pending : List PendingPartition) (pages : ℕ) → HasPartitions then read spilled ahead pending
       → AddsUp mid (pass_cost (length plan.first.items) es (length spilled) pages) done)
       → (read_to ≡ there + written_pages read)
-      → ((spilled ahead : List Record) (pending : List PendingPartition) → HasLists then read spilled ahead pending → end
-      + written_pages read ≡ read_to + pages_of (lists read.level spilled))
+      → ((spilled ahead : List Record) (pending : List PendingPartition) → HasPartitions then read spilled ahead pending → end
+      + written_pages read ≡ read_to + pages_of (partitions_of read.level spilled))
       → IsWaiting (meaning plan.query.now) (setting_of plan hf) pieces (entries ++ run) after now start done from end
   pass_made read after then now es run done read_to end formed deep reads moved rises left adds so_far paged =
       let q : Query = meaning plan.query.now in
@@ -50,7 +52,7 @@ module _ (plan : Plan) (hf : List ℕ → ℕ) (pieces : List Piece) (entries no
       let n = waits_next q hf pieces entries b.0 b.1 (subst (Waits q hf pieces entries) b.2 u.waits) in
       let h = reads b.1.records n.rest b.0 b.4 n.are (n.count plan.most count) in
       let s : Stands q hf n.rest run h.0 = ends q hf n.rest es run h.0 h.0 moved rises refl h.2 in
-      let more : Cost = pass_cost set.width es (length h.0) (pages_of (lists read.level h.0)) in
+      let more : Cost = pass_cost set.width es (length h.0) (pages_of (partitions_of read.level h.0)) in
       let all = u.paged in
       let sum = paged h.0 [] b.0 h.1 in
       record {
@@ -62,7 +64,7 @@ module _ (plan : Plan) (hf : List ℕ → ℕ) (pieces : List Piece) (entries no
               made = both u.made more;
               costs = costs_next q set pieces u.made b.0 b.1 (subst (Costs q set pieces u.made) b.2 u.costs) n.rest es read.partitions h.0
                   read.level formed (deep ∙ b.3) n.are h.3;
-              adds = adds_twice start mid done u.made more u.adds (adds h.0 [] b.0 (pages_of (lists read.level h.0)) h.1);
+              adds = adds_twice start mid done u.made more u.adds (adds h.0 [] b.0 (pages_of (partitions_of read.level h.0)) h.1);
               paged = omega (arith, all, sum, so_far);
             };
         once = n.once run h.0 s w.once (rises_once run rises);
@@ -70,11 +72,12 @@ module _ (plan : Plan) (hf : List ℕ → ℕ) (pieces : List Piece) (entries no
 
 -- no list is left
 pub waiting_ends : (q : Query) (s : Setting) (pieces : List Piece) (entries : List Entry) (lists : PartitionsState) (last : ℕ → ℕ
-    → Type 0) (start now : Work) (from written : ℕ) → lists.pending ≡ [] → IsUnderway q s pieces entries (HasLists last lists [] []) start
+    → Type 0) (start now : Work) (from written : ℕ) → lists.pending ≡ []
+    → IsUnderway q s pieces entries (HasPartitions last lists [] []) start
     now from written
     → IsDone q s pieces entries start now from written
 waiting_ends q s pieces entries lists last start now from written none u =
-    let all = gone u.pending (subst (λ tapes. AreOn last lists.tapes tapes u.pending) none u.has.todo_are) in
+    let all = gone u.pending (subst (λ tapes. AreOn last lists.tapes tapes u.pending) none u.has.pending_are) in
     let whole = costs_end q s pieces u.made (subst (Costs q s pieces u.made) all u.costs) in
     record {
       stands = waits_end q s.hash pieces entries (subst (Waits q s.hash pieces entries) all u.waits);
@@ -105,13 +108,14 @@ module _ {H D : Type 0} (hash_of : H → List ℕ → ℕ) (g : Ghosts D) (input
     counted) where
   -- what is under way after the first pass is so for the later ones
   pub begun : (givens : List Given) → AllGive (query_of old) inputs givens
-      → IsUnderway (query_of mid) (setting_in hash_of mid) (all_pieces inputs givens) first (HasLists (g.last between) mid.lists [] []) work
+      → IsUnderway (query_of mid) (setting_in hash_of mid) (all_pieces inputs givens) first (HasPartitions (g.last between) mid.lists [] [])
+      work
       counted (g.writes before) (g.writes between)
   begun givens give =
       subst (λ (plan : Plan). IsUnderway (meaning plan.query.now) (setting_of plan (hash_of mid.groups.hash)) (all_pieces inputs givens)
-      first (HasLists (g.last between) mid.lists [] []) work counted (g.writes before) (g.writes between)) (sym made.plan)
+      first (HasPartitions (g.last between) mid.lists [] []) work counted (g.writes before) (g.writes between)) (sym made.plan)
       (subst (λ hash. IsUnderway (query_of old) (setting_of old.plan (hash_of hash)) (all_pieces inputs givens) first
-      (HasLists (g.last between) mid.lists [] []) work counted (g.writes before) (g.writes between)) (sym made.hash)
+      (HasPartitions (g.last between) mid.lists [] []) work counted (g.writes before) (g.writes between)) (sym made.hash)
       (made.underway givens give))
 
   pub made_all : (run : List Entry) (after : D) (done : Work) → g.honest between ≡ g.honest before

@@ -1,7 +1,7 @@
 -- A list that a pass reads, record by record.
 use Rattle.std.specs.Prelude.{◌≡◌, refl, ℕ, ◌+◌, ◌<◌, ◌⊎◌, List, [], ◌∷◌, ◌++◌, Some, None}
 use Rattle.std.proofs.Common.{sym, ◌∙◌, ap, subst, arith, append-nil, append_assoc, inl, inr}
-use Rattle.hash_agg.proofs.Words.{Query, Record, PendingPartition, PartitionsState, HasLists, count_of, spilled_number, ahead_number}
+use Rattle.hash_agg.proofs.Words.{Query, Record, PendingPartition, PartitionsState, HasPartitions, count_of, spilled_number, ahead_number}
 use Rattle.hash_agg.proofs.Words.{meaning, Plan, Entry, Piece, ArePieces, CountUpTo, Stands, Spills, setting_of, PassState, Holds, CanRead}
 use Rattle.hash_agg.proofs.Words.{Reads, Proceeds}
 use Rattle.spill_tapes.specs.Tape.{Gives}
@@ -20,7 +20,7 @@ pub record IsReading (plan : Plan) (hf : List ℕ → ℕ) (now : PassState) (pi
   pub holds : Holds (meaning plan.query.now) (setting_of plan hf) now done ahead pending
 
 pub reading_begins : (plan : Plan) (hf : List ℕ → ℕ) (now : PassState) (records : List Record) (pieces : List Piece)
-    (pending : List PendingPartition) → now.entries ≡ [] → now.lists.partitions ≡ [] → HasLists now.last now.lists [] records pending
+    (pending : List PendingPartition) → now.entries ≡ [] → now.lists.partitions ≡ [] → HasPartitions now.last now.lists [] records pending
     → ArePieces (meaning plan.query.now) hf records pieces → IsReading plan hf now pieces pending
 reading_begins plan hf now records pieces pending empty clear has are =
     record {
@@ -50,14 +50,14 @@ count_next q m done ps p count k =
 module _ (plan : Plan) (hf : List ℕ → ℕ) (pieces : List Piece) (pending : List PendingPartition) (entries : List Entry)
     (before after : PartitionsState) (last now : ℕ → ℕ → Type 0) (hash tag : ℕ) (bytes : List ℕ)
     (count : CountUpTo (meaning plan.query.now) plan.most pieces) (same : after.partitions ≡ before.partitions)
-    (gives : (spilled ahead : List Record) (pending : List PendingPartition) → HasLists last before spilled ahead pending
-    → Gives (λ rest. HasLists now after spilled rest pending) ahead bytes (Some (hash, tag))) where
+    (gives : (spilled ahead : List Record) (pending : List PendingPartition) → HasPartitions last before spilled ahead pending
+    → Gives (λ rest. HasPartitions now after spilled rest pending) ahead bytes (Some (hash, tag))) where
   -- the record that was given is the next one
   next_given : IsReading plan hf (record { entries = entries; lists = before; last = last }) pieces pending
       → (done rest : List Piece) × (p : Piece) × (ahead spilled : List Record) × (pieces ≡ done ++ p ∷ rest)
       × (ArePieces (meaning plan.query.now) hf (record { hash = hash; tag = tag; bytes = bytes } ∷ []) (p ∷ []))
       × ArePieces (meaning plan.query.now) hf ahead rest
-      × HasLists now after spilled ahead pending × Stands (meaning plan.query.now) hf done entries spilled
+      × HasPartitions now after spilled ahead pending × Stands (meaning plan.query.now) hf done entries spilled
       × Spills (meaning plan.query.now) (setting_of plan hf) done entries after.partitions spilled
   next_given r =
       let spilled = r.holds.0 in
@@ -66,11 +66,11 @@ module _ (plan : Plan) (hf : List ℕ → ℕ) (pieces : List Piece) (pending : 
     where
       found : (ahead : List Record) (rest : List Piece) → pieces ≡ r.done ++ rest
           → ArePieces (meaning plan.query.now) hf (record { hash = hash; tag = tag; bytes = bytes } ∷ ahead) rest
-          → HasLists now after r.holds.0 ahead pending
+          → HasPartitions now after r.holds.0 ahead pending
           → (done rest : List Piece) × (p : Piece) × (ahead spilled : List Record) × (pieces ≡ done ++ p ∷ rest)
           × (ArePieces (meaning plan.query.now) hf (record { hash = hash; tag = tag; bytes = bytes } ∷ []) (p ∷ []))
           × ArePieces (meaning plan.query.now) hf ahead rest
-          × HasLists now after spilled ahead pending × Stands (meaning plan.query.now) hf done entries spilled
+          × HasPartitions now after spilled ahead pending × Stands (meaning plan.query.now) hf done entries spilled
           × Spills (meaning plan.query.now) (setting_of plan hf) done entries after.partitions spilled
       found ahead [] is are has = absurd are
       found ahead (p ∷ ps) is (first, others) has = (
@@ -123,7 +123,7 @@ module _ (plan : Plan) (hf : List ℕ → ℕ) (pieces : List Piece) (pending : 
 pub reading_ends : (plan : Plan) (hf : List ℕ → ℕ) (pieces : List Piece) (pending : List PendingPartition) (entries : List Entry)
     (before after : PartitionsState) (last now : ℕ → ℕ → Type 0) (bytes : List ℕ)
     → after.partitions ≡ before.partitions → ((spilled ahead : List Record) (pending : List PendingPartition)
-    → HasLists last before spilled ahead pending → Gives (λ rest. HasLists now after spilled rest pending) ahead bytes None)
+    → HasPartitions last before spilled ahead pending → Gives (λ rest. HasPartitions now after spilled rest pending) ahead bytes None)
     → IsReading plan hf (record { entries = entries; lists = before; last = last }) pieces pending
     → Holds (meaning plan.query.now) (setting_of plan hf) (record { entries = entries; lists = after; last = now }) pieces [] pending
 reading_ends plan hf pieces pending entries before after last now bytes same gives r =

@@ -11,7 +11,7 @@ use Rattle.std.proofs.lemmas.List.{length-map, length-append, take-append-drop, 
 use Rattle.std.proofs.lemmas.List.Sums.{sum_by-append}
 use Rattle.hash_agg.proofs.Words.{Row, Kind, HasKinds, Datum, Null, Bigint, Boolean, Text, Bigint_kind, Boolean_kind, Text_kind, Function}
 use Rattle.hash_agg.proofs.Words.{Partial, is_met, Query, Group, column_of, functions, with_row, packing, value_packing, is_empty, fits}
-use Rattle.hash_agg.proofs.Words.{Record, PendingPartition, PartitionsState, HasLists, AreSpilled, OnTape, TableState, Names, HasNo}
+use Rattle.hash_agg.proofs.Words.{Record, PendingPartition, PartitionsState, HasPartitions, AreSpilled, OnTape, TableState, Names, HasNo}
 use Rattle.hash_agg.proofs.Words.{state_in, group_in, Slot, key_kinds, IsWellFormed, meaning, Plan, Entry, packed_keys, AreStates}
 use Rattle.hash_agg.proofs.Words.{StandsFor, states_width, AreWithin, AreAdvanced, AreCombined, Piece, Of_row, Of_group, group_record}
 use Rattle.hash_agg.proofs.Words.{IsGroupRecord, IsPiece, piece_key, piece_added, weight, rows_at, CountUpTo, AreOnce, AreGroupsBy}
@@ -372,8 +372,8 @@ module _ {Hash : Type 0} (plan : Plan) (hf : List ℕ → ℕ) (g : GroupsState 
       → length plan.first.items ≡ states_width (meaning plan.query.now)
       → (is_empty lists.partitions && fits (setting_of plan hf) (packed_keys (entries_of g) ++ key ∷ [])) ≡ false → h ≡ g
       → ((more : List Piece) (are : Are more) → IsPiece (meaning plan.query.now) hf one (told more are).piece)
-      → ((spilled ahead : List Record) (pending : List PendingPartition) → HasLists last lists spilled ahead pending
-      → HasLists now after (spilled ++ one ∷ []) ahead pending) → Reads plan hf Are (standing g lists last) (standing h after now)
+      → ((spilled ahead : List Record) (pending : List PendingPartition) → HasPartitions last lists spilled ahead pending
+      → HasPartitions now after (spilled ++ one ∷ []) ahead pending) → Reads plan hf Are (standing g lists last) (standing h after now)
   one_left h after now one absent wide out unchanged is puts pieces more ahead pending (spilled, has, stands, spills) are count =
       let t = told more are in
       let put = puts spilled ahead pending has in (

@@ -7,8 +7,10 @@ use Rattle.std.proofs.Common.{sym, ◌∙◌, ap, subst, inl, inr, arith}
 use Rattle.std.proofs.lemmas.List.{map-append}
 use Rattle.std.proofs.lemmas.List.Filters.{sum_by-filter_both}
 use Rattle.hash_agg.proofs.Words.{each_append, each_front, each_behind, each_weaker, Row, same_row, Partial, is_met, Query, Group}
-use Rattle.hash_agg.proofs.Words.{column_of, partials_at, with_row, packing, is_empty, Record, PendingPartition, list_of, on_list, deeper}
-use Rattle.hash_agg.proofs.Words.{is_none, lists, left_by, Entry, Piece, Of_row, Of_group, IsPiece, ArePieces, piece_key, piece_added}
+use Rattle.hash_agg.proofs.Words.{column_of, partials_at, with_row, packing, is_empty, Record}
+use Rattle.hash_agg.proofs.Words.{PendingPartition, partition_of, on_partition, deeper}
+use Rattle.hash_agg.proofs.Words.{is_none, partitions_of, left_by, Entry, Piece, Of_row, Of_group}
+use Rattle.hash_agg.proofs.Words.{IsPiece, ArePieces, piece_key, piece_added}
 use Rattle.hash_agg.proofs.Words.{pieces_added, made_of, weight, rows_at, CountUpTo, AreOnce, Stands, AreListed, AreNone, IsOneOf, each_at}
 use Rattle.hash_agg.proofs.Words.{Waits, key_kinds}
 use Rattle.grouping_model.specs.DatumOrderLaws.{same_row-is}
@@ -161,19 +163,19 @@ fewer_of q t ps k =
 
 -- a key falls on a list
 abbrev falls_on : (List ℕ → ℕ) → ℕ → ℕ → Row → Bool
-falls_on hf level i k = list_of level (hf (packing k)) == i
+falls_on hf level i k = partition_of level (hf (packing k)) == i
 
 are_on : (q : Query) (hf : List ℕ → ℕ) (level i : ℕ) (rs : List Record) (ps : List Piece) → ArePieces q hf rs ps
-    → ArePieces q hf (on_list level rs i) (of_keys q (falls_on hf level i) ps)
-are_on q hf level i = one_filtered (IsPiece q hf) (λ one. list_of level one.hash == i) (λ p. falls_on hf level i (piece_key q p))
-    (λ one p is. ap (λ h. list_of level h == i) (piece_hash q hf one p is))
+    → ArePieces q hf (on_partition level rs i) (of_keys q (falls_on hf level i) ps)
+are_on q hf level i = one_filtered (IsPiece q hf) (λ one. partition_of level one.hash == i) (λ p. falls_on hf level i (piece_key q p))
+    (λ one p is. ap (λ h. partition_of level h == i) (piece_hash q hf one p is))
 
 -- the pieces of n lists from a on
 abbrev some_rests : Query → (List ℕ → ℕ) → ℕ → List Piece → ℕ → ℕ → List (List Piece)
 some_rests q hf level ps a n = map (λ i. of_keys q (falls_on hf level i) ps) (range_with_len a n)
 
 some_listed : (q : Query) (hf : List ℕ → ℕ) (level : ℕ) (rs : List Record) (ps : List Piece) → ArePieces q hf rs ps → (a n : ℕ)
-    → AreListed q hf (map (λ i. record { level = deeper level; records = on_list level rs i }) (range_with_len a n))
+    → AreListed q hf (map (λ i. record { level = deeper level; records = on_partition level rs i }) (range_with_len a n))
     (some_rests q hf level ps a n)
 some_listed q hf level rs ps are a zero = tt
 some_listed q hf level rs ps are a (suc n) = (are_on q hf level a rs ps are, some_listed q hf level rs ps are (a + 1) n)
@@ -183,7 +185,7 @@ some_fewer : (q : Query) (hf : List ℕ → ℕ) (level : ℕ) (ps : List Piece)
 some_fewer q hf level ps a zero = tt
 some_fewer q hf level ps a (suc n) = (fewer_of q (falls_on hf level a) ps, some_fewer q hf level ps (a + 1) n)
 
-list_few : (level h : ℕ) → list_of level h < 16
+list_few : (level h : ℕ) → partition_of level h < 16
 list_few level h =
     elim (nat_lt level 8) as (λ b. cond b (h / 16 ^ (7 - level) % 16) 0 < 16) [
       | true ↦ omega arith
@@ -191,27 +193,27 @@ list_few level h =
     ]
 
 -- a key that falls on an earlier list, and one that falls on one of these
-past_all : (q : Query) (hf : List ℕ → ℕ) (level : ℕ) (ps : List Piece) (k : Row) (a n : ℕ) → list_of level (hf (packing k)) < a
+past_all : (q : Query) (hf : List ℕ → ℕ) (level : ℕ) (ps : List Piece) (k : Row) (a n : ℕ) → partition_of level (hf (packing k)) < a
     → AreNone (each_at q k (some_rests q hf level ps a n))
 past_all q hf level ps k a zero past = tt
 past_all q hf level ps k a (suc n) past = (
-  found_off q (falls_on hf level a) k (is_not (list_of level (hf (packing k))) a past) ps [] refl,
+  found_off q (falls_on hf level a) k (is_not (partition_of level (hf (packing k))) a past) ps [] refl,
   past_all q hf level ps k (a + 1) n (omega (arith, past)),
 )
 
-among_all : (q : Query) (hf : List ℕ → ℕ) (level : ℕ) (ps : List Piece) (k : Row) (a n : ℕ) → a ≤ list_of level (hf (packing k))
-    → list_of level (hf (packing k)) < a + n → IsOneOf (partials_at k (made_of q ps)) (each_at q k (some_rests q hf level ps a n))
+among_all : (q : Query) (hf : List ℕ → ℕ) (level : ℕ) (ps : List Piece) (k : Row) (a n : ℕ) → a ≤ partition_of level (hf (packing k))
+    → partition_of level (hf (packing k)) < a + n → IsOneOf (partials_at k (made_of q ps)) (each_at q k (some_rests q hf level ps a n))
 among_all q hf level ps k a zero low high = absurd (omega (arith, low, high))
 among_all q hf level ps k a (suc n) low high =
     elim (falls_on hf level a k) as (λ b. falls_on hf level a k ≡ b
     → IsOneOf (partials_at k (made_of q ps)) (each_at q k (some_rests q hf level ps a (suc n)))) [
-      | true ↦ λ e. let is = is_it (list_of level (hf (packing k))) a e in inl (
+      | true ↦ λ e. let is = is_it (partition_of level (hf (packing k))) a e in inl (
         found_on q (falls_on hf level a) k e ps [] [] refl,
         past_all
             q hf level ps k (a + 1) n (omega (arith, is)),
       )
       | false ↦ λ e.
-          let past : a < list_of level (hf (packing k)) = is_past (list_of level (hf (packing k))) a e low in
+          let past : a < partition_of level (hf (packing k)) = is_past (partition_of level (hf (packing k))) a e low in
           inr (
             found_off q (falls_on hf level a) k e ps [] refl,
             among_all q hf level ps k (a + 1) n (omega (arith, past))
@@ -253,7 +255,7 @@ waits_first q hf ps es left level s =
       entered = s.entered;
       rests = with_pieces rests;
       are = s.are;
-      read = listed_with q hf (lists level left) rests (some_listed q hf level left s.rest s.read 0 16);
+      read = listed_with q hf (partitions_of level left) rests (some_listed q hf level left s.rest s.read 0 16);
       parted = λ k. partitions k (s.parted k) (among k);
       fewer =
           each_weaker (λ rest. ((k : Row) → rows_at q k rest ≤ rows_at q k s.rest) × (not (is_empty rest) ≡ true)) (λ rest. (k : Row)

@@ -24,11 +24,13 @@ pub use Rattle.packed_rows.specs.Packing.{packing, value_packing}
 pub use Rattle.packed_rows.specs.ConcatenatedRows.{concatenated}
 pub use Rattle.packed_rows.specs.View.{datum_of, row_of}
 pub use Rattle.spill_partitions.specs.Errors.{spill_faults}
-pub use Rattle.spill_partitions.specs.Lists.{PendingPartition, deeper, is_none, left_by, list_of, lists, on_list}
-pub use Rattle.spill_partitions.specs.Standing.{AreOn, AreSpilled, BeginsLast, HasLists, KeepsRest, PartitionsState, Spilled, ahead_number}
-pub use Rattle.spill_partitions.specs.Standing.{count_of, full_pages, list_pages, pages_of, spilled_number, waiting_number, written_pages}
+pub use Rattle.spill_partitions.specs.Partitions.{PendingPartition, deeper, is_none, left_by, partition_of, partitions_of, on_partition}
+pub use Rattle.spill_partitions.specs.Standing.{AreOn, AreSpilled, BeginsLast, HasPartitions, KeepsRest}
+pub use Rattle.spill_partitions.specs.Standing.{PartitionsState, Spilled, ahead_number}
+pub use Rattle.spill_partitions.specs.Standing.{count_of, full_pages, partition_pages, pages_of}
+pub use Rattle.spill_partitions.specs.Standing.{spilled_number, waiting_number, written_pages}
 pub use Rattle.spill_partitions.specs.declared.error.SpillError.TheVariants.{NoMemory, TapeDamaged, TapeFault}
-pub use Rattle.spill_partitions.specs.declared.lists.OnTape.{OnTape}
+pub use Rattle.spill_partitions.specs.declared.partitions.OnTape.{OnTape}
 unfoldable pub use Rattle.spill_tapes.specs.Records.{header_of}
 pub use Rattle.spill_tapes.specs.Records.{Record, record_bytes, tape_bytes}
 pub use Rattle.tape_disks.specs.Disk.{DiskFrame}

@@ -11,7 +11,8 @@ use Rattle.std.proofs.lemmas.List.Sums.{sum_by-cons}
 use Rattle.std.proofs.lemmas.List.Sorted.{IsPermutation-append_comm}
 use Rattle.hash_agg.proofs.Words.{each_append, each_front, each_behind, Query, Row, packing, Cost, greatest, pages_by, needs_by, cost_of}
 use Rattle.hash_agg.proofs.Words.{both, cost_from, Setting, need, fronts, Record, header_of, record_bytes, tape_bytes, PendingPartition}
-use Rattle.hash_agg.proofs.Words.{list_of, on_list, deeper, is_none, lists, left_by, list_pages, pages_of, OnTape, IsWellFormed, Entry}
+use Rattle.hash_agg.proofs.Words.{partition_of, on_partition, deeper, is_none, partitions_of, left_by, partition_pages}
+use Rattle.hash_agg.proofs.Words.{pages_of, OnTape, IsWellFormed, Entry}
 use Rattle.hash_agg.proofs.Words.{packed_keys, Piece, Of_row, Of_group, IsPiece, ArePieces, cost_records, records_of, IsCosted, AreCosted}
 use Rattle.hash_agg.proofs.Words.{Spills, capped, IsLeft, AreLeft, Costs, AddsUp, pass_cost, IsWork, Work}
 use Rattle.aggregation_cost.specs.Passes as cost
@@ -49,9 +50,9 @@ told_costs q s (one ∷ records) (p ∷ ps) (c ∷ cs) formed (first, are) (is, 
 
 -- ---- a list is one of the cost
 
-capped_list : (level h : ℕ) → list_of (capped level) h ≡ cond (nat_lt level 8) (h / 16 ^ (7 - level) % 16) 0
+capped_list : (level h : ℕ) → partition_of (capped level) h ≡ cond (nat_lt level 8) (h / 16 ^ (7 - level) % 16) 0
 capped_list level h =
-    elim (nat_lt level 8) as (λ b. nat_lt level 8 ≡ b → list_of (cond b level 8) h ≡ cond b (h / 16 ^ (7 - level) % 16) 0) [
+    elim (nat_lt level 8) as (λ b. nat_lt level 8 ≡ b → partition_of (cond b level 8) h ≡ cond b (h / 16 ^ (7 - level) % 16) 0) [
       | true ↦ λ e. ap (λ b. cond b (h / 16 ^ (7 - level) % 16) 0) e
       | false ↦ λ e. refl
     ] refl
@@ -60,16 +61,17 @@ capped_deeper : (level : ℕ) → deeper (capped level) ≡ capped (level + 1)
 capped_deeper level = grind (arith, nat_tests)
 
 module _ (q : Query) (s : Setting) (level : ℕ) where
-  same_list : (one : Record) (c : cost.Record) → IsCosted q s one c → list_of (capped level) one.hash ≡ cost.list_of s level c.key
-  same_list one c is = ap (list_of (capped level)) is.hashed ∙ capped_list level (s.hash c.key)
+  same_list : (one : Record) (c : cost.Record) → IsCosted q s one c → partition_of (capped level) one.hash ≡ cost.list_of s level c.key
+  same_list one c is = ap (partition_of (capped level)) is.hashed ∙ capped_list level (s.hash c.key)
 
   costed_on : (i : ℕ) (rs : List Record) (cs : List cost.Record) → AreCosted q s rs cs
-      → AreCosted q s (on_list (capped level) rs i) (cost.on_list s level cs i)
-  costed_on i = one_filtered (IsCosted q s) (λ one. list_of (capped level) one.hash == i) (λ c. cost.list_of s level c.key == i)
+      → AreCosted q s (on_partition (capped level) rs i) (cost.on_list s level cs i)
+  costed_on i = one_filtered (IsCosted q s) (λ one. partition_of (capped level) one.hash == i) (λ c. cost.list_of s level c.key == i)
       (λ one c is. ap (λ n. n == i) (same_list one c is))
 
   abbrev lists_of_some : List Record → ℕ → ℕ → List PendingPartition
-  lists_of_some rs a n = map (λ i. record { level = deeper (capped level); records = on_list (capped level) rs i }) (range_with_len a n)
+  lists_of_some rs a n = map (λ i. record { level = deeper (capped level); records = on_partition (capped level) rs i })
+      (range_with_len a n)
 
   abbrev those_left : List PendingPartition → List PendingPartition
   those_left ls = filter (λ (list : PendingPartition). not (is_none list.records)) ls
@@ -83,7 +85,7 @@ module _ (q : Query) (s : Setting) (level : ℕ) where
   some_left rs cs are a (suc n) =
       let rest = some_left rs cs are (a + 1) n in
       let here = costed_on a rs cs are in
-      let xs : List Record = on_list (capped level) rs a in
+      let xs : List Record = on_partition (capped level) rs a in
       let ys : List cost.Record = cost.on_list s level cs a in
       let list : PendingPartition = record { level = deeper (capped level); records = xs } in
       let more : List PendingPartition = those_left (lists_of_some rs (a + 1) n) in
@@ -166,16 +168,17 @@ some_pages : (q : Query) (s : Setting) (level : ℕ) (rs : List Record) (cs : Li
     → pages_of (lists_of_some q s level rs a n) ≡ sum_by costs.pages_of (map (cost.on_list s level cs) (range_with_len a n))
 some_pages q s level rs cs are a zero = refl
 some_pages q s level rs cs are a (suc n) =
-    let here = tape_long q s (on_list (capped level) rs a) (cost.on_list s level cs a) (costed_on q s level a rs cs are) in
-    let one : list_pages (on_list (capped level) rs a) ≡ costs.pages_of (cost.on_list s level cs a) = ap (λ n. (n + 8191) / 8192) here in
+    let here = tape_long q s (on_partition (capped level) rs a) (cost.on_list s level cs a) (costed_on q s level a rs cs are) in
+    let one : partition_pages (on_partition (capped level) rs a)
+    ≡ costs.pages_of (cost.on_list s level cs a) = ap (λ n. (n + 8191) / 8192) here in
     let rest = some_pages q s level rs cs are (a + 1) n in
-    let x = sum_by-cons (λ (list : PendingPartition). list_pages list.records)
-    (record { level = deeper (capped level); records = on_list (capped level) rs a }) (lists_of_some q s level rs (a + 1) n) in
+    let x = sum_by-cons (λ (list : PendingPartition). partition_pages list.records)
+    (record { level = deeper (capped level); records = on_partition (capped level) rs a }) (lists_of_some q s level rs (a + 1) n) in
     let y = sum_by-cons costs.pages_of (cost.on_list s level cs a) (map (cost.on_list s level cs) (range_with_len (a + 1) n)) in
     omega (arith, one, rest, x, y)
 
 pub pages_left : (q : Query) (s : Setting) (pass : cost.Pass) (rs : List Record) → AreCosted q s rs (cost.spilled_by s pass)
-    → pages_of (lists (capped pass.level) rs) ≡ pages_by s pass
+    → pages_of (partitions_of (capped pass.level) rs) ≡ pages_by s pass
 pages_left q s pass rs are = some_pages q s pass.level rs (cost.spilled_by s pass) are 0 16
 
 -- what a pass costs by itself
@@ -198,12 +201,12 @@ cost_of_one s pass =
 -- after the first pass
 pub costs_first : (q : Query) (s : Setting) (pieces : List Piece) (entries : List Entry) (partitions : List OnTape) (spilled : List Record)
     → cost.EachFits s (records_of q s.width pieces) → Spills q s pieces entries partitions spilled
-    → Costs q s pieces (pass_cost s.width entries (length spilled) (pages_of (lists 0 spilled))) (left_by 0 spilled)
+    → Costs q s pieces (pass_cost s.width entries (length spilled) (pages_of (partitions_of 0 spilled))) (left_by 0 spilled)
 costs_first q s pieces entries partitions spilled fit sp =
     let first : cost.Pass = record { level = 0; records = records_of q s.width pieces } in
     let long = as_long (IsCosted q s) spilled (cost.spilled_from s first.records) sp.spilled in
     let pages = pages_left q s first spilled sp.spilled in
-    let made : cost_of s (first ∷ []) ≡ pass_cost s.width entries (length spilled) (pages_of (lists 0 spilled)) =
+    let made : cost_of s (first ∷ []) ≡ pass_cost s.width entries (length spilled) (pages_of (partitions_of 0 spilled)) =
     cost_of_one s first ∙
     (λ i. record {
       passes = 1;
@@ -233,7 +236,7 @@ module _ (q : Query) (s : Setting) (pieces : List Piece) (made : Cost) (others :
 
   pub costs_next : (rest : List Piece) (entries : List Entry) (partitions : List OnTape) (spilled : List Record) (level : ℕ)
       → IsWellFormed q → level ≡ list.level → ArePieces q s.hash list.records rest → Spills q s rest entries partitions spilled
-      → Costs q s pieces (both made (pass_cost s.width entries (length spilled) (pages_of (lists level spilled)))) (others
+      → Costs q s pieces (both made (pass_cost s.width entries (length spilled) (pages_of (partitions_of level spilled)))) (others
       ++ left_by level spilled)
   costs_next rest entries partitions spilled level formed deep are sp =
       let pass : cost.Pass = last.last in
@@ -246,9 +249,9 @@ module _ (q : Query) (s : Setting) (pieces : List Piece) (made : Cost) (others :
       subst (λ records. AreCosted q s spilled (cost.spilled_from s records)) told sp.spilled in
       let long = as_long (IsCosted q s) spilled (cost.spilled_from s pass.records) sent in
       let level_is : level ≡ capped pass.level = deep ∙ last.one.level in
-      let pages : pages_of (lists level spilled) ≡ pages_by s pass = ap (λ level. pages_of (lists level spilled)) level_is
+      let pages : pages_of (partitions_of level spilled) ≡ pages_by s pass = ap (λ level. pages_of (partitions_of level spilled)) level_is
       ∙ pages_left q s pass spilled sent in
-      let by : cost_of s (pass ∷ []) ≡ pass_cost s.width entries (length spilled) (pages_of (lists level spilled)) =
+      let by : cost_of s (pass ∷ []) ≡ pass_cost s.width entries (length spilled) (pages_of (partitions_of level spilled)) =
       cost_of_one s pass ∙ (λ i. record {
         passes = 1;
         spilled = sym long i;

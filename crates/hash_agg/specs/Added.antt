@@ -16,8 +16,8 @@ use Rattle.tape_disks.specs.Calls.{failed}
 use Rattle.tape_disks.specs.Disk.{DiskFrame}
 use Rattle.tape_disks.specs.declared.disk.TapeDisk.{Ghosts}
 use Rattle.spill_partitions.specs.Errors.{spill_faults}
-use Rattle.spill_partitions.specs.Lists.{PendingPartition, lists, left_by}
-use Rattle.spill_partitions.specs.Standing.{HasLists, KeepsRest, spilled_number, ahead_number, waiting_number, pages_of, written_pages}
+use Rattle.spill_partitions.specs.Partitions.{PendingPartition, partitions_of, left_by}
+use Rattle.spill_partitions.specs.Standing.{HasPartitions, KeepsRest, spilled_number, ahead_number, waiting_number, pages_of, written_pages}
 use Rattle.spill_partitions.specs.declared.error.SpillError.{SpillError}
 use Rattle.spill_partitions.specs.declared.error.SpillError.TheVariants.{TapeDamaged}
 use Rattle.having_filter.specs.Meaning.{meaning}
@@ -77,7 +77,7 @@ pub record IsOver {H : Type 0} (pass : Pass H) : Type 0 where
 -- it is the first: it stands as one that is over, and no list is left to read
 pub record IsFirst {H D : Type 0} (g : Ghosts D) (pass : Pass H) (disk : D) : Type 0 where
   pub over : IsOver pass
-  pub none : HasLists (g.last disk) pass.lists [] [] []
+  pub none : HasPartitions (g.last disk) pass.lists [] [] []
   pub pending : pass.lists.pending ≡ []
   pub level : pass.lists.level ≡ 0
 
@@ -197,10 +197,11 @@ pub record RefusedList {H D : Type 0} (hash_of : H → List ℕ → ℕ) (g : Gh
 pub record Finished {H D : Type 0} (g : Ghosts D) (old : Pass H) (before : D) (run : List Entry) (new : Pass H) (after : D) : Type 0 where
   pub moved : IsPermutation (entries_of old.groups) run
   pub rises : Rises run
-  pub left : (spilled ahead : List Record) (pending : List PendingPartition) → HasLists (g.last before) old.lists spilled ahead pending
-      → HasLists (g.last after) new.lists [] ahead (pending ++ left_by old.lists.level spilled)
-  pub paged : (spilled ahead : List Record) (pending : List PendingPartition) → HasLists (g.last before) old.lists spilled ahead pending
-      → g.writes after + written_pages old.lists ≡ g.writes before + pages_of (lists old.lists.level spilled)
+  pub left : (spilled ahead : List Record) (pending : List PendingPartition) → HasPartitions (g.last before) old.lists spilled ahead pending
+      → HasPartitions (g.last after) new.lists [] ahead (pending ++ left_by old.lists.level spilled)
+  pub paged : (spilled ahead : List Record) (pending : List PendingPartition)
+      → HasPartitions (g.last before) old.lists spilled ahead pending
+      → g.writes after + written_pages old.lists ≡ g.writes before + pages_of (partitions_of old.lists.level spilled)
   pub waiting : waiting_number new.lists ≡ waiting_number old.lists + spilled_number old.lists
   pub reading : new.lists.reading ≡ old.lists.reading
   pub ready : IsReady new
@@ -213,7 +214,8 @@ pub record CountsPass {H D : Type 0} (g : Ghosts D) (pass : Pass H) (disk : D) (
   pub counted : 1 ≤ new.passes
   pub held : new.most_held ≡ max old.most_held pass.groups.most_held
   pub adds :
-      (spilled ahead : List Record) (pending : List PendingPartition) (pages : ℕ) → HasLists (g.last disk) pass.lists spilled ahead pending
+      (spilled ahead : List Record) (pending : List PendingPartition) (pages : ℕ)
+      → HasPartitions (g.last disk) pass.lists spilled ahead pending
       → AddsUp old (pass_cost pass.groups.table.width (entries_of pass.groups) (length spilled) pages) new
 
 -- ---- all passes
@@ -252,7 +254,7 @@ abbrev pub Continues : {H D : Type 0} → (H → List ℕ → ℕ) → Ghosts D 
     → Type 0
 Continues hash_of g pass disk run work Then =
     IsTrue (g.honest disk) → (pieces : List Piece) (start : Work) (writes : ℕ)
-    → IsUnderway (query_of pass) (setting_in hash_of pass) pieces run (HasLists (g.last disk) pass.lists [] []) start work writes
+    → IsUnderway (query_of pass) (setting_in hash_of pass) pieces run (HasPartitions (g.last disk) pass.lists [] []) start work writes
     (g.writes disk)
     → CountUpTo (query_of pass) pass.plan.most pieces
     → Then pieces start writes
@@ -261,7 +263,8 @@ Continues hash_of g pass disk run work Then =
 pub record MadeFirst {H D : Type 0} (hash_of : H → List ℕ → ℕ) (g : Ghosts D) (inputs : List Brought) (old : Pass H) (before : D)
     (work : Work) (run : List Entry) (new : Pass H) (after : D) (done : Work) : Type 0 where
   pub underway : (givens : List Given) → AllGive (query_of old) inputs givens
-      → IsUnderway (query_of old) (setting_in hash_of old) (all_pieces inputs givens) run (HasLists (g.last after) new.lists [] []) work
+      → IsUnderway (query_of old) (setting_in hash_of old) (all_pieces inputs givens) run (HasPartitions (g.last after) new.lists [] [])
+      work
       done (g.writes before) (g.writes after)
   pub few : (givens : List Given) → AllGive (query_of old) inputs givens → length run
       + waiting_number new.lists ≤ brought_by (query_of old) (all_pieces inputs givens)

@@ -22,9 +22,9 @@ use Rattle.grouping_model.specs.Parts.{functions, partials_at}
 use Rattle.packed_rows.specs.Columns.{AreColumns}
 use Rattle.packed_rows.specs.Packing.{packing}
 use Rattle.spill_tapes.specs.Records.{Record}
-use Rattle.spill_partitions.specs.Lists.{PendingPartition}
-use Rattle.spill_partitions.specs.Standing.{PartitionsState, HasLists, spilled_number, written_pages}
-use Rattle.spill_partitions.specs.declared.lists.OnTape.{OnTape}
+use Rattle.spill_partitions.specs.Partitions.{PendingPartition}
+use Rattle.spill_partitions.specs.Standing.{PartitionsState, HasPartitions, spilled_number, written_pages}
+use Rattle.spill_partitions.specs.declared.partitions.OnTape.{OnTape}
 use Rattle.agg_protocol.specs.States.{most_rows}
 use Rattle.having_filter.specs.Kept.{IsWellFormed}
 use Rattle.having_filter.specs.Meaning.{meaning}
@@ -233,7 +233,7 @@ setting_of plan hash = record { limit = plan.limit; width = length plan.first.it
 abbrev pub Holds : Query → Setting → PassState → List Piece → List Record → List PendingPartition → Type 0
 Holds query setting pass pieces ahead pending =
     (spilled : List Record)
-    × HasLists pass.last pass.lists spilled ahead pending
+    × HasPartitions pass.last pass.lists spilled ahead pending
     × Stands query setting.hash pieces pass.entries spilled
     × Spills query setting pieces pass.entries pass.lists.partitions spilled
 
@@ -258,7 +258,7 @@ CanRead plan hash Are old =
 abbrev pub ReadsList : Plan → (List ℕ → ℕ) → PassState → PassState → Type 0
 ReadsList plan hash old new =
     (records : List Record) (pieces : List Piece) (pending : List PendingPartition)
-    → HasLists old.last old.lists [] records pending
+    → HasPartitions old.last old.lists [] records pending
     → ArePieces (meaning plan.query.now) hash records pieces
     → CountUpTo (meaning plan.query.now) plan.most pieces
     → Holds (meaning plan.query.now) (setting_of plan hash) new pieces [] pending
@@ -266,7 +266,7 @@ ReadsList plan hash old new =
 abbrev pub CanReadList : Plan → (List ℕ → ℕ) → PassState → Type 0
 CanReadList plan hash old =
     (records : List Record) × (pieces : List Piece) × (pending : List PendingPartition)
-    × HasLists old.last old.lists [] records pending
+    × HasPartitions old.last old.lists [] records pending
     × ArePieces (meaning plan.query.now) hash records pieces
     × CountUpTo (meaning plan.query.now) plan.most pieces
 

@@ -9,7 +9,7 @@ use Rattle.grouping_model.specs.Parts.{partials_at}
 use Rattle.aggregation_cost.specs.Cost.{Cost, greatest, cost_of, both, cost_from}
 use Rattle.aggregation_cost.specs.Passes as cost
 use Rattle.aggregation_cost.specs.Space.{Setting, need, fronts}
-use Rattle.spill_partitions.specs.Lists.{PendingPartition}
+use Rattle.spill_partitions.specs.Partitions.{PendingPartition}
 use Rattle.group_runs.specs.Runs.{Entry, packed_keys}
 use Rattle.hash_agg.specs.Inputs.{OneByOne}
 use Rattle.hash_agg.specs.Passes.{Piece, ArePieces, made_of, rows_at, AreGroupsBy, records_of, AreCosted}

@@ -22,15 +22,15 @@ pub once_beside : (index : ℕ) → (id : TapeId) → index ≢ id.index → onc
 once_beside index id differ = grind (arith, nat_tests)
 
 -- the others are kept
-pub kept_on : (last last' : ℕ → ℕ → Type 0) (t t' : TapesState) (id : TapeId) (tapes : List OnTape) (lists : List PendingPartition)
-    → KeepsOthers last last' t t' id → times id.index tapes ≡ 0 → AreOn last t tapes lists → AreOn last' t' tapes lists
+pub kept_on : (last last' : ℕ → ℕ → Type 0) (t t' : TapesState) (id : TapeId) (tapes : List OnTape) (partitions : List PendingPartition)
+    → KeepsOthers last last' t t' id → times id.index tapes ≡ 0 → AreOn last t tapes partitions → AreOn last' t' tapes partitions
 kept_on last last' t t' id [] [] keeps none had = had
-kept_on last last' t t' id (tape ∷ tapes) (list ∷ lists) keeps none had = (
-  keeps.records tape.tape (differs id tape.tape (omega (arith, none))) list.records had.0,
+kept_on last last' t t' id (tape ∷ tapes) (partition ∷ partitions) keeps none had = (
+  keeps.records tape.tape (differs id tape.tape (omega (arith, none))) partition.records had.0,
   had.1,
   had.2,
   kept_on last last' t t' id tapes
-      lists keeps (omega (arith, none)) had.3,
+      partitions keeps (omega (arith, none)) had.3,
 )
 kept_on last last' t t' id _ _ keeps none had = absurd had
 

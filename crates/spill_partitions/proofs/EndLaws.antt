@@ -4,16 +4,17 @@ use Rattle.std.proofs.Common.{refl, sym, ◌∙◌, ap, subst, arith, inl, inr}
 use Rattle.std.proofs.lemmas.Bool.{cases_lt, ne_eqb}
 use Rattle.std.proofs.lemmas.Bool.Decides.{nat_tests}
 use Rattle.std.proofs.lemmas.List.{append-nil, append_assoc}
-use Rattle.spill_partitions.proofs.Words.{Record, TapesState, IsTape, KeepsOthers, OnTape, PendingPartition, is_none, lists, left_by, times}
+use Rattle.spill_partitions.proofs.Words.{Record, TapesState, IsTape, KeepsOthers, OnTape, PendingPartition}
+use Rattle.spill_partitions.proofs.Words.{is_none, partitions_of, left_by, times}
 use Rattle.spill_partitions.proofs.Words.{count_of, AreOn, AreAhead, AreSpilled, HaveRecords, those_with_records, each_front, each_behind}
 use Rattle.spill_partitions.proofs.ApartLaws.{times-append, kept_on, kept_ahead}
-use Rattle.spill_partitions.proofs.ListLaws.{on_push}
+use Rattle.spill_partitions.proofs.PartitionLaws.{on_push}
 use Rattle.std.proofs.lemmas.Grind.{common_steps}
 
 abbrev pub with_records : List PendingPartition → List PendingPartition
-with_records lists = filter (λ (list : PendingPartition). not (is_none list.records)) lists
+with_records partitions = filter (λ (partition : PendingPartition). not (is_none partition.records)) partitions
 
--- some lists of the pass are left to later ones, and these are still to be left
+-- some partitions of the pass are left to later ones, and these are still to be left
 pub record AreLeft (last : ℕ → ℕ → Type 0) (t : TapesState) (reading pending rest : List OnTape) (ahead : List Record)
     (all : List PendingPartition) : Type 0 where
   pub done : List PendingPartition
@@ -37,7 +38,7 @@ left_start last t level [] reading pending spilled ahead left spills aheads left
 }
 left_start last t level (x ∷ partitions) reading pending spilled ahead left spills aheads lefts = record {
   done = left;
-  more = lists level spilled;
+  more = partitions_of level spilled;
   ahead_are = aheads;
   done_are = lefts;
   more_are = spills;
@@ -58,47 +59,48 @@ some_is : (rs : List Record) → 0 < length rs → is_none rs ≡ false
 some_is [] some = absurd (omega (arith, some))
 some_is (r ∷ rs) some = refl
 
--- the next list has no record, or is left
+-- the next partition has no record, or is left
 left_none : (last last' : ℕ → ℕ → Type 0) (t t' : TapesState) (reading pending rest : List OnTape) (ahead : List Record)
-    (all done more : List PendingPartition) (x : OnTape) (list : PendingPartition) → KeepsOthers last last' t t' x.tape
+    (all done more : List PendingPartition) (x : OnTape) (partition : PendingPartition) → KeepsOthers last last' t t' x.tape
     → times x.tape.index (rest ++ (reading ++ pending)) ≡ 0 → AreAhead last t reading ahead → AreOn last t pending done
-    → AreOn last t (x ∷ rest) (list ∷ more) → done ++ with_records (list ∷ more) ≡ all → x.records ≡ 0
+    → AreOn last t (x ∷ rest) (partition ∷ more) → done ++ with_records (partition ∷ more) ≡ all → x.records ≡ 0
     → AreLeft last' t' reading pending rest ahead all
-left_none last last' t t' reading pending rest ahead all done more x list keeps apart aheads dones mores whole none =
+left_none last last' t t' reading pending rest ahead all done more x partition keeps apart aheads dones mores whole none =
     let partitions : times x.tape.index (rest ++ (reading ++ pending)) ≡ times x.tape.index rest
     + times x.tape.index (reading ++ pending) = times-append x.tape.index rest (reading ++ pending) in
     let others : times x.tape.index (reading ++ pending) ≡ times x.tape.index reading
     + times x.tape.index pending = times-append x.tape.index reading pending in
-    let empty : is_none list.records ≡ true = none_is list.records (sym mores.1 ∙ none) in
+    let empty : is_none partition.records ≡ true = none_is partition.records (sym mores.1 ∙ none) in
     record {
       done = done;
       more = more;
       ahead_are = kept_ahead last last' t t' x.tape reading ahead keeps (omega arith) aheads;
       done_are = kept_on last last' t t' x.tape pending done keeps (omega arith) dones;
       more_are = kept_on last last' t t' x.tape rest more keeps (omega arith) mores.3;
-      whole = ap (λ test. done ++ cond (not test) (list ∷ with_records more) (with_records more)) (sym empty) ∙ whole;
+      whole = ap (λ test. done ++ cond (not test) (partition ∷ with_records more) (with_records more)) (sym empty) ∙ whole;
     }
 
 left_some : (last last' : ℕ → ℕ → Type 0) (t t' : TapesState) (reading pending rest : List OnTape) (ahead : List Record)
-    (all done more : List PendingPartition) (x : OnTape) (list : PendingPartition) → KeepsOthers last last' t t' x.tape
+    (all done more : List PendingPartition) (x : OnTape) (partition : PendingPartition) → KeepsOthers last last' t t' x.tape
     → times x.tape.index (rest ++ (reading ++ pending)) ≡ 0 → ((rs : List Record) → IsTape last t x.tape rs → IsTape last' t' x.tape rs)
-    → AreAhead last t reading ahead → AreOn last t pending done → AreOn last t (x ∷ rest) (list ∷ more) → done ++ with_records (list ∷ more)
+    → AreAhead last t reading ahead → AreOn last t pending done → AreOn last t (x ∷ rest) (partition ∷ more)
+    → done ++ with_records (partition ∷ more)
     ≡ all → 0 < x.records → AreLeft last' t' reading (pending ++ x ∷ []) rest ahead all
-left_some last last' t t' reading pending rest ahead all done more x list keeps apart kept aheads dones mores whole some =
+left_some last last' t t' reading pending rest ahead all done more x partition keeps apart kept aheads dones mores whole some =
     let partitions : times x.tape.index (rest ++ (reading ++ pending)) ≡ times x.tape.index rest
     + times x.tape.index (reading ++ pending) = times-append x.tape.index rest (reading ++ pending) in
     let others : times x.tape.index (reading ++ pending) ≡ times x.tape.index reading
     + times x.tape.index pending = times-append x.tape.index reading pending in
-    let full : is_none list.records ≡ false = some_is list.records (omega (arith, mores.1, some)) in
+    let full : is_none partition.records ≡ false = some_is partition.records (omega (arith, mores.1, some)) in
     record {
-      done = done ++ list ∷ [];
+      done = done ++ partition ∷ [];
       more = more;
       ahead_are = kept_ahead last last' t t' x.tape reading ahead keeps (omega arith) aheads;
-      done_are = on_push last' t' pending done x list (kept_on last last' t t' x.tape pending done keeps (omega arith) dones)
-          (kept list.records mores.0, mores.1, mores.2, tt);
+      done_are = on_push last' t' pending done x partition (kept_on last last' t t' x.tape pending done keeps (omega arith) dones)
+          (kept partition.records mores.0, mores.1, mores.2, tt);
       more_are = kept_on last last' t t' x.tape rest more keeps (omega arith) mores.3;
-      whole = append_assoc done (list ∷ []) (with_records more)
-          ∙ ap (λ test. done ++ cond (not test) (list ∷ with_records more) (with_records more)) (sym full) ∙ whole;
+      whole = append_assoc done (partition ∷ []) (with_records more)
+          ∙ ap (λ test. done ++ cond (not test) (partition ∷ with_records more) (with_records more)) (sym full) ∙ whole;
     }
 
 left_by_case : (last last' : ℕ → ℕ → Type 0) (t t' : TapesState) (reading pending pending' rest : List OnTape) (ahead : List Record)
@@ -108,14 +110,16 @@ left_by_case : (last last' : ℕ → ℕ → Type 0) (t t' : TapesState) (readin
     → AreOn last t pending done → AreOn last t (x ∷ rest) more → done ++ with_records more ≡ all
     → AreLeft last' t' reading pending' rest ahead all
 left_by_case last last' t t' reading pending pending' rest ahead all done [] x keeps apart kept put aheads dones mores whole = absurd mores
-left_by_case last last' t t' reading pending pending' rest ahead all done (list ∷ more) x keeps apart kept put aheads dones mores whole =
+left_by_case last last' t t' reading pending pending' rest ahead all done (partition ∷ more) x keeps apart kept put aheads dones mores
+    whole =
     elim (cases_lt 0 x.records) [
       | inl some ↦ subst (λ xs. AreLeft last' t' reading xs rest ahead all) (sym (put ∙ ap (λ xs. pending ++ xs) (those_some x some)))
-          (left_some last last' t t' reading pending rest ahead all done more x list keeps apart (kept some) aheads dones mores whole some)
+          (left_some last last' t t' reading pending rest ahead all done more x partition keeps apart (kept some) aheads dones mores whole
+          some)
       | inr few ↦
           let none : x.records ≡ 0 = omega (arith, few) in
           subst (λ xs. AreLeft last' t' reading xs rest ahead all) (sym (put ∙ ap (λ xs. pending ++ xs) (those_none x none)
-          ∙ append-nil pending)) (left_none last last' t t' reading pending rest ahead all done more x list keeps apart aheads dones
+          ∙ append-nil pending)) (left_none last last' t t' reading pending rest ahead all done more x partition keeps apart aheads dones
           mores whole none)
     ]
 

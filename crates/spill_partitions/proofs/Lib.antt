@@ -1,7 +1,7 @@
 pub mod Words
 pub mod DigitLaws
 pub mod ApartLaws
-pub mod ListLaws
+pub mod PartitionLaws
 pub mod EndLaws
 pub mod StandingLaws
 pub mod OpenLaws

@@ -1,16 +1,16 @@
--- The lists of a pass while they are opened.
+-- The partitions of a pass while they are opened.
 use Rattle.std.specs.Prelude.{◌≡◌, ◌==◌, ℕ, ◌+◌, ◌≤◌, true, false, List, [], ◌∷◌, ◌++◌, length}
 use Rattle.std.proofs.Common.{sym, ◌∙◌, ap, subst, arith, length-append}
 use Rattle.std.proofs.lemmas.Bool.Decides.{nat_tests}
 use Rattle.spill_partitions.proofs.Words.{Record, is_open, KeepsOthers, TapeId, OnTape, PendingPartition, deeper, PartitionsState, once}
 use Rattle.spill_partitions.proofs.Words.{times, count_of, full_pages, spilled_number, written_pages, AreApart, AreSpilled, AreRead}
-use Rattle.spill_partitions.proofs.Words.{HasLists, IsNewList, AreLists, Written, Read}
+use Rattle.spill_partitions.proofs.Words.{HasPartitions, IsNewPartition, ArePartitions, Written, Read}
 use Rattle.spill_partitions.proofs.ApartLaws.{times-append, kept_in, written_open, read_open, fresh_in}
-use Rattle.spill_partitions.proofs.ListLaws.{AreNew, kept_new, new_push, new_written, new_spilled}
+use Rattle.spill_partitions.proofs.PartitionLaws.{AreNew, kept_new, new_push, new_written, new_spilled}
 use Rattle.spill_partitions.proofs.StandingLaws.{state, one_more, has_beside}
 use Rattle.std.proofs.lemmas.Grind.{common_steps}
 
--- so many new lists are open beside those that were there
+-- so many new partitions are open beside those that were there
 pub record AreOpening (last : ℕ → ℕ → Type 0) (before now : PartitionsState) (deep : ℕ) (tapes : List OnTape) (count : ℕ) : Type 0 where
   pub long : length tapes ≡ count
   pub new : AreNew last now.tapes deep tapes
@@ -21,29 +21,29 @@ pub record AreOpening (last : ℕ → ℕ → Type 0) (before now : PartitionsSt
   pub reading : now.reading ≡ before.reading
   pub pending : now.pending ≡ before.pending
   pub level : now.level ≡ before.level
-  pub has : (spilled ahead : List Record) (left : List PendingPartition) → HasLists last before spilled ahead left
-      → HasLists last now spilled ahead left
+  pub has : (spilled ahead : List Record) (left : List PendingPartition) → HasPartitions last before spilled ahead left
+      → HasPartitions last now spilled ahead left
 
 pub opening_start : (last : ℕ → ℕ → Type 0) (s : PartitionsState) (deep : ℕ) (tapes : List OnTape) → s.tapes.is_dead ≡ false → s.partitions
-    ≡ [] → tapes ≡ [] → AreLists s → AreOpening last s s deep tapes 0
+    ≡ [] → tapes ≡ [] → ArePartitions s → AreOpening last s s deep tapes 0
 opening_start last s deep tapes alive partitions none are = grind (arith, nat_tests, common_steps)
 
 has_moved : (last : ℕ → ℕ → Type 0) (s s' : PartitionsState) (id : TapeId) → KeepsOthers last last s.tapes s'.tapes id → s.partitions ≡ []
     → times id.index (s.reading ++ s.pending) ≡ 0 → s'.partitions ≡ s.partitions → s'.reading ≡ s.reading → s'.pending ≡ s.pending
-    → s'.level ≡ s.level → (spilled ahead : List Record) (left : List PendingPartition) → HasLists last s spilled ahead left
-    → HasLists last s' spilled ahead left
+    → s'.level ≡ s.level → (spilled ahead : List Record) (left : List PendingPartition) → HasPartitions last s spilled ahead left
+    → HasPartitions last s' spilled ahead left
 has_moved last s s' id keeps none apart partitions reading pending level spilled ahead left had =
     let same : state s'.tapes s.level s.partitions s.reading s.pending ≡ s' =
     ap (λ n. state s'.tapes n s.partitions s.reading s.pending) (sym level)
     ∙ ap (λ xs. state s'.tapes s'.level xs s.reading s.pending) (sym partitions)
     ∙ ap (λ xs. state s'.tapes s'.level s'.partitions xs s.pending) (sym reading)
     ∙ ap (λ xs. state s'.tapes s'.level s'.partitions s'.reading xs) (sym pending) in
-    subst (λ (x : PartitionsState). HasLists last x spilled ahead left) same
+    subst (λ (x : PartitionsState). HasPartitions last x spilled ahead left) same
     (has_beside last last s.tapes s'.tapes s.level s.partitions s.reading s.pending spilled ahead left id keeps
     (ap (λ xs. times id.index (xs ++ (s.reading ++ s.pending))) none ∙ apart) had)
 
 pub opening_step : (last : ℕ → ℕ → Type 0) (before now after : PartitionsState) (deep : ℕ) (tapes tapes' : List OnTape) (n : ℕ) (x : OnTape)
-    → AreOpening last before now deep tapes n → tapes' ≡ tapes ++ x ∷ [] → IsNewList last after.tapes deep x → is_open now.tapes x.tape
+    → AreOpening last before now deep tapes n → tapes' ≡ tapes ++ x ∷ [] → IsNewPartition last after.tapes deep x → is_open now.tapes x.tape
     ≡ false → KeepsOthers last last now.tapes after.tapes x.tape → after.tapes.is_dead ≡ false → after.partitions ≡ now.partitions
     → after.reading ≡ now.reading → after.pending ≡ now.pending → after.level ≡ now.level → AreOpening last before after deep tapes' (n + 1)
 opening_step last before now after deep tapes tapes' n x opening more new fresh keeps alive partitions reading pending level =
@@ -85,21 +85,21 @@ opening_step last before now after deep tapes tapes' n x opening more new fresh 
 
 pub opening_has : (last : ℕ → ℕ → Type 0) (s : PartitionsState) (tapes : List OnTape) (spilled ahead : List Record)
     (left : List PendingPartition) → length tapes ≡ 16 → s.partitions ≡ [] → AreNew last s.tapes (deeper s.level) tapes
-    → HasLists last s spilled ahead left → HasLists last (state s.tapes s.level tapes s.reading s.pending) spilled ahead left
+    → HasPartitions last s spilled ahead left → HasPartitions last (state s.tapes s.level tapes s.reading s.pending) spilled ahead left
 opening_has last s tapes spilled ahead left long none new had =
     let nothing : spilled ≡ [] = subst (λ xs. AreSpilled last s.tapes s.level xs spilled) none had.spilled_are in
     record {
       spilled_are = new_spilled last s.tapes s.level tapes spilled long nothing new;
       ahead_are = had.ahead_are;
-      todo_are = had.todo_are;
+      pending_are = had.pending_are;
     }
 
--- no lists are open
+-- no partitions are open
 pub none_open : (s : PartitionsState) (partitions : List OnTape) (n : ℕ) → partitions ≡ s.partitions → length partitions ≡ n → (n == 0)
     ≡ true → s.partitions ≡ []
 none_open s partitions n is long empty = grind (arith, nat_tests, common_steps)
 
--- no lists, no records and no pages
+-- no partitions, no records and no pages
 pub none_spilled : (s : PartitionsState) → s.partitions ≡ [] → spilled_number s ≡ 0
 none_spilled s none = ap count_of none
 

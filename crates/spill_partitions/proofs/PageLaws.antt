@@ -1,19 +1,20 @@
--- How many pages the tapes of lists have.
+-- How many pages the tapes of partitions have.
 use Rattle.std.specs.Prelude.{◌≡◌, refl, ℕ, zero, suc, ◌+◌, ◌/◌, ◌<◌, ◌≤◌, List, [], ◌∷◌, ◌++◌, length, get_or}
 use Rattle.std.proofs.Common.{sym, ◌∙◌, ap, subst, arith}
 use Rattle.std.proofs.Math.ListN.{set}
 use Rattle.std.proofs.lemmas.List.Sums.{sum_by-cons}
-use Rattle.spill_partitions.proofs.Words.{Record, TapesState, IsTape, written_len, KeepsOthers, TapeId, PendingPartition, lists, times}
-use Rattle.spill_partitions.proofs.Words.{AreApart, AreOn, AreSpilled, list_pages, pages_of, full_pages, OnTape}
+use Rattle.spill_partitions.proofs.Words.{Record, TapesState, IsTape, written_len, KeepsOthers, TapeId}
+use Rattle.spill_partitions.proofs.Words.{PendingPartition, partitions_of, times}
+use Rattle.spill_partitions.proofs.Words.{AreApart, AreOn, AreSpilled, partition_pages, pages_of, full_pages, OnTape}
 use Rattle.spill_partitions.proofs.ApartLaws.{times-append, differs, once_here, times_here, kept_on}
-use Rattle.spill_partitions.proofs.ListLaws.{AreNew}
+use Rattle.spill_partitions.proofs.PartitionLaws.{AreNew}
 use Rattle.spill_partitions.proofs.StandingLaws.{times_in}
 use Rattle.std.proofs.lemmas.Bool.Decides.{nat_tests}
 use Rattle.std.proofs.lemmas.Grind.{common_steps}
 
 full_cons : (t : TapesState) (tape : OnTape) (tapes : List OnTape) → full_pages t (tape ∷ tapes) ≡ written_len t tape.tape / 8192
     + full_pages t tapes
-full_cons t tape tapes = sum_by-cons (λ (list : OnTape). written_len t list.tape / 8192) tape tapes
+full_cons t tape tapes = sum_by-cons (λ (partition : OnTape). written_len t partition.tape / 8192) tape tapes
 
 -- the others have as many
 pub kept_pages : (last last' : ℕ → ℕ → Type 0) (t t' : TapesState) (id : TapeId) (tapes : List OnTape) → KeepsOthers last last' t t' id
@@ -58,7 +59,7 @@ new_pages last t level (x ∷ tapes) had =
     let rest = new_pages last t level tapes had.1 in
     omega (arith, all, none, rest)
 
--- the list that is read is none of those to which the pass spills
+-- the partition that is read is none of those to which the pass spills
 pub source_apart : (partitions reading pending : List OnTape) (x : OnTape) → reading ≡ x ∷ []
     → AreApart (partitions ++ (reading ++ pending)) → times x.tape.index partitions ≡ 0
 source_apart partitions reading pending x is apart =
@@ -83,7 +84,7 @@ parts_once partitions reading pending index apart = let all = times_in index par
 pub rest_apart : (rest others : List OnTape) (index : ℕ) → times index (rest ++ others) ≡ 0 → times index rest ≡ 0
 rest_apart rest others index none = let all = times-append index rest others in omega (arith, all, none)
 
--- ---- lists that are left one after the other
+-- ---- partitions that are left one after the other
 
 -- these are still to be left, and the pages that were written are those of the others and the full ones of these
 pub record IsPaged (last : ℕ → ℕ → Type 0) (t : TapesState) (rest : List OnTape) (start all full written : ℕ) : Type 0 where
@@ -91,42 +92,43 @@ pub record IsPaged (last : ℕ → ℕ → Type 0) (t : TapesState) (rest : List
   pub are : AreOn last t rest more
   pub sum : written + full + pages_of more ≡ start + all + full_pages t rest
 
-no_pages : (level : ℕ) → pages_of (lists level []) ≡ 0
+no_pages : (level : ℕ) → pages_of (partitions_of level []) ≡ 0
 no_pages level = refl
 
 pub paged_start : (last : ℕ → ℕ → Type 0) (t : TapesState) (level : ℕ) (partitions rest : List OnTape) (spilled : List Record) (start : ℕ)
-    → rest ≡ partitions → AreSpilled last t level partitions spilled → IsPaged last t rest start (pages_of (lists level spilled))
+    → rest ≡ partitions → AreSpilled last t level partitions spilled → IsPaged last t rest start (pages_of (partitions_of level spilled))
     (full_pages t partitions) start
-paged_start last t level partitions rest spilled start is are = subst (λ rest. IsPaged last t rest start (pages_of (lists level spilled))
+paged_start last t level partitions rest spilled start is are = subst
+    (λ rest. IsPaged last t rest start (pages_of (partitions_of level spilled))
     (full_pages t partitions) start) (sym is) (from partitions are)
   where
     from : (partitions : List OnTape) → AreSpilled last t level partitions spilled
-        → IsPaged last t partitions start (pages_of (lists level spilled)) (full_pages t partitions) start
+        → IsPaged last t partitions start (pages_of (partitions_of level spilled)) (full_pages t partitions) start
     from [] none =
-        let clear : pages_of (lists level spilled) ≡ 0 = ap (λ rs. pages_of (lists level rs)) none ∙ no_pages level in
+        let clear : pages_of (partitions_of level spilled) ≡ 0 = ap (λ rs. pages_of (partitions_of level rs)) none ∙ no_pages level in
         record { more = []; are = tt; sum = omega (arith, clear) }
-    from (x ∷ partitions) are = record { more = lists level spilled; are = are; sum = omega arith }
+    from (x ∷ partitions) are = record { more = partitions_of level spilled; are = are; sum = omega arith }
 
 pub paged_step : (last last' : ℕ → ℕ → Type 0) (t t' : TapesState) (rest rest' : List OnTape) (x : OnTape) (start all full written now : ℕ)
     → rest ≡ x ∷ rest' → KeepsOthers last last' t t' x.tape → times x.tape.index rest' ≡ 0
     → ((records : List Record) → IsTape last t x.tape records → x.records ≡ length records → now + written_len t x.tape / 8192 ≡ written
-    + list_pages records) → IsPaged last t rest start all full written → IsPaged last' t' rest' start all full now
+    + partition_pages records) → IsPaged last t rest start all full written → IsPaged last' t' rest' start all full now
 paged_step last last' t t' rest rest' x start all full written now is keeps apart paged p = by p.more
     (subst (λ rest. AreOn last t rest p.more) is p.are) (p.sum ∙ ap (λ rest. start + all + full_pages t rest) is)
   where
     by : (more : List PendingPartition) → AreOn last t (x ∷ rest') more → written + full + pages_of more ≡ start + all
         + full_pages t (x ∷ rest') → IsPaged last' t' rest' start all full now
     by [] are sum = absurd are
-    by (list ∷ more) are sum =
-        let one = paged list.records are.0 are.1 in
-        let lists_cons = sum_by-cons (λ (list : PendingPartition). list_pages list.records) list more in
+    by (partition ∷ more) are sum =
+        let one = paged partition.records are.0 are.1 in
+        let partitions_cons = sum_by-cons (λ (partition : PendingPartition). partition_pages partition.records) partition more in
         let tapes_cons = full_cons t x rest' in
         let kept = kept_pages last last' t t' x.tape rest' keeps apart in
         record {
           more = more;
           are = kept_on last last' t t' x.tape rest' more keeps apart are.3;
           sum = omega
-              (arith, one, sum, lists_cons, tapes_cons, kept);
+              (arith, one, sum, partitions_cons, tapes_cons, kept);
         }
 
 pub paged_end : (last : ℕ → ℕ → Type 0) (t : TapesState) (rest : List OnTape) (start all full written : ℕ) → rest ≡ []

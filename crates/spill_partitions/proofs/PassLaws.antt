@@ -1,18 +1,19 @@
--- The lists of a pass while they are left to later ones, and what a refused call says.
+-- The partitions of a pass while they are left to later ones, and what a refused call says.
 use Rattle.std.specs.Prelude.{◌≡◌, ℕ, ◌+◌, ◌<◌, ◌≤◌, false, List, [], ◌∷◌, ◌++◌}
 use Rattle.std.proofs.Common.{refl, sym, ◌∙◌, ap, subst, arith, inl}
 use Rattle.std.proofs.lemmas.List.Sums.{sum_by-cons}
 use Rattle.spill_partitions.proofs.Words.{Record, TapesState, IsTape, KeepsOthers, OnTape, PendingPartition, left_by, PartitionsState, once}
-use Rattle.spill_partitions.proofs.Words.{times, count_of, AreApart, AreSpilled, AreWritten, HasLists, AreLists, those_with_records}
+use Rattle.spill_partitions.proofs.Words.{times, count_of, AreApart, AreSpilled, AreWritten}
+use Rattle.spill_partitions.proofs.Words.{HasPartitions, ArePartitions, those_with_records}
 use Rattle.spill_partitions.proofs.Words.{Written}
 use Rattle.spill_partitions.proofs.ApartLaws.{times-append, kept_in}
-use Rattle.spill_partitions.proofs.ListLaws.{count-append}
+use Rattle.spill_partitions.proofs.PartitionLaws.{count-append}
 use Rattle.spill_partitions.proofs.EndLaws.{AreLeft, left_start, left_step, left_end, those_count, those_times}
 use Rattle.spill_partitions.proofs.StandingLaws.{state, times_in}
 use Rattle.std.proofs.lemmas.Bool.Decides.{nat_tests}
 use Rattle.std.proofs.lemmas.Grind.{common_steps}
 
--- these lists of the pass are still to be left
+-- these partitions of the pass are still to be left
 pub record IsEnding (last last' : ℕ → ℕ → Type 0) (before now : PartitionsState) (rest : List OnTape) : Type 0 where
   pub apart : AreApart (rest ++ (now.reading ++ now.pending))
   pub written : AreWritten now.tapes rest
@@ -21,11 +22,11 @@ pub record IsEnding (last last' : ℕ → ℕ → Type 0) (before now : Partitio
   pub reading : now.reading ≡ before.reading
   pub level : now.level ≡ before.level
   pub waiting : count_of now.pending + count_of rest ≡ count_of before.pending + count_of before.partitions
-  pub left : (spilled ahead : List Record) (pending : List PendingPartition) → HasLists last before spilled ahead pending
+  pub left : (spilled ahead : List Record) (pending : List PendingPartition) → HasPartitions last before spilled ahead pending
       → AreLeft last' now.tapes now.reading now.pending rest ahead (pending ++ left_by before.level spilled)
 
 pub ending_start : (last : ℕ → ℕ → Type 0) (t : TapesState) (level : ℕ) (partitions none reading pending rest : List OnTape) → t.is_dead
-    ≡ false → none ≡ [] → rest ≡ partitions → AreLists (state t level partitions reading pending)
+    ≡ false → none ≡ [] → rest ≡ partitions → ArePartitions (state t level partitions reading pending)
     → IsEnding last last (state t level partitions reading pending) (state t level none reading pending) rest
 ending_start last t level partitions none reading pending rest alive empty is are = record {
   apart = subst (λ xs. AreApart (xs ++ (reading ++ pending))) (sym is) are.apart;
@@ -36,12 +37,12 @@ ending_start last t level partitions none reading pending rest alive empty is ar
   level = refl;
   waiting = ap (λ xs. count_of pending + count_of xs) is;
   left = λ spilled ahead left had. subst (λ xs. AreLeft last t reading pending xs ahead (left ++ left_by level spilled)) (sym is)
-      (left_start last t level partitions reading pending spilled ahead left had.spilled_are had.ahead_are had.todo_are);
+      (left_start last t level partitions reading pending spilled ahead left had.spilled_are had.ahead_are had.pending_are);
 }
 
-pub lists_without : (t : TapesState) (level : ℕ) (partitions none reading pending : List OnTape) → none ≡ []
-    → AreLists (state t level partitions reading pending) → AreLists (state t level none reading pending)
-lists_without t level partitions none reading pending empty are = record {
+pub partitions_without : (t : TapesState) (level : ℕ) (partitions none reading pending : List OnTape) → none ≡ []
+    → ArePartitions (state t level partitions reading pending) → ArePartitions (state t level none reading pending)
+partitions_without t level partitions none reading pending empty are = record {
   apart = λ index. omega (
     arith,
     are.apart index,
@@ -111,7 +112,7 @@ ending_step last last' last'' before now after rest rest' x is keeps kept put al
 
 pub ending_end : (last last' : ℕ → ℕ → Type 0) (before now : PartitionsState) (rest : List OnTape) → rest ≡ []
     → IsEnding last last' before now rest → (spilled ahead : List Record) (pending : List PendingPartition)
-    → HasLists last before spilled ahead pending → HasLists last' now [] ahead (pending ++ left_by before.level spilled)
+    → HasPartitions last before spilled ahead pending → HasPartitions last' now [] ahead (pending ++ left_by before.level spilled)
 ending_end last last' before now rest none ending spilled ahead pending had =
     let left = left_end last' now.tapes now.reading now.pending ahead (pending ++ left_by before.level spilled)
     (subst (λ xs. AreLeft last' now.tapes now.reading now.pending xs ahead (pending ++ left_by before.level spilled)) none
@@ -119,5 +120,5 @@ ending_end last last' before now rest none ending spilled ahead pending had =
     record {
       spilled_are = subst (λ xs. AreSpilled last' now.tapes now.level xs []) (sym ending.partitions) refl;
       ahead_are = left.0;
-      todo_are = left.1;
+      pending_are = left.1;
     }

@@ -1,15 +1,16 @@
--- What is true of all lists, and what they are, after a call of their tapes.
+-- What is true of all partitions, and what they have, after a call of their tapes.
 use Rattle.std.specs.Prelude.{◌≡◌, ℕ, ◌+◌, ◌<◌, ◌≤◌, ◌⊎◌, true, false, List, [], ◌∷◌, ◌++◌, length, get_or, Some}
 use Rattle.std.proofs.Math.ListN.{set}
 use Rattle.std.proofs.Common.{refl, sym, ◌∙◌, ap, subst, arith, inl, inr, length-set}
 use Rattle.std.proofs.lemmas.List.{nil_from_length}
 use Rattle.spill_partitions.proofs.Words.{Record, Gives, TapesState, phase_of, is_open, is_read, IsTape, KeepsOthers, TapeId, OnTape}
-use Rattle.spill_partitions.proofs.Words.{PendingPartition, list_of, lists, PartitionsState, once, times, AreApart, AreOn, AreSpilled}
-use Rattle.spill_partitions.proofs.Words.{AreAhead, AreWritten, AreRead, HaveRecords, HasLists, AreLists, BeginsLast, each_append}
+use Rattle.spill_partitions.proofs.Words.{PendingPartition, partition_of, partitions_of, PartitionsState, once, times}
+use Rattle.spill_partitions.proofs.Words.{AreApart, AreOn, AreSpilled}
+use Rattle.spill_partitions.proofs.Words.{AreAhead, AreWritten, AreRead, HaveRecords, HasPartitions, ArePartitions, BeginsLast, each_append}
 use Rattle.spill_partitions.proofs.Words.{each_front, each_behind, Written, Read}
 use Rattle.spill_partitions.proofs.ApartLaws.{times-append, once_here, kept_on, kept_ahead, times_here, times-set, written-set, kept_in}
 use Rattle.spill_partitions.proofs.ApartLaws.{same_in, written_open, read_open, fresh_in}
-use Rattle.spill_partitions.proofs.ListLaws.{put_on, has_last}
+use Rattle.spill_partitions.proofs.PartitionLaws.{put_on, has_last}
 use Rattle.spill_partitions.proofs.EndLaws.{filled_front}
 use Rattle.std.proofs.lemmas.Bool.Decides.{nat_tests}
 use Rattle.std.proofs.lemmas.Grind.{common_steps}
@@ -37,10 +38,11 @@ pub one_more : (count : ℕ → ℕ) (id : TapeId) (index : ℕ) → count id.in
 one_more count id index none few = grind (arith, nat_tests, common_steps)
 
 -- a tape that is none of these changed
-pub lists_beside : (last last' : ℕ → ℕ → Type 0) (t t' : TapesState) (level : ℕ) (partitions reading pending : List OnTape) (id : TapeId)
+pub partitions_beside : (last last' : ℕ → ℕ → Type 0) (t t' : TapesState) (level : ℕ) (partitions reading pending : List OnTape)
+    (id : TapeId)
     → KeepsOthers last last' t t' id → times id.index (partitions ++ (reading ++ pending)) ≡ 0 → (t'.is_dead ≡ false → t.is_dead ≡ false)
-    → AreLists (state t level partitions reading pending) → AreLists (state t' level partitions reading pending)
-lists_beside last last' t t' level partitions reading pending id keeps none alive are =
+    → ArePartitions (state t level partitions reading pending) → ArePartitions (state t' level partitions reading pending)
+partitions_beside last last' t t' level partitions reading pending id keeps none alive are =
     let parted : times id.index (partitions ++ (reading ++ pending)) ≡ times id.index partitions
     + times id.index (reading ++ pending) = times-append id.index partitions (reading ++ pending) in
     record {
@@ -56,23 +58,24 @@ kept_spilled : (last last' : ℕ → ℕ → Type 0) (t t' : TapesState) (level 
     → AreSpilled last' t' level partitions spilled
 kept_spilled last last' t t' level [] spilled id keeps none had = had
 kept_spilled last last' t t' level (x ∷ partitions) spilled id keeps none had = kept_on last last' t t' id (x ∷ partitions)
-    (lists level spilled) keeps none had
+    (partitions_of level spilled) keeps none had
 
 pub has_beside : (last last' : ℕ → ℕ → Type 0) (t t' : TapesState) (level : ℕ) (partitions reading pending : List OnTape)
     (spilled ahead : List Record) (left : List PendingPartition) (id : TapeId) → KeepsOthers last last' t t' id
-    → times id.index (partitions ++ (reading ++ pending)) ≡ 0 → HasLists last (state t level partitions reading pending) spilled ahead left
-    → HasLists last' (state t' level partitions reading pending) spilled ahead left
+    → times id.index (partitions ++ (reading ++ pending)) ≡ 0
+    → HasPartitions last (state t level partitions reading pending) spilled ahead left
+    → HasPartitions last' (state t' level partitions reading pending) spilled ahead left
 has_beside last last' t t' level partitions reading pending spilled ahead left id keeps none had =
     let counts : times id.index (partitions ++ (reading ++ pending)) ≡ times id.index partitions
     + (times id.index reading + times id.index pending) = times_in id.index partitions reading pending in
     record {
       spilled_are = kept_spilled last last' t t' level partitions spilled id keeps (omega (arith, counts, none)) had.spilled_are;
       ahead_are = kept_ahead last last' t t' id reading ahead keeps (omega (arith, counts, none)) had.ahead_are;
-      todo_are = kept_on last last' t t' id pending left keeps (omega (arith, counts, none)) had.todo_are;
+      pending_are = kept_on last last' t t' id pending left keeps (omega (arith, counts, none)) had.pending_are;
     }
 
 pub fresh_beside : (t : TapesState) (level : ℕ) (partitions reading pending : List OnTape) (id : TapeId) → t.is_dead ≡ false → is_open t id
-    ≡ false → AreLists (state t level partitions reading pending) → times id.index (partitions ++ (reading ++ pending)) ≡ 0
+    ≡ false → ArePartitions (state t level partitions reading pending) → times id.index (partitions ++ (reading ++ pending)) ≡ 0
 fresh_beside t level partitions reading pending id alive closed are =
     omega (
       arith,
@@ -83,10 +86,10 @@ fresh_beside t level partitions reading pending id alive closed are =
     )
 
 -- no tape began or ended
-pub lists_same : (t t' : TapesState) (level : ℕ) (partitions reading pending : List OnTape)
+pub partitions_same : (t t' : TapesState) (level : ℕ) (partitions reading pending : List OnTape)
     → ((id : TapeId) → phase_of t' id ≡ phase_of t id) → (t'.is_dead ≡ false → t.is_dead ≡ false)
-    → AreLists (state t level partitions reading pending) → AreLists (state t' level partitions reading pending)
-lists_same t t' level partitions reading pending same alive are = record {
+    → ArePartitions (state t level partitions reading pending) → ArePartitions (state t' level partitions reading pending)
+partitions_same t t' level partitions reading pending same alive are = record {
   apart = are.apart;
   sixteen = are.sixteen;
   written = λ lives. same_in Written t t' partitions same (are.written (alive lives));
@@ -94,16 +97,16 @@ lists_same t t' level partitions reading pending same alive are = record {
   filled = are.filled;
 }
 
--- a list of the pass in the place of one with the same tape
+-- a partition of the pass in the place of one with the same tape
 set_sixteen : (partitions : List OnTape) (i : ℕ) (y : OnTape) → (partitions ≡ []) ⊎ (length partitions ≡ 16) → (set partitions i y ≡ [])
     ⊎ (length (set partitions i y) ≡ 16)
 set_sixteen partitions i y (inl none) = inl (ap (λ xs. set xs i y) none)
 set_sixteen partitions i y (inr long) = inr (length-set partitions i y ∙ long)
 
-pub lists_put : (t t' : TapesState) (level : ℕ) (partitions reading pending : List OnTape) (i : ℕ) (x y : OnTape) → x
+pub partitions_put : (t t' : TapesState) (level : ℕ) (partitions reading pending : List OnTape) (i : ℕ) (x y : OnTape) → x
     ≡ get_or partitions i x → y.tape ≡ x.tape → ((id : TapeId) → phase_of t' id ≡ phase_of t id) → (t'.is_dead ≡ false → t.is_dead ≡ false)
-    → AreLists (state t level partitions reading pending) → AreLists (state t' level (set partitions i y) reading pending)
-lists_put t t' level partitions reading pending i x y is tape same alive are = record {
+    → ArePartitions (state t level partitions reading pending) → ArePartitions (state t' level (set partitions i y) reading pending)
+partitions_put t t' level partitions reading pending i x y is tape same alive are = record {
   apart = λ index. omega (
     arith,
     are.apart index,
@@ -119,22 +122,22 @@ lists_put t t' level partitions reading pending i x y is tape same alive are = r
 }
 
 spilled_on : (last : ℕ → ℕ → Type 0) (t : TapesState) (level : ℕ) (tapes : List OnTape) (spilled : List Record) → 0 < length tapes
-    → AreSpilled last t level tapes spilled → AreOn last t tapes (lists level spilled)
+    → AreSpilled last t level tapes spilled → AreOn last t tapes (partitions_of level spilled)
 spilled_on last t level [] spilled some had = absurd (omega (arith, some))
 spilled_on last t level (x ∷ tapes) spilled some had = had
 
 on_spilled : (last : ℕ → ℕ → Type 0) (t : TapesState) (level : ℕ) (tapes : List OnTape) (spilled : List Record) → 0 < length tapes
-    → AreOn last t tapes (lists level spilled) → AreSpilled last t level tapes spilled
+    → AreOn last t tapes (partitions_of level spilled) → AreSpilled last t level tapes spilled
 on_spilled last t level [] spilled some had = absurd (omega (arith, some))
 on_spilled last t level (x ∷ tapes) spilled some had = had
 
 pub has_put : (last last' : ℕ → ℕ → Type 0) (t t' : TapesState) (level : ℕ) (partitions reading pending : List OnTape)
     (spilled ahead : List Record) (left : List PendingPartition) (i : ℕ) (x y : OnTape) (r : Record) → i < length partitions → x
-    ≡ get_or partitions i x → y.tape ≡ x.tape → y.records ≡ x.records + 1 → y.level ≡ x.level → i ≡ list_of level r.hash
+    ≡ get_or partitions i x → y.tape ≡ x.tape → y.records ≡ x.records + 1 → y.level ≡ x.level → i ≡ partition_of level r.hash
     → AreApart (partitions ++ (reading ++ pending)) → KeepsOthers last last' t t' x.tape
     → ((rs : List Record) → IsTape last t x.tape rs → IsTape last' t' x.tape (rs ++ r ∷ []))
-    → HasLists last (state t level partitions reading pending) spilled ahead left
-    → HasLists last' (state t' level (set partitions i y) reading pending) (spilled ++ r ∷ []) ahead left
+    → HasPartitions last (state t level partitions reading pending) spilled ahead left
+    → HasPartitions last' (state t' level (set partitions i y) reading pending) (spilled ++ r ∷ []) ahead left
 has_put last last' t t' level partitions reading pending spilled ahead left i x y r less is tape more deep falls apart keeps puts had =
     let counts : times x.tape.index (partitions ++ (reading ++ pending)) ≡ times x.tape.index partitions
     + (times x.tape.index reading + times x.tape.index pending) = times_in x.tape.index partitions reading pending in
@@ -146,20 +149,20 @@ has_put last last' t t' level partitions reading pending spilled ahead left i x 
           (put_on last last' t t' level spilled r partitions 0 16 i x y less is (omega (arith, falls)) (omega (arith, counts, few)) keeps
           puts tape more deep (spilled_on last t level partitions spilled (omega (arith, less)) had.spilled_are));
       ahead_are = kept_ahead last last' t t' x.tape reading ahead keeps (omega (arith, counts, here, few)) had.ahead_are;
-      todo_are = kept_on last last' t t' x.tape pending left keeps (omega (arith, counts, here, few)) had.todo_are;
+      pending_are = kept_on last last' t t' x.tape pending left keeps (omega (arith, counts, here, few)) had.pending_are;
     }
 
--- the lists of the pass are opened
-pub lists_opened : (t : TapesState) (level : ℕ) (partitions none reading pending : List OnTape)
+-- the partitions of the pass are opened
+pub partitions_opened : (t : TapesState) (level : ℕ) (partitions none reading pending : List OnTape)
     → AreApart (partitions ++ (reading ++ pending)) → length partitions ≡ 16 → AreWritten t partitions
-    → AreLists (state t level none reading pending) → AreLists (state t level partitions reading pending)
-lists_opened t level partitions none reading pending apart long written are = grind (arith, nat_tests, common_steps)
+    → ArePartitions (state t level none reading pending) → ArePartitions (state t level partitions reading pending)
+partitions_opened t level partitions none reading pending apart long written are = grind (arith, nat_tests, common_steps)
 
--- a list is left
-pub lists_pushed : (t : TapesState) (level : ℕ) (partitions reading pending : List OnTape) (x : OnTape) → is_read t x.tape ≡ true
-    → 0 < x.records → times x.tape.index (partitions ++ (reading ++ pending)) ≡ 0 → AreLists (state t level partitions reading pending)
-    → AreLists (state t level partitions reading (pending ++ x ∷ []))
-lists_pushed t level partitions reading pending x read some none are = record {
+-- a partition is left
+pub partitions_pushed : (t : TapesState) (level : ℕ) (partitions reading pending : List OnTape) (x : OnTape) → is_read t x.tape ≡ true
+    → 0 < x.records → times x.tape.index (partitions ++ (reading ++ pending)) ≡ 0 → ArePartitions (state t level partitions reading pending)
+    → ArePartitions (state t level partitions reading (pending ++ x ∷ []))
+partitions_pushed t level partitions reading pending x read some none are = record {
   apart = λ index.
       let after : times index (partitions ++ (reading ++ (pending ++ x ∷ []))) ≡ times index partitions
       + (times index reading + times index (pending ++ x ∷ [])) = times_in index partitions reading (pending ++ x ∷ []) in
@@ -176,10 +179,10 @@ lists_pushed t level partitions reading pending x read some none are = record {
   filled = each_append (λ (y : OnTape). 0 < y.records) pending (x ∷ []) are.filled (some, tt);
 }
 
--- the last list is to be read
-pub lists_begun : (t : TapesState) (level level' : ℕ) (partitions reading pending all : List OnTape) (x : OnTape) → reading ≡ [] → all
-    ≡ pending ++ x ∷ [] → AreLists (state t level partitions reading all) → AreLists (state t level' partitions (x ∷ []) pending)
-lists_begun t level level' partitions reading pending all x none is are =
+-- the last partition is to be read
+pub partitions_begun : (t : TapesState) (level level' : ℕ) (partitions reading pending all : List OnTape) (x : OnTape) → reading ≡ [] → all
+    ≡ pending ++ x ∷ [] → ArePartitions (state t level partitions reading all) → ArePartitions (state t level' partitions (x ∷ []) pending)
+partitions_begun t level level' partitions reading pending all x none is are =
     let reads : t.is_dead ≡ false → AreRead t (pending ++ x ∷ []) = λ lives. subst (AreRead t) is
     (subst (λ xs. AreRead t (xs ++ all)) none (are.read lives)) in
     record {
@@ -200,25 +203,26 @@ lists_begun t level level' partitions reading pending all x none is are =
 
 pub has_begun : (last : ℕ → ℕ → Type 0) (t : TapesState) (level level' : ℕ) (partitions reading pending all : List OnTape)
     (left : List PendingPartition) (x : OnTape) → partitions ≡ [] → level' ≡ x.level → all ≡ pending ++ x ∷ []
-    → HasLists last (state t level partitions reading all) [] [] left → BeginsLast last (state t level' partitions (x ∷ []) pending) left
+    → HasPartitions last (state t level partitions reading all) [] [] left
+    → BeginsLast last (state t level' partitions (x ∷ []) pending) left
 has_begun last t level level' partitions reading pending all left x none deep is had =
-    let apart = has_last last t pending x left (subst (λ xs. AreOn last t xs left) is had.todo_are) in (
+    let apart = has_last last t pending x left (subst (λ xs. AreOn last t xs left) is had.pending_are) in (
       apart.others,
-      apart.list,
+      apart.partition,
       apart.whole,
       deep ∙ apart.last_is.2,
       record {
         spilled_are = subst (λ xs. AreSpilled last t level' xs []) (sym none) refl;
         ahead_are = (apart.last_is.0, apart.last_is.1);
-        todo_are = apart.others_are;
+        pending_are = apart.others_are;
       },
     )
 
--- the list that is read is read to its end
-pub lists_ended : (last last' : ℕ → ℕ → Type 0) (t t' : TapesState) (level : ℕ) (partitions reading pending : List OnTape) (x : OnTape)
+-- the partition that is read is read to its end
+pub partitions_ended : (last last' : ℕ → ℕ → Type 0) (t t' : TapesState) (level : ℕ) (partitions reading pending : List OnTape) (x : OnTape)
     → reading ≡ x ∷ [] → KeepsOthers last last' t t' x.tape → (t'.is_dead ≡ false → t.is_dead ≡ false)
-    → AreLists (state t level partitions reading pending) → AreLists (state t' level partitions [] pending)
-lists_ended last last' t t' level partitions reading pending x is keeps alive are =
+    → ArePartitions (state t level partitions reading pending) → ArePartitions (state t' level partitions [] pending)
+partitions_ended last last' t t' level partitions reading pending x is keeps alive are =
     let counts : (index : ℕ) → times index (partitions ++ (reading ++ pending)) ≡ times index partitions
     + (times index reading + times index pending) = λ index. times_in index partitions reading pending in
     let one : (index : ℕ) → times index reading ≡ once x.tape index + 0 = λ index. ap (times index) is in
@@ -237,8 +241,8 @@ lists_ended last last' t t' level partitions reading pending x is keeps alive ar
 pub has_ended : (last last' : ℕ → ℕ → Type 0) (t t' : TapesState) (level : ℕ) (partitions reading pending : List OnTape)
     (spilled ahead : List Record) (left : List PendingPartition) (x : OnTape) → reading ≡ x ∷ [] → x.records ≡ 0
     → KeepsOthers last last' t t' x.tape → AreApart (partitions ++ (reading ++ pending))
-    → HasLists last (state t level partitions reading pending) spilled ahead left → (ahead ≡ [])
-    × HasLists last' (state t' level partitions [] pending) spilled [] left
+    → HasPartitions last (state t level partitions reading pending) spilled ahead left → (ahead ≡ [])
+    × HasPartitions last' (state t' level partitions [] pending) spilled [] left
 has_ended last last' t t' level partitions reading pending spilled ahead left x is none keeps apart had =
     let counts : times x.tape.index (partitions ++ (reading ++ pending)) ≡ times x.tape.index partitions
     + (times x.tape.index reading + times x.tape.index pending) = times_in x.tape.index partitions reading pending in
@@ -251,15 +255,15 @@ has_ended last last' t t' level partitions reading pending spilled ahead left x 
         spilled_are = kept_spilled last last' t t' level partitions spilled x.tape keeps (omega (arith, counts, one, here, few))
             had.spilled_are;
         ahead_are = refl;
-        todo_are = kept_on last last' t t' x.tape pending left keeps (omega (arith, counts, one, here, few)) had.todo_are;
+        pending_are = kept_on last last' t t' x.tape pending left keeps (omega (arith, counts, one, here, few)) had.pending_are;
       },
     )
 
--- a record of the list that is read was read
-pub lists_read : (t t' : TapesState) (level : ℕ) (partitions reading pending : List OnTape) (x y : OnTape) → reading ≡ x ∷ [] → y.tape
+-- a record of the partition that is read was read
+pub partitions_read : (t t' : TapesState) (level : ℕ) (partitions reading pending : List OnTape) (x y : OnTape) → reading ≡ x ∷ [] → y.tape
     ≡ x.tape → ((id : TapeId) → phase_of t' id ≡ phase_of t id) → (t'.is_dead ≡ false → t.is_dead ≡ false)
-    → AreLists (state t level partitions reading pending) → AreLists (state t' level partitions (y ∷ []) pending)
-lists_read t t' level partitions reading pending x y is tape same alive are =
+    → ArePartitions (state t level partitions reading pending) → ArePartitions (state t' level partitions (y ∷ []) pending)
+partitions_read t t' level partitions reading pending x y is tape same alive are =
     let one : (index : ℕ) → times index reading ≡ times index (y ∷ []) = λ index. ap (times index) is
     ∙ ap (λ id. once id index + 0) (sym tape) in
     let reads : t.is_dead ≡ false → AreRead t (y ∷ []) = λ lives. (
@@ -284,14 +288,16 @@ lists_read t t' level partitions reading pending x y is tape same alive are =
 
 pub tape_ahead : (last : ℕ → ℕ → Type 0) (t : TapesState) (level : ℕ) (partitions reading pending : List OnTape)
     (spilled ahead : List Record) (left : List PendingPartition) (x : OnTape) → reading ≡ x ∷ []
-    → HasLists last (state t level partitions reading pending) spilled ahead left → IsTape last t x.tape ahead × (x.records ≡ length ahead)
+    → HasPartitions last (state t level partitions reading pending) spilled ahead left → IsTape last t x.tape ahead
+    × (x.records ≡ length ahead)
 tape_ahead last t level partitions reading pending spilled ahead left x is had = subst (λ xs. AreAhead last t xs ahead) is had.ahead_are
 
 pub has_read : (last last' : ℕ → ℕ → Type 0) (t t' : TapesState) (level : ℕ) (partitions reading pending : List OnTape)
     (spilled ahead : List Record) (left : List PendingPartition) (x y : OnTape) (bytes : List ℕ) (told : ℕ × ℕ) → reading ≡ x ∷ [] → y.tape
     ≡ x.tape → y.records + 1 ≡ x.records → KeepsOthers last last' t t' x.tape → AreApart (partitions ++ (reading ++ pending))
-    → HasLists last (state t level partitions reading pending) spilled ahead left → Gives (IsTape last' t' x.tape) ahead bytes (Some told)
-    → Gives (λ rest. HasLists last' (state t' level partitions (y ∷ []) pending) spilled rest left) ahead bytes (Some told)
+    → HasPartitions last (state t level partitions reading pending) spilled ahead left
+    → Gives (IsTape last' t' x.tape) ahead bytes (Some told)
+    → Gives (λ rest. HasPartitions last' (state t' level partitions (y ∷ []) pending) spilled rest left) ahead bytes (Some told)
 has_read last last' t t' level partitions reading pending spilled ahead left x y bytes told is tape less keeps apart had gives =
     let counts : times x.tape.index (partitions ++ (reading ++ pending)) ≡ times x.tape.index partitions
     + (times x.tape.index reading + times x.tape.index pending) = times_in x.tape.index partitions reading pending in
@@ -305,6 +311,6 @@ has_read last last' t t' level partitions reading pending spilled ahead left x y
         spilled_are = kept_spilled last last' t t' level partitions spilled x.tape keeps (omega (arith, counts, one, here, few))
             had.spilled_are;
         ahead_are = (subst (λ id. IsTape last' t' id gives.0) (sym tape) gives.2, omega (arith, less, aheads.1, ap length gives.1));
-        todo_are = kept_on last last' t t' x.tape pending left keeps (omega (arith, counts, one, here, few)) had.todo_are;
+        pending_are = kept_on last last' t t' x.tape pending left keeps (omega (arith, counts, one, here, few)) had.pending_are;
       },
     )

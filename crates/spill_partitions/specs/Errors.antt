@@ -1,4 +1,4 @@
--- What a refusal of tapes is to lists. All of this is our own.
+-- What a refusal of tapes is to partitions. All of this is our own.
 use Rattle.std.specs.Prelude.{ℕ}
 use Rattle.spill_tapes.specs.declared.error.TapeError.{TapeError}
 use Rattle.spill_tapes.specs.declared.error.TapeError.TheVariants as tape

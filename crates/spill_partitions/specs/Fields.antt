@@ -1,15 +1,15 @@
--- The fields of lists.
+-- The fields of partitions.
 use Rattle.std.specs.Prelude.{List, [], ◌∷◌, Option, Some, None}
-use Rattle.spill_partitions.specs.Standing.{PartitionsState, AreLists}
-use Rattle.spill_partitions.specs.declared.lists.OnTape.{OnTape}
-use Rattle.spill_partitions.specs.declared.lists.SpillPartitions.TheInside.{Inside}
+use Rattle.spill_partitions.specs.Standing.{PartitionsState, ArePartitions}
+use Rattle.spill_partitions.specs.declared.partitions.OnTape.{OnTape}
+use Rattle.spill_partitions.specs.declared.partitions.SpillPartitions.TheInside.{Inside}
 
 abbrev pub one_or_none : Option OnTape → List OnTape
 one_or_none None = []
 one_or_none (Some tape) = tape ∷ []
 
-abbrev pub lists_of : Inside → PartitionsState
-lists_of s = record {
+abbrev pub fields_of : Inside → PartitionsState
+fields_of s = record {
   tapes = s.tapes;
   level = s.level;
   partitions = s.partitions.items;
@@ -19,4 +19,4 @@ lists_of s = record {
 }
 
 abbrev pub AreFields : Inside → Type 0
-AreFields s = AreLists (lists_of s)
+AreFields s = ArePartitions (fields_of s)

@@ -1,4 +1,4 @@
-pub mod Lists
+pub mod Partitions
 pub mod Standing
 pub mod Fields
 pub mod Errors

@@ -1,17 +1,17 @@
--- Lists on tapes. All of this is our own.
+-- Partitions on tapes. All of this is our own.
 use Rattle.std.specs.Prelude.{◌≡◌, ℕ, ◌+◌, ◌/◌, ◌<◌, ◌≤◌, ◌⊎◌, ◌==◌, cond, true, false, not, List, [], ◌∷◌, ◌++◌, length, sum_by, filter}
 use Rattle.spill_tapes.specs.Pages.{pages_for}
 use Rattle.spill_tapes.specs.Records.{Record, tape_bytes}
 use Rattle.tape_disks.specs.declared.limits.TheConstants.{PAGE}
-use Rattle.spill_partitions.specs.declared.lists.TheConstants.{PARTITIONS}
+use Rattle.spill_partitions.specs.declared.partitions.TheConstants.{PARTITIONS}
 use Rattle.spill_tapes.specs.Tapes.{TapesState, IsTape, is_written, is_read, written_len}
 use Rattle.tape_disks.specs.declared.disk.TapeDisk.{Ghosts}
 use Rattle.spill_tapes.specs.declared.tape_id.TapeId.{TapeId}
-use Rattle.spill_partitions.specs.declared.lists.OnTape.{OnTape}
-use Rattle.spill_partitions.specs.Lists.{PendingPartition, lists}
+use Rattle.spill_partitions.specs.declared.partitions.OnTape.{OnTape}
+use Rattle.spill_partitions.specs.Partitions.{PendingPartition, partitions_of}
 use Rattle.std.specs.List.{AllByRecursion}
 
--- the tapes; the level of the pass; its 16 lists, or none as long as it spilled nothing; the list that it reads, or none; and
+-- the tapes; the level of the pass; its 16 partitions, or none as long as it spilled nothing; the partition that it reads, or none; and
 -- those that later passes are to read
 pub record PartitionsState : Type 0 where
   pub tapes : TapesState
@@ -22,7 +22,7 @@ pub record PartitionsState : Type 0 where
 
 -- how many records the pass spilled, has still to read, and leaves to later passes
 abbrev pub count_of : List OnTape → ℕ
-count_of tapes = sum_by (λ (list : OnTape). list.records) tapes
+count_of tapes = sum_by (λ (partition : OnTape). partition.records) tapes
 
 abbrev pub spilled_number : PartitionsState → ℕ
 spilled_number s = count_of s.partitions
@@ -33,59 +33,59 @@ ahead_number s = count_of s.reading
 abbrev pub waiting_number : PartitionsState → ℕ
 waiting_number s = count_of s.pending
 
--- the pages of a tape of some records, and of the tapes of some lists
-abbrev pub list_pages : List Record → ℕ
-list_pages records = pages_for (length (tape_bytes records))
+-- the pages of a tape of some records, and of the tapes of some partitions
+abbrev pub partition_pages : List Record → ℕ
+partition_pages records = pages_for (length (tape_bytes records))
 
 abbrev pub pages_of : List PendingPartition → ℕ
-pages_of lists = sum_by (λ (list : PendingPartition). list_pages list.records) lists
+pages_of partitions = sum_by (λ (partition : PendingPartition). partition_pages partition.records) partitions
 
 -- how many pages of tapes were written so far: those that are full
 abbrev pub full_pages : TapesState → List OnTape → ℕ
-full_pages t tapes = sum_by (λ (list : OnTape). written_len t list.tape / PAGE) tapes
+full_pages t tapes = sum_by (λ (partition : OnTape). written_len t partition.tape / PAGE) tapes
 
 abbrev pub written_pages : PartitionsState → ℕ
 written_pages s = full_pages s.tapes s.partitions
 
--- over a disk whose last bytes are these, tape by tape these are lists of records
+-- over a disk whose last bytes are these, tape by tape these are partitions
 abbrev pub AreOn : (ℕ → ℕ → Type 0) → TapesState → List OnTape → List PendingPartition → Type 0
 AreOn last t [] [] = Unit {0}
-AreOn last t (tape ∷ tapes) (list ∷ lists) = IsTape last t tape.tape list.records × (tape.records ≡ length list.records)
-    × (tape.level ≡ list.level) × AreOn last t tapes lists
-AreOn last t tapes lists = ⊥
+AreOn last t (tape ∷ tapes) (partition ∷ partitions) = IsTape last t tape.tape partition.records × (tape.records ≡ length partition.records)
+    × (tape.level ≡ partition.level) × AreOn last t tapes partitions
+AreOn last t tapes partitions = ⊥
 
 -- what the pass spilled, and what it has still to read
 abbrev pub AreSpilled : (ℕ → ℕ → Type 0) → TapesState → ℕ → List OnTape → List Record → Type 0
 AreSpilled last t level [] spilled = spilled ≡ []
-AreSpilled last t level (tape ∷ tapes) spilled = AreOn last t (tape ∷ tapes) (lists level spilled)
+AreSpilled last t level (tape ∷ tapes) spilled = AreOn last t (tape ∷ tapes) (partitions_of level spilled)
 
 abbrev pub AreAhead : (ℕ → ℕ → Type 0) → TapesState → List OnTape → List Record → Type 0
 AreAhead last t [] ahead = ahead ≡ []
 AreAhead last t (tape ∷ tapes) ahead = IsTape last t tape.tape ahead × (tape.records ≡ length ahead)
 
--- over a disk whose last bytes are these: what the pass spilled, what it has still to read, and the lists that later passes
+-- over a disk whose last bytes are these: what the pass spilled, what it has still to read, and the partitions that later passes
 -- are to read
-pub record HasLists (last : ℕ → ℕ → Type 0) (s : PartitionsState) (spilled ahead : List Record) (pending : List PendingPartition) :
+pub record HasPartitions (last : ℕ → ℕ → Type 0) (s : PartitionsState) (spilled ahead : List Record) (pending : List PendingPartition) :
     Type 0 where
   pub spilled_are : AreSpilled last s.tapes s.level s.partitions spilled
   pub ahead_are : AreAhead last s.tapes s.reading ahead
-  pub todo_are : AreOn last s.tapes s.pending pending
+  pub pending_are : AreOn last s.tapes s.pending pending
 
 -- a record was added to those that the pass spills, and the pages that became full by it were written
 pub record Spilled {D : Type 0} (g : Ghosts D) (entry : Record) (old : PartitionsState) (before : D) (new : PartitionsState) (after : D) :
     Type 0 where
-  pub added : (spilled ahead : List Record) (pending : List PendingPartition) → HasLists (g.last before) old spilled ahead pending
-      → HasLists (g.last after) new (spilled ++ entry ∷ []) ahead pending
+  pub added : (spilled ahead : List Record) (pending : List PendingPartition) → HasPartitions (g.last before) old spilled ahead pending
+      → HasPartitions (g.last after) new (spilled ++ entry ∷ []) ahead pending
   pub counted : spilled_number new ≡ spilled_number old + 1
   pub paged : g.writes after + written_pages old ≡ g.writes before + written_pages new
   pub alive : new.tapes.is_dead ≡ false
 
--- the pass that begins reads the last of the lists that were to be read
+-- the pass that begins reads the last of the partitions that were to be read
 abbrev pub BeginsLast : (ℕ → ℕ → Type 0) → PartitionsState → List PendingPartition → Type 0
-BeginsLast last s pending = (others : List PendingPartition) × (list : PendingPartition) × (pending ≡ others ++ list ∷ [])
-    × (s.level ≡ list.level) × HasLists last s [] list.records others
+BeginsLast last s pending = (others : List PendingPartition) × (partition : PendingPartition) × (pending ≡ others ++ partition ∷ [])
+    × (s.level ≡ partition.level) × HasPartitions last s [] partition.records others
 
--- the list that the pass reads, those that later passes are to read, and how deep it is, are as they were
+-- the partition that the pass reads, those that later passes are to read, and how deep it is, are as they were
 pub record KeepsRest (before after : PartitionsState) : Type 0 where
   pub reading : after.reading ≡ before.reading
   pub pending : after.pending ≡ before.pending
@@ -112,19 +112,19 @@ AreRead t tapes = AllByRecursion (λ (tape : OnTape). is_read t tape.tape ≡ tr
 abbrev pub HaveRecords : List OnTape → Type 0
 HaveRecords tapes = AllByRecursion (λ (tape : OnTape). 0 < tape.records) tapes
 
--- those with records; and that a list is a new one, which has none, of a level
+-- those with records; and that a partition is a new one, which has none, of a level
 abbrev pub those_with_records : List OnTape → List OnTape
 those_with_records tapes = filter (λ (tape : OnTape). not (tape.records == 0)) tapes
 
-pub record IsNewList (last : ℕ → ℕ → Type 0) (t : TapesState) (level : ℕ) (list : OnTape) : Type 0 where
-  pub none : IsTape last t list.tape []
-  pub number : list.records ≡ 0
-  pub deep : list.level ≡ level
-  pub written : is_written t list.tape ≡ true
-  pub short : written_len t list.tape ≡ 0
+pub record IsNewPartition (last : ℕ → ℕ → Type 0) (t : TapesState) (level : ℕ) (partition : OnTape) : Type 0 where
+  pub none : IsTape last t partition.tape []
+  pub number : partition.records ≡ 0
+  pub deep : partition.level ≡ level
+  pub written : is_written t partition.tape ≡ true
+  pub short : written_len t partition.tape ≡ 0
 
--- what is true of all lists
-pub record AreLists (s : PartitionsState) : Type 0 where
+-- what is true of all partitions
+pub record ArePartitions (s : PartitionsState) : Type 0 where
   pub apart : AreApart (s.partitions ++ (s.reading ++ s.pending))
   pub sixteen : (s.partitions ≡ []) ⊎ (length s.partitions ≡ PARTITIONS)
   pub written : s.tapes.is_dead ≡ false → AreWritten s.tapes s.partitions

@@ -18,7 +18,8 @@ pub record FlipState (D : Type 0) : Type 0 where
 abbrev pub flipped : (at mask place byte : ℕ) → ℕ
 flipped at mask place byte = if place % PAGE == at then bit_xor byte mask else byte
 
--- one in a file: how often it was written, and how often it failed
-pub record FileState : Type 0 where
+-- one in a file: the file, how often it was written, and how often it failed
+pub record FileState (F : Type 0) : Type 0 where
+  pub file : F
   pub count : ℕ
   pub faults : ℕ

@@ -5,4 +5,5 @@ pub mod DiskLaws
 pub mod Memory
 pub mod MemoryFields
 pub mod Faulty
+pub mod Files
 pub mod Chosen

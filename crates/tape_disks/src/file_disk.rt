@@ -1,10 +1,13 @@
 //! A disk in a file.
-ghost use Rattle.std.specs.Prelude.{◌≡◌, ◌+◌, min, IfOk, false, length};
+ghost use Rattle.std.specs.Prelude.{◌≡◌, min, IfOk, IsTrue, OnOk, true, length};
+ghost use Rattle.std.specs.Fs.{asks_create_new, asks_read, asks_write};
+ghost use Rattle.tape_disks.specs.Calls.{AreLast, AreReadAt, Keeps, KeepsBeside};
 
 use crate::disk::{DiskError, TapeDisk};
+use crate::seekable_file::SeekableFile;
 use std::fs::OpenOptions;
 use std::io;
-use std::io::{Read, Seek, SeekFrom, Write};
+use std::io::{Read, Seek, Write};
 use std::marker::Model;
 use std::os::unix::fs::OpenOptionsExt;
 use std::rt::Files;
@@ -20,44 +23,58 @@ pub struct WriteFault {
     pub cause: io::Error,
 }
 
-/// A disk in a file. Places past its end are 0.
-///
-/// No contract says what a file holds, so it isn't called honest: that tapes over it are read as they were written rests on the
-/// premise that the system gives back what was written to the file.
+/// A disk in a file, which is as honest as the file: over any that gives back what was written to it, so does the disk. Places past its end
+/// are 0.
 #[derive(Drop)]
-pub struct FileDisk<F: Read + Write + Seek + Drop> {
+pub struct FileDisk<F: SeekableFile + Drop> {
     file: F,
     count: u128,
     faults: u128,
 }
 
-impl<F: Read + Write + Seek + Drop> Model for FileDisk<F> {
+impl<F: SeekableFile + Drop> Model for FileDisk<F> {
     ghost use Rattle.tape_disks.specs.Faulty.{FileState};
 
-    ghost Value = { FileState };
+    ghost Value = { FileState F };
 
-    ghost view = { λ d. record { count = d.count; faults = d.faults } };
+    ghost view = { λ d. record { file = d.file; count = d.count; faults = d.faults } };
+}
+
+/// How the file is made: to be read and written by its owner alone, and so that nothing is opened that is there already.
+fn new_file() -> OpenOptions
+    ensures new { asks_create_new result ≡ true }
+    ensures read { asks_read result ≡ true }
+    ensures write { asks_write result ≡ true }
+{
+    let mut options = OpenOptions::new();
+    options.mode(OWNER_ALONE);
+    options.read(true).write(true).create_new(true);
+    options
 }
 
 impl<F: Read + Write + Seek + Drop> FileDisk<F> {
     /// A disk in a new file that its owner alone may read and write. A path where anything is there already, a link too, is
     /// refused, as one where no file can be made.
     pub fn create<R: Files<File = F>>(rt: &R, path: &str) -> Result<FileDisk<F>, WriteFault>
-        ensures { IfOk result (λ disk. disk ≡ record { count = 0; faults = 0 }) }
+        ensures count { IfOk result (λ disk. disk.count ≡ 0) }
+        ensures faults { IfOk result (λ disk. disk.faults ≡ 0) }
     {
-        let made = OpenOptions::new()
-            .read(true)
-            .write(true)
-            .create_new(true)
-            .mode(OWNER_ALONE)
-            .open(rt, path);
-        match made {
-            Ok(file) => Ok(FileDisk {
-                file,
-                count: 0,
-                faults: 0,
-            }),
+        match new_file().open(rt, path) {
+            Ok(file) => Ok(FileDisk::new(file)),
             Err(cause) => Err(WriteFault { cause }),
+        }
+    }
+}
+
+impl<F: SeekableFile + Drop> FileDisk<F> {
+    /// A disk in a file.
+    pub fn new(file: F) -> FileDisk<F>
+        ensures { result ≡ record { file = file; count = 0; faults = 0 } }
+    {
+        FileDisk {
+            file,
+            count: 0,
+            faults: 0,
         }
     }
 
@@ -70,13 +87,16 @@ impl<F: Read + Write + Seek + Drop> FileDisk<F> {
 }
 
 /// Reads from a place on. What lies past the end is 0. An interrupted read is a fault.
-fn read_from<F: Read + Seek>(file: &mut F, at: u64, bytes: &mut [u8]) -> io::Result<()>
-    ensures { length bytes.new ≡ length bytes.old }
+fn read_from<F: SeekableFile>(file: &mut F, at: u64, bytes: &mut [u8]) -> io::Result<()>
+    ensures len { length bytes.new ≡ length bytes.old }
+    ensures read { OnOk result (IsTrue (F.honest file.old) → AreReadAt (F.last file.old) at bytes.new) }
+    ensures keeps { Keeps (F.last file.old) (F.last file.new) }
+    ensures honesty { F.honest file.new ≡ F.honest file.old }
 {
-    file.seek(SeekFrom::Start(at))?;
+    file.go_to(at)?;
     let mut done = 0;
     while done < bytes.len() {
-        let n = file.read(&mut bytes[done..])?;
+        let n = file.read_some(&mut bytes[done..])?;
         if n == 0 {
             bytes[done..].fill(0);
             return Ok(());
@@ -87,19 +107,23 @@ fn read_from<F: Read + Seek>(file: &mut F, at: u64, bytes: &mut [u8]) -> io::Res
 }
 
 /// Writes from a place on.
-fn write_to<F: Write + Seek>(file: &mut F, at: u64, bytes: &[u8]) -> io::Result<()> {
-    file.seek(SeekFrom::Start(at))?;
-    file.write_all(bytes)
+fn write_to<F: SeekableFile>(file: &mut F, at: u64, bytes: &[u8]) -> io::Result<()>
+    ensures written { OnOk result (AreLast (F.last file.new) at bytes.now) }
+    ensures keeps { KeepsBeside (F.last file.old) (F.last file.new) at (length bytes.now) }
+    ensures honesty { F.honest file.new ≡ F.honest file.old }
+{
+    file.go_to(at)?;
+    file.write_these(bytes)
 }
 
-impl<F: Read + Write + Seek + Drop> TapeDisk for FileDisk<F> {
+impl<F: SeekableFile + Drop> TapeDisk for FileDisk<F> {
     ghost failures = { λ d. d.faults };
 
     ghost writes = { λ d. d.count };
 
-    ghost honest = { λ _. false };
+    ghost honest = { λ d. F.honest d.file };
 
-    ghost last = { λ _ _ _. Unit {0} };
+    ghost last = { λ d. F.last d.file };
 
     fn read_at(&mut self, at: u64, bytes: &mut [u8]) -> Result<(), DiskError> {
         if self.faults == u128::MAX {

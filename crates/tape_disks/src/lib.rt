@@ -7,6 +7,8 @@ mod file_disk;
 mod flip_disk;
 pub mod limits;
 mod mem_disk;
+mod mem_file;
+mod seekable_file;
 mod spill_disk;
 
 pub use disk::{DiskError, TapeDisk};
@@ -14,4 +16,6 @@ pub use fail_disk::FailDisk;
 pub use file_disk::{FileDisk, WriteFault};
 pub use flip_disk::FlipDisk;
 pub use mem_disk::MemDisk;
+pub use mem_file::MemFile;
+pub use seekable_file::SeekableFile;
 pub use spill_disk::SpillDisk;

@@ -5,16 +5,16 @@ ghost use Rattle.tape_disks.specs.Chosen.{writes_of};
 use crate::disk::{DiskError, TapeDisk};
 use crate::file_disk::FileDisk;
 use crate::mem_disk::MemDisk;
-use std::io::{Read, Seek, Write};
+use crate::seekable_file::SeekableFile;
 
 /// A disk in memory, or in a file.
 #[derive(Drop)]
-pub enum SpillDisk<F: Read + Write + Seek + Drop> {
+pub enum SpillDisk<F: SeekableFile + Drop> {
     Memory(MemDisk),
     File(FileDisk<F>),
 }
 
-impl<F: Read + Write + Seek + Drop> SpillDisk<F> {
+impl<F: SeekableFile + Drop> SpillDisk<F> {
     /// How many writes succeeded, or 2^64 - 1 if that is more.
     pub fn writes(&self) -> u64
         ensures { result ≡ min (writes_of self.now) 18446744073709551615 }
@@ -26,16 +26,16 @@ impl<F: Read + Write + Seek + Drop> SpillDisk<F> {
     }
 }
 
-impl<F: Read + Write + Seek + Drop> TapeDisk for SpillDisk<F> {
+impl<F: SeekableFile + Drop> TapeDisk for SpillDisk<F> {
     ghost use Rattle.tape_disks.specs.Chosen.{failures_of, writes_of, is_honest, is_last};
 
     ghost failures = { failures_of };
 
     ghost writes = { writes_of };
 
-    ghost honest = { is_honest };
+    ghost honest = { is_honest F.SeekableFile };
 
-    ghost last = { is_last };
+    ghost last = { is_last F.SeekableFile };
 
     fn read_at(&mut self, at: u64, bytes: &mut [u8]) -> Result<(), DiskError> {
         match self {

@@ -1,4 +1,4 @@
-//! Tests of tapes over disks, and of the lists that passes spill to tapes, by public calls alone; and disks and streams for tests, which
+//! Tests of tapes over disks, and of the partitions that passes spill to tapes, by public calls alone; and disks and streams for tests, which
 //! tests of other crates take too.
 #![tactic(auto)]
 
@@ -8,7 +8,7 @@ mod disks;
 #[cfg(test)]
 mod files;
 #[cfg(test)]
-mod lists;
+mod partitions;
 #[cfg(test)]
 mod tapes;
 

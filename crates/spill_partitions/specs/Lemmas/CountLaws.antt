@@ -3,7 +3,7 @@ use Rattle.std.specs.Prelude.{◌≡◌, ℕ, ◌<◌, ◌≤◌, ◌==◌, true
 use Rattle.std.proofs.Common.{arith}
 use Rattle.std.proofs.lemmas.Bool.Decides.{nat_tests}
 
--- places of lists, as tests tell them
+-- places of partitions, as tests tell them
 pub is_not : (n i : ℕ) → n < i → (n == i) ≡ false
 is_not n i less = grind (arith, nat_tests)
 

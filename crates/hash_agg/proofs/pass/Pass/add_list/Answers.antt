@@ -2,7 +2,7 @@ use Rattle.std.specs.Prelude.{◌≡◌, refl, ◌+◌, ◌∷◌, ℕ, List, []
 use Rattle.std.proofs.Common.{sym, ap, subst, arith, inl}
 use Rattle.tape_disks.specs.DiskLaws.{leaves_none, leaves_twice, reads_leaves}
 use Rattle.spill_tapes.specs.Tape.{Gives}
-use Rattle.hash_agg.proofs.Words.{spill_faults, HasLists, count_of, spilled_number, ahead_number, Query, On_tape, query_of, ArePieces}
+use Rattle.hash_agg.proofs.Words.{spill_faults, HasPartitions, count_of, spilled_number, ahead_number, Query, On_tape, query_of, ArePieces}
 use Rattle.hash_agg.proofs.Words.{AreSafe, Reads, CanRead, entries_of, standing}
 use Rattle.hash_agg.proofs.AddedLaws.{added_first, refused_first, later_none, later_next, later_same}
 use Rattle.hash_agg.proofs.DiskLaws.{left_out}
@@ -89,7 +89,7 @@ loop-hash-preserved g c =
           (g.D.TapeDisk.last c.loop-hash.disk) (g.D.TapeDisk.last c.next.new.disk) c.in-Some.hash c.in-Some.tag c.next.new.bytes.items
           count c.next.ensures.partitions
           (λ spilled ahead pending had.
-          subst (Gives (λ rest. HasLists (g.D.TapeDisk.last c.next.new.disk) c.next.new.self spilled rest pending) ahead
+          subst (Gives (λ rest. HasPartitions (g.D.TapeDisk.last c.next.new.disk) c.next.new.self spilled rest pending) ahead
           c.next.new.bytes.items) c.in-Some.is (c.in_ok-hash.ensures.gives (subst IsTrue (sym i.disk.honesty) honest) spilled ahead
           pending had))
           (standing c.add_record.new.self.groups c.add_record.new.self.lists (g.D.TapeDisk.last c.add_record.new.disk))
@@ -124,7 +124,7 @@ returns-in_err-add_record g c =
                 c.next.new.self (g.D.TapeDisk.last c.loop-hash.disk) (g.D.TapeDisk.last c.next.new.disk) c.in-Some.hash c.in-Some.tag
                 c.next.new.bytes.items can.5 c.next.ensures.partitions
                 (λ spilled ahead pending had.
-                subst (Gives (λ rest. HasLists (g.D.TapeDisk.last c.next.new.disk) c.next.new.self spilled rest pending) ahead
+                subst (Gives (λ rest. HasPartitions (g.D.TapeDisk.last c.next.new.disk) c.next.new.self spilled rest pending) ahead
                 c.next.new.bytes.items) c.in-Some.is (c.in_ok-hash.ensures.gives (subst IsTrue (sym i.disk.honesty) honest) spilled
                 ahead pending had))
                 (i.reads honest can.0 can.1 can.2 can.3 can.4 can.5)));
@@ -156,7 +156,7 @@ returns g c =
                 c.next.new.self (g.D.TapeDisk.last c.loop-hash.disk) (g.D.TapeDisk.last c.next.new.disk) c.next.new.bytes.items
                 c.next.ensures.partitions
                 (λ spilled ahead pending had.
-                subst (Gives (λ rest. HasLists (g.D.TapeDisk.last c.next.new.disk) c.next.new.self spilled rest pending) ahead
+                subst (Gives (λ rest. HasPartitions (g.D.TapeDisk.last c.next.new.disk) c.next.new.self spilled rest pending) ahead
                 c.next.new.bytes.items) c.in_default.is (c.in_ok-hash.ensures.gives (subst IsTrue (sym i.disk.honesty) honest) spilled
                 ahead pending had))
                 (i.reads honest records pieces pending has are count);

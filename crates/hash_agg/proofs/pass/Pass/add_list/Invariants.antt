@@ -1,5 +1,5 @@
 use Rattle.std.specs.Prelude.{◌+◌, ◌≤◌, List, [], IsTrue}
-use Rattle.hash_agg.proofs.Words.{DiskFrame, Record, PendingPartition, HasLists, ahead_number, IsReady, KeepsLater, query_of, Piece}
+use Rattle.hash_agg.proofs.Words.{DiskFrame, Record, PendingPartition, HasPartitions, ahead_number, IsReady, KeepsLater, query_of, Piece}
 use Rattle.hash_agg.proofs.Words.{ArePieces, CountUpTo, WritesPages, AreSafe, entries_of, standing, total}
 use Rattle.hash_agg.proofs.ReadLaws.{IsReading, IsSpent}
 use Rattle.hash_agg.proofs.pass.Pass.add_list.Given as goal
@@ -16,7 +16,7 @@ invariant-loop-hash g l =
       spent : IsSpent (ahead_number l.initial.self.lists) (entries_of l.self.groups) l.self.lists;
       reads :
           IsTrue (g.D.TapeDisk.honest l.initial.disk) → (records : List Record) (pieces : List Piece) (pending : List PendingPartition)
-          → HasLists (g.D.TapeDisk.last l.initial.disk) l.initial.self.lists [] records pending
+          → HasPartitions (g.D.TapeDisk.last l.initial.disk) l.initial.self.lists [] records pending
           → ArePieces (query_of l.initial.self) (g.H.KeyHash.hash_of l.initial.self.groups.hash) records pieces
           → CountUpTo (query_of l.initial.self) l.initial.self.plan.most pieces
           → IsReading l.initial.self.plan (g.H.KeyHash.hash_of l.initial.self.groups.hash)

@@ -1,5 +1,0 @@
-use Rattle.spill_partitions.proofs.OpenLaws.{AreOpening}
-use Rattle.spill_partitions.proofs.lists.SpillPartitions.open_lists.Given as goal
-
-abbrev pub invariant-loop-place : goal.invariant-loop-place
-invariant-loop-place g l = AreOpening (g.D.TapeDisk.last l.disk) l.fn.self l.self l.level l.partitions.items l._place

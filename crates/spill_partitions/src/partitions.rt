@@ -1,0 +1,355 @@
+//! Partitions on tapes.
+
+ghost use Rattle.std.specs.Prelude.{◌≡◌, ◌≢◌, ◌↔◌, ◌+◌, ◌/◌, ◌<◌, ◌≤◌, ℕ, ◌++◌, ◌∷◌, List, [], true, false, length, IsTrue, IfOk, IfErr};
+ghost use Rattle.std.specs.Prelude.{OnOk, OnErr, IfSome, IfNone};
+ghost use Rattle.tape_disks.specs.Calls.{failed};
+ghost use Rattle.tape_disks.specs.Disk.{DiskFrame, OnlyReads};
+ghost use Rattle.spill_tapes.specs.Records.{Record};
+ghost use Rattle.spill_tapes.specs.Tape.{Gives};
+ghost use Rattle.spill_tapes.specs.Tapes.{IsTape, KeepsOthers, is_open, is_written, written_len};
+ghost use Rattle.spill_partitions.specs.Partitions.{PendingPartition, partitions_of, left_by, partition_of, deeper};
+ghost use Rattle.spill_partitions.specs.Standing.{HasPartitions, BeginsLast, IsNewPartition, Spilled, times, those_with_records, KeepsRest};
+ghost use Rattle.spill_partitions.specs.Standing.{spilled_number, ahead_number, waiting_number, partition_pages, pages_of, written_pages};
+ghost use Rattle.spill_partitions.specs.Errors.{spill_error, spill_faults};
+ghost use Rattle.spill_partitions.specs.declared.error.SpillError.TheVariants.{NoMemory, TapeDamaged};
+ghost use Rattle.spill_tapes.specs.declared.error.TapeError.TheVariants.{TapesDead};
+
+use crate::error::SpillError;
+use spill_tapes::limits::{MAX_RECORD_LEN, PAGE};
+use spill_tapes::{TapeDisk, TapeError, TapeId, Tapes};
+use std::alloc::Global;
+use std::marker::Model;
+use std::mem::replace;
+
+/// How many partitions a pass spills to: as many as four bits tell apart.
+pub const PARTITIONS: usize = 16;
+
+/// The level from which on all records fall on one partition: a hash has eight digits to base 16.
+pub const LAST_LEVEL: u32 = 8;
+
+/// A law: there are 16 partitions, and one from the eighth level on.
+pub fn sizes()
+    ensures partitions { PARTITIONS ≡ 16 }
+    ensures last { LAST_LEVEL ≡ 8 }
+{}
+
+/// A partition: its tape, how many records there are on it, and how deep the pass is that is to read them.
+#[derive(Clone, Copy)]
+struct OnTape {
+    tape: TapeId,
+    records: u64,
+    level: u32,
+}
+
+/// The partitions of an aggregation: those to which the pass that runs spills records, the one that it reads, and those that
+/// later passes are to read.
+#[derive(Drop)]
+pub struct SpillPartitions {
+    alloc: Global,
+    tapes: Tapes,
+    level: u32,
+    /// The partitions of the pass: none as long as nothing is spilled, and then 16.
+    partitions: Vec<OnTape>,
+    reading: Option<OnTape>,
+    pending: Vec<OnTape>,
+}
+
+impl Model for SpillPartitions {
+    ghost use Rattle.spill_partitions.specs.Standing.{PartitionsState};
+    ghost use Rattle.spill_partitions.specs.Fields.{fields_of, AreFields};
+
+    ghost Value = { PartitionsState };
+
+    ghost view = { fields_of };
+
+    ghost invariant = { AreFields };
+}
+
+/// The partition on which a hash falls at a level.
+fn partition_of(level: u32, hash: u32) -> usize
+    ensures is { result ≡ partition_of level hash }
+    ensures within { result < PARTITIONS }
+{
+    if level < LAST_LEVEL {
+        (hash / 16u32.pow(7 - level)) as usize % PARTITIONS
+    } else {
+        0
+    }
+}
+
+/// How deep the passes are that follow one.
+fn deeper(level: u32) -> u32
+    ensures { result ≡ deeper level }
+{
+    level.min(LAST_LEVEL - 1) + 1
+}
+
+/// Why a call of tapes that live was refused.
+fn refusal(error: TapeError) -> SpillError
+    requires { error ≢ TapesDead }
+    ensures { spill_error error ≡ result }
+{
+    match error {
+        TapeError::NoMemory => SpillError::NoMemory,
+        TapeError::TapeFault => SpillError::TapeFault,
+        TapeError::TapeDamaged => SpillError::TapeDamaged,
+        TapeError::TapesDead => unreachable!(),
+    }
+}
+
+impl SpillPartitions {
+    /// No partition, at the first level.
+    pub fn new<D: TapeDisk>(alloc: Global, _disk: &D) -> SpillPartitions
+        ensures alive { result.tapes.is_dead ≡ false }
+        ensures none { HasPartitions (D.last _disk.now) result [] [] [] }
+        ensures partitions { result.partitions ≡ [] }
+        ensures reading { result.reading ≡ [] }
+        ensures pending { result.pending ≡ [] }
+        ensures level { result.level ≡ 0 }
+    {
+        SpillPartitions {
+            alloc,
+            tapes: Tapes::new(alloc),
+            level: 0,
+            partitions: Vec::new(alloc),
+            reading: None,
+            pending: Vec::new(alloc),
+        }
+    }
+
+    /// Whether the pass has spilled no record.
+    pub fn is_empty(&self) -> bool
+        ensures { IsTrue result ↔ (self.now.partitions ≡ []) }
+    {
+        self.partitions.is_empty()
+    }
+
+    /// How many records the pass has spilled.
+    pub fn spilled<D: TapeDisk>(&self, _disk: &D) -> u128
+        ensures number { result ≡ spilled_number self.now }
+        ensures count { (spilled ahead : List Record) (pending : List PendingPartition)
+            → HasPartitions (D.last _disk.now) self.now spilled ahead pending → result ≡ length spilled }
+    {
+        let mut number = 0;
+        for partition in &self.partitions {
+            number += u128::from(partition.records);
+        }
+        number
+    }
+
+    /// Adds a record to those that the pass spills: a hash, a tag, which is 0 or 1, and up to 65,535 bytes.
+    pub fn spill<D: TapeDisk>(
+        &mut self,
+        disk: &mut D,
+        hash: u32,
+        tag: u8,
+        bytes: &[u8],
+    ) -> Result<(), SpillError>
+        requires alive { self.old.tapes.is_dead ≡ false }
+        requires tag { tag < 2 }
+        requires len { length bytes.now ≤ MAX_RECORD_LEN }
+        ensures spilled { OnOk result (Spilled D.TapeDisk (record { hash = hash; tag = tag; bytes = bytes.now }) self.old disk.old self.new
+            disk.new) }
+        ensures rest { KeepsRest self.old self.new }
+        ensures undamaged { IfErr result (λ error. error ≢ TapeDamaged) }
+        ensures disk { DiskFrame D.TapeDisk (failed spill_faults result) disk.old disk.new }
+    {
+        self.open_partitions(disk)?;
+        let place = partition_of(self.level, hash);
+        let partition = self.partitions[place];
+        let Some(records) = partition.records.checked_add(1) else {
+            return Err(SpillError::NoMemory);
+        };
+        match self.tapes.append(disk, partition.tape, hash, tag, bytes) {
+            Ok(()) => {
+                self.partitions[place] = OnTape {
+                    records,
+                    ..partition
+                };
+                Ok(())
+            }
+            Err(error) => Err(refusal(error)),
+        }
+    }
+
+    /// Opens the partitions of the pass, if they are not open.
+    fn open_partitions<D: TapeDisk>(&mut self, disk: &D) -> Result<(), SpillError>
+        requires alive { self.old.tapes.is_dead ≡ false }
+        ensures opened { OnOk result ((spilled ahead : List Record) (pending : List PendingPartition)
+            → HasPartitions (D.last disk.now) self.old spilled ahead pending
+            → HasPartitions (D.last disk.now) self.new spilled ahead pending) }
+        ensures sixteen { OnOk result (length self.new.partitions ≡ PARTITIONS) }
+        ensures counted { OnOk result (spilled_number self.new ≡ spilled_number self.old) }
+        ensures paged { OnOk result (written_pages self.new ≡ written_pages self.old) }
+        ensures alive { self.new.tapes.is_dead ≡ false }
+        ensures rest { KeepsRest self.old self.new }
+        ensures refused { IfErr result (λ error. error ≡ NoMemory) }
+    {
+        if !self.partitions.is_empty() {
+            return Ok(());
+        }
+        let level = deeper(self.level);
+        let mut partitions = Vec::with_capacity(self.alloc, PARTITIONS)?;
+        for _place in 0..PARTITIONS {
+            let partition = self.open_partition(disk, level)?;
+            partitions.push(partition)?;
+        }
+        self.partitions = partitions;
+        Ok(())
+    }
+
+    /// Opens a partition, which has no record yet.
+    fn open_partition<D: TapeDisk>(&mut self, disk: &D, level: u32) -> Result<OnTape, SpillError>
+        requires alive { self.old.tapes.is_dead ≡ false }
+        ensures opened { IfOk result (λ partition. IsNewPartition (D.last disk.now) self.new.tapes level partition) }
+        ensures fresh { IfOk result (λ partition. is_open self.old.tapes partition.tape ≡ false) }
+        ensures others { IfOk result
+            (λ partition. KeepsOthers (D.last disk.now) (D.last disk.now) self.old.tapes self.new.tapes partition.tape) }
+        ensures alive { self.new.tapes.is_dead ≡ false }
+        ensures partitions { self.new.partitions ≡ self.old.partitions }
+        ensures rest { KeepsRest self.old self.new }
+        ensures refused { IfErr result (λ error. error ≡ NoMemory) }
+    {
+        match self.tapes.open(disk) {
+            Ok(tape) => Ok(OnTape {
+                tape,
+                records: 0,
+                level,
+            }),
+            Err(error) => Err(refusal(error)),
+        }
+    }
+
+    /// Ends the pass: later passes are to read what it spilled, partition by partition.
+    pub fn end_pass<D: TapeDisk>(&mut self, disk: &mut D) -> Result<(), SpillError>
+        requires alive { self.old.tapes.is_dead ≡ false }
+        ensures left { OnOk result ((spilled ahead : List Record) (pending : List PendingPartition)
+            → HasPartitions (D.last disk.old) self.old spilled ahead pending → HasPartitions (D.last disk.new) self.new [] ahead (pending
+            ++ left_by self.old.level spilled)) }
+        ensures partitions { OnOk result (self.new.partitions ≡ []) }
+        ensures waiting { OnOk result (waiting_number self.new ≡ waiting_number self.old + spilled_number self.old) }
+        ensures paged { OnOk result ((spilled ahead : List Record) (pending : List PendingPartition)
+            → HasPartitions (D.last disk.old) self.old spilled ahead pending
+            → D.writes disk.new + written_pages self.old ≡ D.writes disk.old
+            + pages_of (partitions_of self.old.level spilled)) }
+        ensures alive { OnOk result (self.new.tapes.is_dead ≡ false) }
+        ensures reading { self.new.reading ≡ self.old.reading }
+        ensures level { self.new.level ≡ self.old.level }
+        ensures undamaged { IfErr result (λ error. error ≢ TapeDamaged) }
+        ensures disk { DiskFrame D.TapeDisk (failed spill_faults result) disk.old disk.new }
+    {
+        let partitions = replace(&mut self.partitions, Vec::new(self.alloc));
+        for partition in &partitions {
+            self.leave(disk, *partition)?;
+        }
+        Ok(())
+    }
+
+    /// Leaves a partition of the pass to a later one, if it has records.
+    fn leave<D: TapeDisk>(&mut self, disk: &mut D, partition: OnTape) -> Result<(), SpillError>
+        requires alive { self.old.tapes.is_dead ≡ false }
+        requires written { is_written self.old.tapes partition.tape ≡ true }
+        requires partitions { self.old.partitions ≡ [] }
+        requires apart { times partition.tape.index (self.old.reading ++ self.old.pending) ≡ 0 }
+        ensures left { OnOk result (self.new.pending ≡ self.old.pending ++ those_with_records (partition ∷ [])) }
+        ensures paged { OnOk result
+            ((records : List Record) → IsTape (D.last disk.old) self.old.tapes partition.tape records → partition.records
+            ≡ length records → D.writes disk.new + written_len self.old.tapes partition.tape / PAGE ≡ D.writes disk.old
+            + partition_pages records) }
+        ensures kept { OnOk result
+            (0 < partition.records → (records : List Record) → IsTape (D.last disk.old) self.old.tapes partition.tape records
+            → IsTape (D.last disk.new) self.new.tapes partition.tape records) }
+        ensures others { KeepsOthers (D.last disk.old) (D.last disk.new) self.old.tapes self.new.tapes partition.tape }
+        ensures alive { OnOk result (self.new.tapes.is_dead ≡ false) }
+        ensures partitions { self.new.partitions ≡ [] }
+        ensures reading { self.new.reading ≡ self.old.reading }
+        ensures level { self.new.level ≡ self.old.level }
+        ensures undamaged { IfErr result (λ error. error ≢ TapeDamaged) }
+        ensures disk { DiskFrame D.TapeDisk (failed spill_faults result) disk.old disk.new }
+    {
+        self.tapes.bytes_written(disk, partition.tape);
+        if partition.records == 0 {
+            self.tapes.close(disk, partition.tape);
+            return Ok(());
+        }
+        match self.tapes.rewind(disk, partition.tape) {
+            Ok(()) => {
+                self.pending.push(partition)?;
+                Ok(())
+            }
+            Err(error) => Err(refusal(error)),
+        }
+    }
+
+    /// Begins the pass over the last partition that is to be read, if there is one; else nothing is changed.
+    pub fn begin_pass<D: TapeDisk>(&mut self, _disk: &D) -> bool
+        requires partitions { self.old.partitions ≡ [] }
+        requires reading { self.old.reading ≡ [] }
+        ensures begins { result ≡ true → (pending : List PendingPartition) → HasPartitions (D.last _disk.now) self.old [] [] pending
+            → BeginsLast (D.last _disk.now) self.new pending }
+        ensures some { result ≡ true → 0 < ahead_number self.new }
+        ensures counted { waiting_number self.old ≡ waiting_number self.new + ahead_number self.new }
+        ensures none { result ≡ false → self.old.pending ≡ [] }
+        ensures unchanged { result ≡ false → self.new ≡ self.old }
+        ensures partitions { self.new.partitions ≡ [] }
+        ensures alive { self.new.tapes.is_dead ≡ self.old.tapes.is_dead }
+    {
+        match self.pending.pop() {
+            Some(partition) => {
+                self.level = partition.level;
+                self.reading = Some(partition);
+                true
+            }
+            None => false,
+        }
+    }
+
+    /// Reads the next record of the partition that the pass reads, if there is one: its hash and its tag are answered, and its
+    /// bytes are put in the place of those in `bytes`. Without a record, or where it fails, there are none.
+    pub fn next<D: TapeDisk>(
+        &mut self,
+        disk: &mut D,
+        bytes: &mut Vec<u8>,
+    ) -> Result<Option<(u32, u8)>, SpillError>
+        requires alive { self.old.tapes.is_dead ≡ false }
+        ensures gives { IfOk result (λ found. IsTrue (D.honest disk.old) → (spilled ahead : List Record) (pending : List PendingPartition)
+            → HasPartitions (D.last disk.old) self.old spilled ahead pending
+            → Gives (λ rest. HasPartitions (D.last disk.new) self.new spilled rest pending) ahead bytes.new.items found) }
+        ensures undamaged { IfErr result (λ error. IsTrue (D.honest disk.old)
+            → (spilled ahead : List Record) (pending : List PendingPartition)
+            → HasPartitions (D.last disk.old) self.old spilled ahead pending
+            → error ≢ TapeDamaged) }
+        ensures counted { IfOk result (λ found. IfSome found (λ _. ahead_number self.old ≡ ahead_number self.new + 1)) }
+        ensures ended { IfOk result (λ found. IfNone found ((ahead_number self.old ≡ 0) × (self.new.reading ≡ []))) }
+        ensures framed { IfOk result (λ found. IfSome found (λ told. (told.1 < 2) × (length bytes.new.items ≤ MAX_RECORD_LEN))) }
+        ensures none { IfOk result (λ found. IfNone found (bytes.new.items ≡ [])) }
+        ensures nothing { OnErr result (bytes.new.items ≡ []) }
+        ensures alive { OnOk result (self.new.tapes.is_dead ≡ false) }
+        ensures partitions { self.new.partitions ≡ self.old.partitions }
+        ensures paged { written_pages self.new ≡ written_pages self.old }
+        ensures pending { self.new.pending ≡ self.old.pending }
+        ensures level { self.new.level ≡ self.old.level }
+        ensures disk { OnlyReads D.TapeDisk (failed spill_faults result) disk.old disk.new }
+    {
+        bytes.clear();
+        let Some(partition) = self.reading else {
+            return Ok(None);
+        };
+        let Some(records) = partition.records.checked_sub(1) else {
+            self.tapes.close(disk, partition.tape);
+            self.reading = None;
+            return Ok(None);
+        };
+        match self.tapes.next(disk, partition.tape, bytes) {
+            Ok(Some(found)) => {
+                self.reading = Some(OnTape {
+                    records,
+                    ..partition
+                });
+                Ok(Some(found))
+            }
+            Ok(None) => Err(SpillError::TapeDamaged),
+            Err(error) => Err(refusal(error)),
+        }
+    }
+}

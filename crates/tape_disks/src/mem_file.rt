@@ -1,0 +1,79 @@
+//! A file in memory.
+ghost use Rattle.std.specs.Prelude.{◌≡◌, ◌+◌, ◌<◌, ◌≤◌, ◌⊎◌, ℕ, true, OnOk, length, get_or};
+
+use crate::seekable_file::SeekableFile;
+use std::alloc::{AllocError, Global};
+use std::io;
+use std::io::ErrorKind;
+
+/// A file in memory, which is honest. What lies between its end and a place beyond that is written is 0.
+#[derive(Drop)]
+pub struct MemFile {
+    bytes: Vec<u8>,
+    at: usize,
+}
+
+impl MemFile {
+    /// An empty file.
+    pub fn new(alloc: Global) -> MemFile {
+        MemFile {
+            bytes: Vec::new(alloc),
+            at: 0,
+        }
+    }
+}
+
+/// Grows a list of bytes by zeros, so that it has so many.
+fn grow(bytes: &mut Vec<u8>, end: usize) -> Result<(), AllocError>
+    ensures same { (place : ℕ) → get_or bytes.new.items place 0 ≡ get_or bytes.old.items place 0 }
+    ensures long { OnOk result (end ≤ length bytes.new.items) }
+{
+    if bytes.len() < end {
+        bytes.resize(end, 0)?;
+    }
+    Ok(())
+}
+
+/// Writes these bytes over others, from a place on.
+#[tactic(auto, using(std::proofs::lemmas::List::places, crate::proofs::MemoryLaws::over_beside))]
+fn write_over(bytes: &mut [u8], at: usize, these: &[u8])
+    requires { at + length these.now ≤ length bytes.old }
+    ensures len { length bytes.new ≡ length bytes.old }
+    ensures there { (k : ℕ) → k < length these.now → get_or bytes.new (at + k) 0 ≡ get_or these.now k 0 }
+    ensures beside { (place : ℕ) → (place < at) ⊎ (at + length these.now ≤ place) → get_or bytes.new place 0 ≡ get_or bytes.old place 0 }
+{
+    bytes[at..at + these.len()].copy_from_slice(these);
+}
+
+impl SeekableFile for MemFile {
+    ghost honest = { λ _. true };
+
+    ghost stands = { λ f at. f.at ≡ at };
+
+    ghost last = { λ f place byte. get_or f.bytes.items place 0 ≡ byte };
+
+    fn go_to(&mut self, at: u64) -> io::Result<()> {
+        self.at = at as usize;
+        Ok(())
+    }
+
+    fn read_some(&mut self, bytes: &mut [u8]) -> io::Result<usize> {
+        if self.at >= self.bytes.len() {
+            return Ok(0);
+        }
+        let n = bytes.len().min(self.bytes.len() - self.at);
+        bytes[..n].copy_from_slice(&self.bytes[self.at..self.at + n]);
+        self.at += n;
+        Ok(n)
+    }
+
+    fn write_these(&mut self, bytes: &[u8]) -> io::Result<()> {
+        let Some(end) = self.at.checked_add(bytes.len()) else {
+            return Err(io::Error::from(ErrorKind::Other));
+        };
+        grow(&mut self.bytes, end)?;
+        write_over(&mut self.bytes, self.at, bytes);
+        self.at = end;
+        Ok(())
+    }
+}

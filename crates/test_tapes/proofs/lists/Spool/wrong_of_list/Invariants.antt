@@ -1,5 +1,0 @@
-use Rattle.std.proofs.Common.{◌≡◌, false}
-use Rattle.test_tapes.proofs.lists.Spool.wrong_of_list.Given as goal
-
-abbrev pub invariant-loop-number : goal.invariant-loop-number
-invariant-loop-number g l = (l.self.lists.tapes.is_dead ≡ false) × (l.self.lists.partitions ≡ l.fn.self.lists.partitions)

@@ -1,0 +1,10 @@
+use Rattle.std.proofs.Common.{◌≡◌, false}
+use Rattle.spill_partitions.specs.Standing.{ahead_number}
+use Rattle.test_tapes.proofs.partitions.Spool.tell_partition.Given as goal
+
+abbrev pub invariant-loop-hash : goal.invariant-loop-hash
+invariant-loop-hash g l = (l.self.partitions.tapes.is_dead ≡ false) × (l.self.partitions.partitions ≡ l.fn.self.partitions.partitions)
+    × (l.self.partitions.pending ≡ l.fn.self.partitions.pending)
+
+abbrev pub decreases-loop-hash : goal.decreases-loop-hash
+decreases-loop-hash g l = ahead_number l.self.partitions
