@@ -172,3 +172,12 @@ pub(crate) fn of_function(name: &str) -> Hint {
         None => Hint::Functions(None),
     }
 }
+
+/// What is said of a `*`, in the place of an item or elsewhere.
+pub(crate) fn of_star(is_item: bool) -> &'static str {
+    if is_item {
+        "name the columns of GROUP BY and the calls"
+    } else {
+        "there is no arithmetic: let the rows have what is counted"
+    }
+}

@@ -74,7 +74,11 @@ fn large_integer(text: &str) -> Option<usize> {
 }
 
 /// The tokens of a text up to a place, before which it has no fault.
-fn tokens_before(alloc: Global, text: &str, place: usize) -> Result<Vec<Token>, AllocError> {
+pub(crate) fn tokens_before(
+    alloc: Global,
+    text: &str,
+    place: usize,
+) -> Result<Vec<Token>, AllocError> {
     match tokens(alloc, text.get(..place).unwrap_or("")) {
         Ok(found) => Ok(found),
         Err(TokenError::NoMemory) => Err(AllocError),

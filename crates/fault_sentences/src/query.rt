@@ -1,52 +1,30 @@
 //! Why a text is no query over a schema.
 
-use crate::hints::{Hint, of_function, of_word};
+use crate::hints::of_word;
 use crate::nearest::nearest;
-use crate::places::{Lexed, piece_at};
+use crate::places::tokens_before;
 use crate::quoted::Quoted;
-use crate::reader::{Mention, Reader, Role, Span, State, name_at};
 use crate::reason::Reason;
-use crate::wanted::Wanted;
-use group_parser::ParseError;
+use crate::syntax::{say_large, say_syntax};
+use crate::tour::{Mention, Role, Tour};
+use group_parser::{ParseError, count_begun, read};
 use grouping_model::limits::{
-    DEEPEST_CONDITION, MAX_CALLS, MAX_ITEMS, MAX_KEYS, MAX_NAME_LEN, MAX_OPEN, MAX_QUERY_LEN,
+    DEEPEST_CONDITION, MAX_CALLS, MAX_ITEMS, MAX_KEYS, MAX_OPEN, MAX_QUERY_LEN,
 };
-use having_filter::QueryError;
+use having_filter::{Item, OrderBy, QueryError, RawQuery};
 use packed_rows::Schema;
-use query_tokens::{Token, Word};
+use query_checks::{is_same_call, label};
+use query_tokens::Token;
 use std::alloc::{AllocError, Global};
 
-/// A text that is refused, its tokens, and what they say.
+/// A query that was read from a text, and that a check refuses.
 #[derive(Drop)]
 struct Refused<'t> {
     alloc: Global,
     text: &'t str,
     schema: &'t Schema,
-    tokens: &'t [Token],
-    reader: Reader<'t>,
-}
-
-/// Whether two tokens say the same.
-fn is_same(one: &Token, other: &Token) -> bool {
-    match (&one.word, &other.word) {
-        (Word::Name(a), Word::Name(b)) => a.as_str() == b.as_str(),
-        (Word::Text(a), Word::Text(b)) => a.as_str() == b.as_str(),
-        (Word::Integer(a), Word::Integer(b)) => a == b,
-        (Word::Symbol(a), Word::Symbol(b)) => a == b,
-        _ => false,
-    }
-}
-
-/// The tokens of an item or a call.
-fn tokens_of<'t>(tokens: &'t [Token], span: &Span) -> &'t [Token] {
-    tokens
-        .get(span.first..span.last.saturating_add(1))
-        .unwrap_or_default()
-}
-
-/// Whether two items or calls have the same tokens.
-fn are_same(one: &[Token], other: &[Token]) -> bool {
-    one.len() == other.len() && one.iter().zip(other.iter()).all(|(a, b)| is_same(a, b))
+    query: &'t RawQuery,
+    tour: Tour<'t>,
 }
 
 /// The names of a schema's columns.
@@ -58,134 +36,94 @@ fn names_of<'s>(alloc: Global, schema: &'s Schema) -> Result<Vec<&'s str>, Alloc
     Ok(names)
 }
 
+/// Whether two items are the same column or call.
+fn are_same(one: &Item<String>, other: &Item<String>) -> bool {
+    match (one, other) {
+        (Item::Column(a), Item::Column(b)) => a == b,
+        (Item::Call(a), Item::Call(b)) => is_same_call(a, b),
+        _ => false,
+    }
+}
+
+/// Whether an item has a name.
+fn has_name(item: &(Item<String>, Option<String>), name: &str) -> bool {
+    label(item) == name
+}
+
+/// How many items have a name.
+fn count_named(query: &RawQuery, name: &str) -> usize {
+    query
+        .items
+        .iter()
+        .filter(|item| has_name(*item, name))
+        .count()
+}
+
+/// Whether all items that have a name are the same.
+fn are_alike(query: &RawQuery, name: &str) -> bool {
+    match query.items.iter().find(|item| has_name(*item, name)) {
+        Some(first) => query.items.iter().all(|item| !has_name(item, name)
+            || are_same(&first.0, &item.0)),
+        None => true,
+    }
+}
+
+/// How many different names there are.
+fn count_names(names: &[String]) -> usize {
+    let mut count = 0usize;
+    for (place, name) in names.iter().enumerate() {
+        if !names.iter().take(place).any(|other| other == name) {
+            count = count.saturating_add(1);
+        }
+    }
+    count
+}
+
 impl<'t> Refused<'t> {
     /// What is said of a place.
     fn at(&self, place: usize, said: String) -> Result<Reason, AllocError> {
         Reason::at(self.alloc, self.text, place, said)
     }
 
-    /// Where a token stands.
-    fn place_of(&self, token: usize) -> usize {
-        match self.tokens.get(token) {
-            Some(token) => token.at,
-            None => self.text.len(),
-        }
-    }
-
-    /// What is wrong with the bytes at a place where no token begins, if that is known.
-    fn broken(&self, piece: &str) -> Result<Option<String>, AllocError> {
-        let len = piece.len();
-        let said = match piece.chars().next() {
-            Some('\'') => "the text that begins here is not closed, or has the character 0",
-            Some('-') if len > 1 && piece != "--" => "a letter stands directly behind digits",
-            Some('0'..='9') => "a letter stands directly behind digits",
-            Some('a'..='z' | 'A'..='Z' | '_') => {
-                let said = format!(in self.alloc;
-                    "a name of {len} bytes, and the longest has {MAX_NAME_LEN}"
-                )?;
-                return Ok(Some(said));
-            }
-            _ => return Ok(None),
-        };
-        Ok(Some(String::from_str(self.alloc, said)?))
-    }
-
-    /// What serves in the place of what stands at a place.
-    fn hint(&self, piece: &str) -> Option<Hint> {
-        let last = self.tokens.len().saturating_sub(1);
-        let said = match self.reader.state {
-            State::Name {
-                place,
-                function: None,
-            } if piece == "(" => return Some(of_function(name_at(self.tokens, place))),
-            State::Right if piece == "=" => Some("one = compares"),
-            State::Termed if piece == "(" => {
-                Some("ORDER BY takes the name or the place of an item, as ORDER BY 2")
-            }
-            State::Item if piece == "*" => Some("name the columns of GROUP BY and the calls"),
-            _ if piece == "*" => of_word("+"),
-            _ => match of_word(piece) {
-                None => of_word(name_at(self.tokens, last)),
-                said => said,
-            },
-        };
-        said.map(Hint::Said)
-    }
-
-    /// Says what stands at a place, and what is wanted there.
-    fn say_syntax(&self, at: usize, is_broken: bool) -> Result<Reason, AllocError> {
-        let piece = piece_at(self.text, at);
-        if is_broken {
-            if let Some(said) = self.broken(piece)? {
-                return self.at(at, said);
-            }
-        }
-        let wanted = Wanted(&self.reader);
-        let mut said = if piece.is_empty() {
-            format!(in self.alloc; "byte {at}: found the end, wanted {wanted}")?
-        } else {
-            let found = Quoted(piece.as_bytes());
-            format!(in self.alloc; "byte {at}: found {found}, wanted {wanted}")?
-        };
-        if let Some(hint) = self.hint(piece) {
-            write!(said, "; {hint}")?;
-        }
-        self.at(at, said)
-    }
-
     /// Says which column there is not, which is near to it, and which there are.
     fn say_no_column(&self) -> Result<Option<Reason>, AllocError> {
         let names = names_of(self.alloc, self.schema)?;
-        for mention in self.reader.mentions.iter() {
-            let name = name_at(self.tokens, mention.place);
-            if self.schema.place(name).is_none() {
-                return Ok(Some(self.say_name(mention, name, &names)?));
+        for mention in &self.tour.mentions {
+            if self.schema.place(mention.name).is_none() {
+                return Ok(Some(self.say_name(mention, &names)?));
             }
         }
         self.say_no_item()
     }
 
-    /// How many items have a name, and whether all of them are written alike.
-    fn items_named(&self, name: &str) -> (usize, bool) {
-        let mut count = 0usize;
-        let mut are_alike = true;
-        let mut first: &[Token] = &[];
-        for (item, label) in self.reader.items.iter().zip(self.reader.labels.iter()) {
-            if name_at(self.tokens, *label) != name {
-                continue;
-            }
-            let found = tokens_of(self.tokens, item);
-            if count == 0 {
-                first = found;
-            }
-            are_alike = are_alike && are_same(first, found);
-            count = count.saturating_add(1);
+    /// Says of a name that it is no column's.
+    fn say_name(&self, mention: &Mention<'_>, names: &[&str]) -> Result<Reason, AllocError> {
+        let name = mention.name;
+        let mut said = format!(in self.alloc; "{} is no column", Quoted(name.as_bytes()))?;
+        if let Some(near) = nearest(self.alloc, name, names)? {
+            write!(said, ", and {near} may be meant")?;
+        } else if let Some(hint) = of_word(name) {
+            write!(said, "; {hint}")?;
+        } else if mention.role == Role::Condition {
+            said.push_str("; a text stands in single quotes")?;
         }
-        (count, are_alike)
+        let columns = self.schema.print()?;
+        write!(said, "; the columns are {columns}")?;
+        self.at(mention.at, said)
     }
 
-    /// Says of a term of ORDER BY that it names no item, if it doesn't.
-    fn say_term(&self, place: usize) -> Result<Option<String>, AllocError> {
-        let many = self.reader.items.len();
-        match self.tokens.get(place) {
-            Some(
-                Token {
-                    word: Word::Name(name),
-                    ..
-                },
-            ) if self.items_named(name.as_str()).0 == 0 => {
+    /// Says of what a term of ORDER BY names that it is no item, if it is none.
+    fn say_target(&self, target: &OrderBy) -> Result<Option<String>, AllocError> {
+        let many = self.query.items.len();
+        match target {
+            OrderBy::Name(name) if count_named(self.query, name.as_str()) == 0 => {
                 let shown = Quoted(name.as_bytes());
                 let said = format!(in self.alloc;
                     "{shown} names no item: a term of ORDER BY is the name of an item in the answer, or its place"
                 )?;
                 Ok(Some(said))
             }
-            Some(
-                Token {
-                    word: Word::Integer(number),
-                    ..
-                },
-            ) if *number < 1 || *number as u64 > many as u64 => {
+            OrderBy::Place(number) if *number < 1 || *number as u64 > many as u64 => {
                 let said = format!(in self.alloc;
                     "{number} is no item's place, which is 1 to {many}"
                 )?;
@@ -197,65 +135,55 @@ impl<'t> Refused<'t> {
 
     /// Says which term of ORDER BY names no item.
     fn say_no_item(&self) -> Result<Option<Reason>, AllocError> {
-        for place in self.reader.terms.iter() {
-            if let Some(said) = self.say_term(*place)? {
-                return Ok(Some(self.at(self.place_of(*place), said)?));
+        for (term, place) in self.query.order.iter().zip(self.tour.terms.iter()) {
+            if let Some(said) = self.say_target(&term.target)? {
+                return Ok(Some(self.at(*place, said)?));
             }
         }
         Ok(None)
+    }
+
+    /// Says of what a term of ORDER BY names that it is items that aren't the same, if so.
+    fn say_unlike(&self, target: &OrderBy) -> Result<Option<String>, AllocError> {
+        let OrderBy::Name(name) = target else {
+            return Ok(None);
+        };
+        if are_alike(self.query, name.as_str()) {
+            return Ok(None);
+        }
+        let count = count_named(self.query, name.as_str());
+        let shown = Quoted(name.as_bytes());
+        let said = format!(in self.alloc;
+            "{shown} names {count} items that are not the same: give one another name by AS, or write its place"
+        )?;
+        Ok(Some(said))
     }
 
     /// Says which term of ORDER BY names items that aren't the same.
     fn say_ambiguous(&self) -> Result<Option<Reason>, AllocError> {
-        for place in self.reader.terms.iter() {
-            let name = name_at(self.tokens, *place);
-            let (count, are_alike) = self.items_named(name);
-            if count > 1 && !are_alike {
-                let shown = Quoted(name.as_bytes());
-                let said = format!(in self.alloc;
-                    "{shown} names {count} items that are not the same: give one another name by AS, or write its place"
-                )?;
-                return Ok(Some(self.at(self.place_of(*place), said)?));
+        for (term, place) in self.query.order.iter().zip(self.tour.terms.iter()) {
+            if let Some(said) = self.say_unlike(&term.target)? {
+                return Ok(Some(self.at(*place, said)?));
             }
         }
         Ok(None)
     }
 
-    /// Says of a name that it is no column's.
-    fn say_name(
-        &self,
-        mention: &Mention,
-        name: &str,
-        names: &[&str],
-    ) -> Result<Reason, AllocError> {
-        let mut said = format!(in self.alloc; "{} is no column", Quoted(name.as_bytes()))?;
-        if let Some(near) = nearest(self.alloc, name, names)? {
-            write!(said, ", and {near} may be meant")?;
-        } else if let Some(hint) = of_word(name) {
-            write!(said, "; {hint}")?;
-        } else if mention.role == Role::Condition {
-            said.push_str("; a text stands in single quotes")?;
-        }
-        let columns = self.schema.print()?;
-        write!(said, "; the columns are {columns}")?;
-        self.at(self.place_of(mention.place), said)
-    }
-
     /// Says which aggregate stands in WHERE or a FILTER.
     fn say_aggregate(&self) -> Result<Option<Reason>, AllocError> {
-        let Some(place) = self.reader.misplaced else {
+        let Some((function, at)) = self.tour.misplaced else {
             return Ok(None);
         };
-        let name = name_at(self.tokens, place);
+        let name = function.name();
         let said = format!(in self.alloc;
             "{name} stands in WHERE or a FILTER, where each row is asked by itself: put it into HAVING"
         )?;
-        Ok(Some(self.at(self.place_of(place), said)?))
+        Ok(Some(self.at(at, said)?))
     }
 
     /// Says which kinds don't fit.
     fn say_clash(&self) -> Result<Option<Reason>, AllocError> {
-        let Some((clash, at)) = self.reader.clash else {
+        let Some((clash, at)) = self.tour.clash else {
             return Ok(None);
         };
         let said = format!(in self.alloc; "{clash}")?;
@@ -264,52 +192,33 @@ impl<'t> Refused<'t> {
 
     /// Whether a name is a column of GROUP BY.
     fn is_key(&self, name: &str) -> bool {
-        self.reader.mentions.iter().any(|other| other.role == Role::Key
-            && name_at(self.tokens, other.place) == name)
+        self.query.keys.iter().any(|key| key.as_str() == name)
     }
 
     /// Says which column is not in GROUP BY.
     fn say_not_grouped(&self) -> Result<Option<Reason>, AllocError> {
-        for mention in self.reader.mentions.iter() {
-            let name = name_at(self.tokens, mention.place);
-            if mention.role == Role::Outside && !self.is_key(name) {
-                let shown = Quoted(name.as_bytes());
+        for mention in &self.tour.mentions {
+            if mention.role == Role::Outside && !self.is_key(mention.name) {
+                let shown = Quoted(mention.name.as_bytes());
                 let said = format!(in self.alloc;
                     "{shown} stands outside of calls, and is none of GROUP BY's columns: add it there, or put it into a call"
                 )?;
-                return Ok(Some(self.at(self.place_of(mention.place), said)?));
+                return Ok(Some(self.at(mention.at, said)?));
             }
         }
         Ok(None)
     }
 
-    /// How many different columns GROUP BY has.
-    fn count_keys(&self) -> usize {
-        let mut count = 0usize;
-        for (place, mention) in self.reader.mentions.iter().enumerate() {
-            let name = name_at(self.tokens, mention.place);
-            let is_first = !self.reader.mentions.iter().take(place).any(|other| other.role
-                == Role::Key
-                && name_at(self.tokens, other.place) == name);
-            if mention.role == Role::Key && is_first {
-                count = count.saturating_add(1);
-            }
-        }
-        count
-    }
-
     /// How many different calls stand among the items and in HAVING.
     fn count_calls(&self) -> usize {
+        let calls = &self.tour.calls;
         let mut count = 0usize;
-        for (place, call) in self.reader.calls.iter().enumerate() {
-            let found = tokens_of(self.tokens, call);
-            let is_first = !self
-                .reader
-                .calls
+        for (place, call) in calls.iter().enumerate() {
+            if !calls
                 .iter()
                 .take(place)
-                .any(|other| are_same(tokens_of(self.tokens, other), found));
-            if is_first {
+                .any(|other| is_same_call(*other, *call))
+            {
                 count = count.saturating_add(1);
             }
         }
@@ -319,8 +228,8 @@ impl<'t> Refused<'t> {
     /// Says of what there is too much, how much, and how much there may be.
     fn say_too_many(&self) -> Result<Reason, AllocError> {
         let alloc = self.alloc;
-        let items = self.reader.items.len();
-        let (keys, calls) = (self.count_keys(), self.count_calls());
+        let items = self.query.items.len();
+        let (keys, calls) = (count_names(&self.query.keys), self.count_calls());
         let said = if items > MAX_ITEMS {
             format!(in alloc; "{items} items, and there may be {MAX_ITEMS}")?
         } else if keys > MAX_KEYS {
@@ -333,13 +242,9 @@ impl<'t> Refused<'t> {
         Ok(Reason::whole(alloc, said))
     }
 
-    /// Says which condition is too deep, or has too many parentheses.
+    /// Says which condition is too deep.
     fn say_too_deep(&self) -> Result<Reason, AllocError> {
-        if let Some(at) = self.reader.too_open {
-            let said = format!(in self.alloc; "more than {MAX_OPEN} parentheses are open here")?;
-            return self.at(at, said);
-        }
-        let (depth, at) = self.reader.deepest;
+        let (depth, at) = self.tour.deepest;
         let said = format!(in self.alloc;
             "a condition that is {depth} deep, and may be {DEEPEST_CONDITION}: pair what stands in a long chain, as (a OR b) OR (c OR d)"
         )?;
@@ -361,38 +266,40 @@ impl<'t> Refused<'t> {
     }
 }
 
-/// Says why a text is no query over a schema: where, what stands there, and what is wanted. Nothing is said where that is not found.
-pub fn say_query<'t>(
-    alloc: Global,
-    schema: &'t Schema,
-    text: &'t str,
-    why: ParseError,
-) -> Result<Option<Reason>, AllocError> {
-    if text.len() > MAX_QUERY_LEN {
-        return Ok(Some(Reason::whole(alloc, say_long(alloc, text)?)));
-    }
-    let lexed = Lexed::of(alloc, text)?;
-    let tokens = match why {
-        // What stands behind the fault is not read.
-        ParseError::Syntax { at } => front(&lexed.tokens, at),
-        _ => lexed.tokens.as_slice(),
+/// Says at which of a text's tokens too many parentheses are open.
+fn say_open(alloc: Global, text: &str, tokens: &[Token]) -> Result<Reason, AllocError> {
+    let at = match tokens.get(count_begun(alloc, tokens)?) {
+        Some(token) => token.at,
+        None => text.len(),
     };
-    let mut reader = Reader::of(alloc, schema, tokens)?;
-    if matches!(why, ParseError::Query(_)) {
-        reader.end()?;
-    }
+    let said = format!(in alloc; "more than {MAX_OPEN} parentheses are open here")?;
+    Reason::at(alloc, text, at, said)
+}
+
+/// Says why a text that has these tokens is refused, though each of them may stand where it does.
+fn say_refused(
+    alloc: Global,
+    schema: &Schema,
+    text: &str,
+    tokens: &[Token],
+    why: QueryError,
+) -> Result<Option<Reason>, AllocError> {
+    let query = match read(alloc, text) {
+        Ok(query) => query,
+        Err(ParseError::Query(QueryError::TooDeep)) => {
+            return Ok(Some(say_open(alloc, text, tokens)?));
+        }
+        Err(ParseError::Query(QueryError::NoMemory)) => return Err(AllocError),
+        Err(_) => return Ok(None),
+    };
     let refused = Refused {
         alloc,
         text,
         schema,
-        tokens,
-        reader,
+        query: &query,
+        tour: Tour::of(alloc, schema, tokens, &query)?,
     };
-    match why {
-        ParseError::Syntax { at } => Ok(Some(refused.say_syntax(at, lexed.fault == Some(at))?)),
-        ParseError::NumberTooLarge => say_large(alloc, text, lexed.large),
-        ParseError::Query(why) => refused.say_check(why),
-    }
+    refused.say_check(why)
 }
 
 /// Says that a text is too long.
@@ -401,24 +308,22 @@ fn say_long(alloc: Global, text: &str) -> Result<String, AllocError> {
     format!(in alloc; "a text of {len} bytes, and the longest has {MAX_QUERY_LEN}")
 }
 
-/// The tokens that stand before a place.
-fn front(tokens: &[Token], at: usize) -> &[Token] {
-    let before = tokens.iter().take_while(|token| token.at < at).count();
-    tokens.get(..before).unwrap_or(tokens)
-}
-
-/// Says which integer is out of range.
-fn say_large(
+/// Says why a text is no query over a schema: where, what stands there, and what is wanted. Nothing is said where that is not found.
+pub fn say_query(
     alloc: Global,
+    schema: &Schema,
     text: &str,
-    place: Option<usize>,
+    why: ParseError,
 ) -> Result<Option<Reason>, AllocError> {
-    let Some(at) = place else {
-        return Ok(None);
-    };
-    let shown = Quoted(piece_at(text, at).as_bytes());
-    let said = format!(in alloc;
-        "{shown} is out of range, which is -9223372036854775808 to 9223372036854775807"
-    )?;
-    Ok(Some(Reason::at(alloc, text, at, said)?))
+    if text.len() > MAX_QUERY_LEN {
+        return Ok(Some(Reason::whole(alloc, say_long(alloc, text)?)));
+    }
+    match why {
+        ParseError::Syntax { at } => Ok(Some(say_syntax(alloc, text, at)?)),
+        ParseError::NumberTooLarge => say_large(alloc, text),
+        ParseError::Query(why) => {
+            let tokens = tokens_before(alloc, text, text.len())?;
+            say_refused(alloc, schema, text, &tokens, why)
+        }
+    }
 }

@@ -1,80 +1,117 @@
-//! What may come next in a query.
+//! What may stand next in a query: what the parser goes on with.
 
-use crate::frame::Context;
-use crate::reader::{Reader, State};
-use agg_protocol::AggKind;
-use std::fmt;
+ghost use Rattle.std.specs.Prelude.{◌≡◌, ◌++◌, true, codes, IfOk};
+ghost use Rattle.fault_sentences.specs.Fronts.{IsFront};
 
-/// What may come next where a reader stands, in words.
-#[derive(Clone, Copy)]
-pub(crate) struct Wanted<'r, 't>(pub(crate) &'r Reader<'t>);
+use group_parser::count_begun;
+use query_tokens::{TokenError, tokens};
+use std::alloc::{AllocError, Global};
 
-/// What may stand behind a test in a condition, and end it.
-fn behind_test(context: Context) -> &'static str {
-    match context {
-        Context::Where => "IS, AND, OR, GROUP BY, HAVING, ORDER BY, a semicolon or the end",
-        Context::Having => "IS, AND, OR, ORDER BY, a semicolon or the end",
-        Context::Filter | Context::Parenthesis => "IS, AND, OR or )",
+/// Names that may stand next, the first that fits: what the query goes on with, and what the name is then.
+const NAMES: [(&str, &str); 8] = [
+    ("count(x) AS", "a column or a call, as count(*)"),
+    ("count(x", "a column, a call"),
+    ("x ASC", "the name or the place of an item"),
+    // Where AS may stand, so may a name without it, and the words for both are below.
+    ("AS", ""),
+    ("x FROM", "a name"),
+    ("x", "a column"),
+    ("batches", "batches, which is the name of every table"),
+    ("first", "first or last"),
+];
+
+/// What else may stand next: what the query goes on with, and its words. Where a semicolon may stand, the query may end.
+const OTHERS: [(&str, &str); 27] = [
+    ("SELECT", "SELECT"),
+    ("BY", "BY"),
+    ("*", "*"),
+    // An integer that is no place of an item.
+    ("1 AND", "an integer"),
+    ("'x'", "a text"),
+    ("TRUE", "TRUE"),
+    ("FALSE", "FALSE"),
+    ("NULL", "NULL"),
+    ("UNKNOWN", "UNKNOWN"),
+    ("NOT", "NOT"),
+    ("(", "("),
+    ("FILTER", "FILTER"),
+    ("=", "a comparison"),
+    ("IS", "IS"),
+    ("AND", "AND"),
+    ("OR", "OR"),
+    (")", ")"),
+    (",", "a comma"),
+    ("AS", "AS, another name"),
+    ("FROM", "FROM"),
+    ("WHERE", "WHERE"),
+    ("GROUP", "GROUP BY"),
+    ("HAVING", "HAVING"),
+    ("ORDER", "ORDER BY"),
+    ("ASC", "ASC, DESC"),
+    ("NULLS", "NULLS"),
+    (";", "a semicolon"),
+];
+
+/// The words of what may stand next, with an `or` before the last.
+fn said_of(alloc: Global, words: &[&str]) -> Result<String, AllocError> {
+    let mut said = String::new(alloc);
+    for (place, word) in words.iter().enumerate() {
+        if place > 0 {
+            let is_last = place.saturating_add(1) == words.len();
+            said.push_str(if is_last { " or " } else { ", " })?;
+        }
+        said.push_str(word)?;
+    }
+    Ok(said)
+}
+
+/// Whether a query begins with the tokens of a text.
+#[tactic(auto, using(crate::proofs::Fronts::is_front))]
+pub(crate) fn begins(alloc: Global, text: &str) -> Result<bool, AllocError>
+    ensures { IfOk result (λ begins. begins ≡ true → IsFront text.now) }
+{
+    match tokens(alloc, text) {
+        Ok(found) => Ok(count_begun(alloc, &found)? == found.len()),
+        Err(TokenError::NoMemory) => Err(AllocError),
+        Err(TokenError::Fault(_)) => Ok(false),
     }
 }
 
-/// What may come next at a place that is in no condition.
-fn at_state(state: State) -> &'static str {
-    match state {
-        State::Start => "SELECT",
-        State::Item => "a column or a call, as count(*)",
-        State::Name { .. } | State::Called | State::Behind => "a comma, AS, another name or FROM",
-        State::Argument {
-            function: AggKind::Count,
-            ..
-        } => "* or a column",
-        State::Argument { .. } => "a column",
-        State::ArgumentEnd { .. } => ")",
-        State::Filter => "(",
-        State::FilterOpen => "WHERE",
-        State::Alias => "a name",
-        State::Aliased => "a comma or FROM",
-        State::From => "batches, which is the name of every table",
-        State::Batches => "WHERE, GROUP BY, HAVING, ORDER BY, a semicolon or the end",
-        State::Operand => "a column, a call, an integer, a text, TRUE, FALSE, NULL, NOT or (",
-        State::Right => "a column, a call, an integer, a text, TRUE, FALSE, NULL or (",
-        State::Is => "NOT, NULL, TRUE, FALSE or UNKNOWN",
-        State::IsNot => "NULL, TRUE, FALSE or UNKNOWN",
-        State::Group | State::Order => "BY",
-        State::Key => "a column",
-        State::Keys => "a comma, HAVING, ORDER BY, a semicolon or the end",
-        State::Term => "the name or the place of an item",
-        State::Termed => "a comma, ASC, DESC, NULLS, a semicolon or the end",
-        State::Directed => "a comma, NULLS, a semicolon or the end",
-        State::Nulls => "first or last",
-        State::Ordered => "a comma, a semicolon or the end",
-        State::End => "the end",
-    }
+/// Whether a query goes on so behind a front.
+pub(crate) fn goes_on(alloc: Global, front: &str, next: &str) -> Result<bool, AllocError>
+    ensures { IfOk result (λ goes_on. goes_on ≡ true →
+        IsFront (front.now ++ codes " " ++ next.now)) }
+{
+    let mut text = String::from_str(alloc, front)?;
+    text.push_str(" ")?;
+    text.push_str(next)?;
+    begins(alloc, &text)
 }
 
-impl fmt::Display for Wanted<'_, '_> {
-    fn fmt<W: fmt::Write>(&self, f: &mut fmt::Formatter<W>) -> fmt::Result {
-        let reader = self.0;
-        match reader.state {
-            State::Name {
-                function: Some(_),
-                ..
-            } => f.write_str("(, ")?,
-            State::Called => f.write_str("FILTER, ")?,
-            _ => {}
-        }
-        let is_behind = matches!(
-            reader.state,
-            State::Name { .. } | State::Called | State::Behind
-        );
-        match reader.frames.last() {
-            Some(frame) if is_behind => {
-                if !frame.is_compared {
-                    f.write_str("a comparison, ")?;
-                }
-                f.write_str(behind_test(frame.context))
-            }
-            _ => f.write_str(at_state(reader.state)),
+/// What the name is that may stand next, or nothing.
+fn name_wanted(alloc: Global, front: &str) -> Result<&'static str, AllocError> {
+    for (next, words) in &NAMES {
+        if goes_on(alloc, front, next)? {
+            return Ok(*words);
         }
     }
+    Ok("")
+}
+
+/// What may stand behind a front, in words.
+pub(crate) fn wanted(alloc: Global, front: &str) -> Result<String, AllocError> {
+    let mut found = Vec::new(alloc);
+    let name = name_wanted(alloc, front)?;
+    if !name.is_empty() {
+        found.push(name)?;
+    }
+    for (next, words) in &OTHERS {
+        if goes_on(alloc, front, next)? {
+            found.push(*words)?;
+        }
+    }
+    if found.is_empty() || goes_on(alloc, front, ";")? {
+        found.push("the end")?;
+    }
+    said_of(alloc, &found)
 }

@@ -5,6 +5,7 @@ mod conditions;
 mod cursor;
 mod error;
 mod fault;
+mod front;
 mod laws;
 mod lists;
 mod operands;
@@ -14,6 +15,7 @@ mod printing;
 mod query;
 
 pub use error::ParseError;
+pub use front::count_begun;
 pub use laws::exactly_the_grammar;
-pub use parsing::parse;
+pub use parsing::{parse, read};
 pub use printing::print;

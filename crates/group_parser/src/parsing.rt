@@ -48,9 +48,9 @@ fn read_tokens(alloc: Global, end: usize, tokens: &[Token]) -> Result<RawQuery, 
     }
 }
 
-/// The query that a text says, before it is checked.
+/// The query that a text says, before it is checked. The errors are those of [`parse`] that come before the errors of the checks.
 #[tactic(auto, unfolding(crate::specs::Parsing::asked_in))]
-fn read_text(alloc: Global, text: &str) -> Result<RawQuery, ParseError>
+pub fn read(alloc: Global, text: &str) -> Result<RawQuery, ParseError>
     ensures read { IfOk result (λ raw. asked_in text.now ≡ Ok (asked_of raw)) }
     ensures refused { IfErr result (λ e. e ≢ no_memory → asked_in text.now ≡ Err e) }
 {
@@ -76,7 +76,7 @@ pub fn parse(alloc: Global, schema: &Schema, text: &str) -> Result<Query, ParseE
     ensures accepted { IfOk result (λ q. Accepts schema.now text.now q) }
     ensures refused { IfErr result (λ e. e ≢ no_memory → Refuses schema.now text.now e) }
 {
-    let raw = read_text(alloc, text)?;
+    let raw = read(alloc, text)?;
     match Query::check(alloc, schema, &raw) {
         Ok(query) => Ok(query),
         Err(error) => Err(ParseError::from(error)),

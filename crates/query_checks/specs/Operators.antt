@@ -1,5 +1,5 @@
 -- The comparisons and the IS tests, each with one line of a table, and what follows from the table: how they are told
--- apart, written, named and how tightly they bind. Their meaning is the model's.
+-- apart, written and named. Their meaning is the model's.
 use Rattle.std.specs.Prelude.{◌≡◌, refl, ℕ, List, [], ◌∷◌, ◌++◌, map, codes, slice_index_or, Bool, Option, find}
 use Rattle.std.specs.Char.{to_ascii_uppercase}
 use Rattle.std.specs.Str.{bytes_eq}
@@ -42,10 +42,6 @@ line_of model.Less = line 2 symbols.Less
 line_of model.At_most = line 3 symbols.AtMost
 line_of model.More = line 4 symbols.More
 line_of model.At_least = line 5 symbols.AtLeast
-
--- how tightly a comparison binds, which is the same for all (PostgreSQL 17, 4.1.6; the number is our own)
-abbrev pub comparison_level : model.Comparison → ℕ
-comparison_level comparison = 5
 
 -- numbers that tell comparisons apart, and the comparison of a number
 abbrev pub comparison_number : model.Comparison → ℕ

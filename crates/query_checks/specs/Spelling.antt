@@ -11,7 +11,8 @@ unfoldable pub use Rattle.agg_protocol.specs.Signatures.{function_named}
 use Rattle.query_checks.specs.Forms.{Unary_operator, Negation, Testing, Binary_operator, Conjunction, Disjunction, Comparing, Form, Column}
 use Rattle.query_checks.specs.Forms.{Call, Call_where, Literal, Unary, Binary, Written}
 use Rattle.query_checks.specs.declared.order.OrderTerm.{OrderTerm}
-use Rattle.query_checks.specs.Operators.{comparison_level, comparison_text, test_text}
+use Rattle.query_checks.specs.declared.levels.TheConstants as levels
+use Rattle.query_checks.specs.Operators.{comparison_text, test_text}
 pub use Rattle.query_checks.specs.Labels.{function_name, own_name, kept_alias, label_of}
 use Rattle.query_checks.specs.Order.{By_place, Term, Asked, order_of}
 use Rattle.query_checks.specs.Sameness.{first_of_each}
@@ -38,24 +39,21 @@ abbrev pub call_text : Function → Option (List ℕ) → List ℕ
 call_text function None = function_name function ++ codes "(*)"
 call_text function (Some name) = function_name function ++ codes "(" ++ name ++ codes ")"
 
--- how tightly a condition binds: OR the least (PostgreSQL 17, 4.1.6; that IS and comparisons differ is our own)
+-- how tightly a condition binds: OR the least, and what no operator makes the most (PostgreSQL 17, 4.1.6; that IS and
+-- comparisons differ is our own)
 abbrev pub binary_level : Binary_operator → ℕ
-binary_level Disjunction = 1
-binary_level Conjunction = 2
-binary_level (Comparing comparison) = comparison_level comparison
+binary_level Disjunction = levels.OR
+binary_level Conjunction = levels.AND
+binary_level (Comparing comparison) = levels.COMPARISON
 
 abbrev pub unary_level : Unary_operator → ℕ
-unary_level Negation = 3
-unary_level (Testing test negated) = 4
-
--- what no operator makes binds the most
-abbrev pub operand_level : ℕ
-operand_level = 6
+unary_level Negation = levels.NOT
+unary_level (Testing test negated) = levels.IS
 
 abbrev pub level : {C : Type 0} → Form C → ℕ
 level (Unary operator x) = unary_level operator
 level (Binary operator x y) = binary_level operator
-level other = operand_level
+level other = levels.OPERAND
 
 -- how tightly the operands of an operator must bind to stand without parentheses, the left one and the right one: AND and
 -- OR group to the left, and a comparison takes nothing on its left that binds as it does, and on its right no operator at all
@@ -64,7 +62,7 @@ left_level (Comparing comparison) = binary_level (Comparing comparison) + 1
 left_level operator = binary_level operator
 
 abbrev pub right_level : Binary_operator → ℕ
-right_level (Comparing comparison) = operand_level
+right_level (Comparing comparison) = levels.OPERAND
 right_level operator = binary_level operator + 1
 
 -- an operand: in parentheses where it binds less tightly than its place asks

@@ -14,6 +14,7 @@ ghost use Rattle.query_checks.specs.Spelling.{call_text, level, operand, spelled
 ghost use Rattle.query_checks.specs.Spelling.{keys_text, written_text, direction_text, term_text, order_text, spelling};
 
 use crate::condition::{AggCall, Cond, Item, RawQuery};
+use crate::levels::{AND, COMPARISON, IS, NOT, OPERAND, OR};
 use crate::order::OrderTerm;
 use agg_protocol::AggKind;
 use itoa::Buffer;
@@ -24,12 +25,12 @@ fn level(condition: &Cond<String>) -> u64
     ensures { result ≡ level (names_of (form_of condition.now)) }
 {
     match condition {
-        Cond::Or(..) => 1,
-        Cond::And(..) => 2,
-        Cond::Not(_) => 3,
-        Cond::Is { .. } => 4,
-        Cond::Compare(comparison, ..) => comparison.level(),
-        _ => 6,
+        Cond::Or(..) => OR,
+        Cond::And(..) => AND,
+        Cond::Not(_) => NOT,
+        Cond::Is { .. } => IS,
+        Cond::Compare(..) => COMPARISON,
+        _ => OPERAND,
     }
 }
 
@@ -147,25 +148,25 @@ fn push_condition(text: &mut String, condition: &Cond<String>) -> Result<(), All
         Cond::Boolean(true) => text.push_str("TRUE"),
         Cond::Boolean(false) => text.push_str("FALSE"),
         Cond::Null => text.push_str("NULL"),
-        Cond::Not(c) => push_behind(text, "NOT ", 3, c),
+        Cond::Not(c) => push_behind(text, "NOT ", NOT, c),
         Cond::Or(c, d) => {
-            push_operand(text, 1, c)?;
-            push_behind(text, " OR ", 2, d)
+            push_operand(text, OR, c)?;
+            push_behind(text, " OR ", OR + 1, d)
         }
         Cond::And(c, d) => {
-            push_operand(text, 2, c)?;
-            push_behind(text, " AND ", 3, d)
+            push_operand(text, AND, c)?;
+            push_behind(text, " AND ", AND + 1, d)
         }
         Cond::Compare(comparison, c, d) => {
-            push_operand(text, comparison.level() + 1, c)?;
-            push_behind(text, comparison.text(), 6, d)
+            push_operand(text, COMPARISON + 1, c)?;
+            push_behind(text, comparison.text(), OPERAND, d)
         }
         Cond::Is {
             test,
             negated,
             operand,
         } => {
-            push_operand(text, 4, operand)?;
+            push_operand(text, IS, operand)?;
             text.push_str(if *negated { " IS NOT " } else { " IS " })?;
             text.push_str(test.text())
         }
