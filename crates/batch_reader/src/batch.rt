@@ -23,7 +23,7 @@ pub struct Batch {
     pub origin: u16,
     /// The number, 1 to 4,294,967,295.
     pub number: u32,
-    /// The rows, packed by the schema that read them; at most 1,048,576.
+    /// The rows, packed by the schema that read them; at most [`MAX_ROWS`](grouping_model::limits::MAX_ROWS).
     pub rows: PackedRows,
 }
 

@@ -17,8 +17,8 @@ pub enum BatchError {
     /// The origin isn't 0 to 1,023, or the number isn't 1 to 4,294,967,295, in 1 to 10 digits each.
     #[error("no head of a batch, or an origin or a number out of range")]
     BadBatchHead,
-    /// More than 1,048,576 rows are told.
-    #[error("more than 1,048,576 rows are told")]
+    /// More rows are told than a batch may have.
+    #[error("more rows are told than a batch may have")]
     TooManyRows,
     /// There are more or fewer rows than told.
     #[error("more or fewer rows than told")]

@@ -15,7 +15,7 @@ use Rattle.grouping_model.specs.Rising.Facts.{distinct-rises}
 abbrev pub World : Type 0
 World = ℕ → ℕ → Option (List Row)
 
--- a world within the limits: origins below 1,024, numbers from 1 to 2^32 - 1, batches of at most 1,048,576 rows, rows of these columns
+-- a world within the limits of origins, numbers and rows of a batch, of rows of these columns
 abbrev pub IsWorld : List Kind → World → Type 0
 IsWorld kinds world =
     (origin number : ℕ) (rows : List Row)

@@ -17,7 +17,7 @@ pub const MAX_ROWS_OF_FIRST: u32 = 65_536;
 pub enum Version {
     /// `AGGSUM01`: numbers go to 2,147,483,647, and a batch has at most 65,536 rows.
     First,
-    /// `AGGSUM02`: numbers go to 4,294,967,295, and a batch has at most 1,048,576 rows.
+    /// `AGGSUM02`: numbers and rows go to the limits of a batch.
     Second,
 }
 
