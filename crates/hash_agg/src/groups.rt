@@ -179,8 +179,7 @@ impl<H: KeyHash + Drop> Groups<H> {
         ensures written { OnOk result
             (WritesAt self.old slot (AreAdvanced (meaning query.now).aggregates most (state_in self.old.table self.old.tree slot)
             (row_of row.now)) self.new) }
-        ensures refused { OnErr result (¬ HaveRoomForRow (functions (meaning query.now)) most (state_in self.old.table self.old.tree slot))
-            }
+        ensures refused { OnErr result (¬ HaveRoomForRow (functions (meaning query.now)) most (state_in self.old.table self.old.tree slot)) }
     {
         let states = GroupTable::state_mut(&mut self.tree, &self.table, slot);
         advance_slice(query, states, row, most)

@@ -340,7 +340,7 @@ printed limit (form.Call_where f column x) legal shallow =
 printed limit (form.Unary form.Negation x) legal shallow =
     let p = placed limit levels.NOT x (printed limit x legal shallow) in
     of_not limit (form.Not x) (word (codes "not") ∷ p.tokens) refl (opens_then (codes "NOT ") (operand levels.NOT x (spelled x))
-        (word (codes "not")
+    (word (codes "not")
     ∷ []) p.tokens (opens_word (codes "NOT") refl) p.spells)
     (λ room le. grammar.by_not (p.not (omega arith) room (omega (arith, le))))
 printed limit (form.Binary form.Conjunction x y) legal shallow =
@@ -349,7 +349,7 @@ printed limit (form.Binary form.Conjunction x y) legal shallow =
     let q = placed limit (levels.AND + 1) y (printed limit y legal.1 parts.1) in
     of_and limit (form.And x y) (p.tokens ++ word (codes "and") ∷ q.tokens) refl
     (spells_between (operand levels.AND x (spelled x)) (codes " AND ") (operand (levels.AND + 1) y (spelled y)) p.tokens (word (codes "and")
-        ∷ []) q.tokens p.spells
+    ∷ []) q.tokens p.spells
     (λ rest. refl) (opens_between (codes "AND") refl) q.spells)
     (λ room le. grammar.by_and p.tokens q.tokens (p.and (omega arith) room (left_depth (depth x) (depth y) room le))
     (q.not (omega arith) room (right_depth (depth x) (depth y) room le)))
@@ -359,7 +359,7 @@ printed limit (form.Binary form.Disjunction x y) legal shallow =
     let q = placed limit (levels.OR + 1) y (printed limit y legal.1 parts.1) in
     of_or limit (form.Or x y) (p.tokens ++ word (codes "or") ∷ q.tokens) refl
     (spells_between (operand levels.OR x (spelled x)) (codes " OR ") (operand (levels.OR + 1) y (spelled y)) p.tokens (word (codes "or")
-        ∷ []) q.tokens p.spells
+    ∷ []) q.tokens p.spells
     (λ rest. refl) (opens_between (codes "OR") refl) q.spells)
     (λ room le. grammar.by_or p.tokens q.tokens (p.condition room (left_depth (depth x) (depth y) room le))
     (q.and (omega arith) room (right_depth (depth x) (depth y) room le)))
@@ -370,7 +370,7 @@ printed limit (form.Binary (form.Comparing c) x y) legal shallow =
     let k = compares c in
     of_compared limit (form.Compare c x y) (p.tokens ++ Sign k.symbol ∷ q.tokens) refl
     (spells_between (operand (levels.COMPARISON + 1) x (spelled x)) (comparison_text c) (operand levels.OPERAND y (spelled y)) p.tokens
-        (Sign k.symbol ∷ []) q.tokens p.spells
+    (Sign k.symbol ∷ []) q.tokens p.spells
     k.quiet k.opens q.spells)
     (λ room le. grammar.by_comparison p.tokens q.tokens k.symbol (p.operand_is (omega arith) room (left_depth (depth x) (depth y) room le))
     k.is (q.operand_is (omega arith) room (right_depth (depth x) (depth y) room le)))

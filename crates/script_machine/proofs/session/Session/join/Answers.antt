@@ -65,8 +65,7 @@ returns-clause-tells g c =
 pub returns-clause-agreed : goal.returns-clause-agreed
 returns-clause-agreed g c =
     on_ok_weaker c.join.result
-    (λ agreed owned. subst (λ (s : Store). TellsDisagreement s (ask.Merge c.args.into.now c.args.from.now) owned says.Merged) c.self.view_is
-        (
+    (λ agreed owned. subst (λ (s : Store). TellsDisagreement s (ask.Merge c.args.into.now c.args.from.now) owned says.Merged) c.self.view_is (
       c.in-Some.own.now,
       sym c.get.ensures.value ∙ ap option_copied c.in-Some.is,
       (c.in-Some-get.theirs.now, sym c.get-2.ensures.value ∙ ap option_copied c.in-Some-get.is, agreed),
