@@ -11,6 +11,6 @@ returns-in-Ok-insert-clause-same c place =
     ∙ c.requires in
     take_same (memory_of c.self.inside) c.alloc_zeroed.new.self.chunks c.insert.new.self.entries c.in-Ok.name c.args.page c.self.invariant
     none
-    c.in-Ok-insert.ensures.updates.1 (λ r differ. c.in-Ok-insert.ensures.updates.2 r (not_at c.args.page r differ)) c.in-Ok.ensures.holds
-    c.in-Ok.ensures.keeps place
+    c.in-Ok-insert.ensures.updates.1 (λ r differ. c.in-Ok-insert.ensures.updates.2 r (not_at c.args.page r differ))
+    c.in-Ok.ensures.taken.holds c.in-Ok.ensures.taken.keeps place
     ∙ ap (λ (m : MemoryState). byte_at m place) c.self.view_is
