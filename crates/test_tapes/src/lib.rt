@@ -1,6 +1,5 @@
 //! Tests of tapes over disks, and of the partitions that passes spill to tapes, by public calls alone; and disks and streams for tests,
-//! which
-//! tests of other crates take too.
+//! which tests of other crates take too.
 #![tactic(auto)]
 
 #[cfg(test)]
