@@ -1,14 +1,14 @@
 -- What is answered of inputs, and what is counted, once all passes over them were made.
-use Rattle.std.specs.Prelude.{◌≡◌, ◌≢◌, refl, ℕ, ◌+◌, ◌≤◌, min, max, ◌∷◌, Bool, List, [], map, length, Some, Result, Ok, Err, IsErrAnd, IsTrue}
+use Rattle.std.specs.Prelude.{◌≡◌, ◌≢◌, refl, ℕ, ◌+◌, ◌≤◌, min, max, List, [], ◌∷◌, map, length, Some, Result, IsErrAnd, IsTrue}
 use Rattle.std.specs.List.{AllByRecursion}
 use Rattle.std.proofs.Common.{sym, ◌∙◌, ap, subst, arith}
 use Rattle.std.proofs.lemmas.List.Sums.{sum_by-cons}
 use Rattle.std.proofs.lemmas.Result.{err_from_is_err_and}
 use Rattle.agg_protocol.specs.States.{most_rows}
 use Rattle.aggregation_cost.specs.Lemmas.BoundLaws.{spilled_few}
-use Rattle.hash_agg.proofs.Words.{cost, Setting, Cost, Query, meaning, Entry, Rises, AreGroups, AreInputs, IsSafeRun, query_of, states_width}
+use Rattle.hash_agg.proofs.Words.{cost, Setting, Cost, Query, meaning, Entry, Rises, AreGroups, AreInputs, query_of, states_width}
 use Rattle.hash_agg.proofs.Words.{setting_in, concatenated, Brought, all_rows, all_groups, IsInput, IsAggregate, IsRunOver, Given, AllGive}
-use Rattle.hash_agg.proofs.Words.{AreSafe, CountUpTo, IsPlan, IsWork, Stands, setting_for, records_of, all_pieces, AddsUp, Pass, Plan, Work}
+use Rattle.hash_agg.proofs.Words.{AreSafe, CountUpTo, IsPlan, Stands, setting_for, records_of, all_pieces, AddsUp, Pass, Plan, Work}
 use Rattle.hash_agg.proofs.Words.{Counted, rows_in, DiskFrame, Ghosts, spill_faults, TapeDamaged}
 use Rattle.query_checks.specs.Checks.{Checked}
 use Rattle.spill_partitions.specs.declared.error.SpillError.{SpillError}

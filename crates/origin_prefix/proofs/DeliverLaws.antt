@@ -17,8 +17,8 @@ use Rattle.packed_rows.specs.Columns.{kinds}
 use Rattle.batch_reader.specs.Rows.{ArePackedRows}
 use Rattle.query_checks.specs.Checks.{Checked}
 use Rattle.having_filter.specs.Meaning.{meaning}
-use Rattle.origin_prefix.specs.Parts.{Batches, Part, rows_at, tells, IsEarly, IsBehind, IsOpen, IsPartOf, Delivers, BatchTells, Drains, Refuses}
-use Rattle.origin_prefix.specs.Parts.{behind}
+use Rattle.origin_prefix.specs.Parts.{Batches, Part, rows_at, tells, IsEarly, IsBehind, IsOpen, IsPartOf, Delivers}
+use Rattle.origin_prefix.specs.Parts.{BatchTells, Drains, Refuses, behind}
 use Rattle.batch_reader.specs.declared.batch.Batch.{Batch}
 use Rattle.origin_prefix.specs.declared.error.RefusedBatch.{RefusedBatch}
 use Rattle.origin_prefix.specs.declared.error.JoinError.TheVariants.{OriginDisagrees}

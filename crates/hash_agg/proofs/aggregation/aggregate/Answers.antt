@@ -2,8 +2,8 @@ use Rattle.std.specs.Prelude.{◌≡◌, ℕ, List, map, IsTrue}
 use Rattle.std.specs.List.{AllByRecursion}
 use Rattle.std.proofs.Common.{sym, ◌∙◌, ap, subst, arith}
 use Rattle.tape_disks.specs.DiskLaws.{leaves_twice}
-use Rattle.hash_agg.proofs.Words.{NoMemory, spill_faults, Query, meaning, IsSafeRun, query_of, Brought, brought, all_rows, IsInput, CountUpTo}
-use Rattle.hash_agg.proofs.Words.{all_pieces, Plan}
+use Rattle.hash_agg.proofs.Words.{NoMemory, spill_faults, Query, meaning, IsSafeRun, query_of, Brought, brought, all_rows, IsInput}
+use Rattle.hash_agg.proofs.Words.{CountUpTo, all_pieces, Plan}
 use Rattle.query_checks.specs.Checks.{Checked}
 use Rattle.hash_agg.specs.Counting.{Took, no_work}
 use Rattle.hash_agg.proofs.AnswerLaws.{plan_counts, refused_ran, aggregation_is, aggregation_ran}
