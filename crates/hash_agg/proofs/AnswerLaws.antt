@@ -88,106 +88,106 @@ passes_few work c most adds few = let p = adds.passes in omega (arith, p, few)
 module _ {H D : Type 0} (hash_of : H → List ℕ → ℕ) (g : Ghosts D) (query : Checked) (means : MeansState H) (inputs : List Brought)
     (pass : Pass H) (before : D) (plan : IsPlan pass.plan) (queried : pass.plan.query.now ≡ query) (most : pass.plan.most ≡ all_rows inputs)
     (limited : pass.plan.limit ≡ means.limit) (hashed : pass.groups.hash ≡ means.hash) (given : AreInputs (meaning query) most_rows inputs)
-    where
-  abbrev setting : Setting
-  setting = setting_in hash_of pass
+  where
+    abbrev setting : Setting
+    setting = setting_in hash_of pass
 
-  are : AllByRecursion (IsInput (query_of pass)) inputs
-  are = subst (λ (query : Checked). AllByRecursion (IsInput (meaning query)) inputs) (sym queried) given.are
+    are : AllByRecursion (IsInput (query_of pass)) inputs
+    are = subst (λ (query : Checked). AllByRecursion (IsInput (meaning query)) inputs) (sym queried) given.are
 
-  set_is : setting ≡ setting_for (query_of pass) means.limit (hash_of means.hash)
-  set_is = set_by hash_of pass means.limit means.hash plan limited hashed
+    set_is : setting ≡ setting_for (query_of pass) means.limit (hash_of means.hash)
+    set_is = set_by hash_of pass means.limit means.hash plan limited hashed
 
-  module _ (begun : Work) (run : List Entry) (after : D) (work : Work) (made : MadeAll hash_of g inputs pass before begun run after work)
+    module _ (begun : Work) (run : List Entry) (after : D) (work : Work) (made : MadeAll hash_of g inputs pass before begun run after work)
       where
-    counts : (givens : List Given) → AllGive (query_of pass) inputs givens
-        → CountUpTo (query_of pass) pass.plan.most (all_pieces inputs givens)
-    counts givens give = plan_counts pass inputs givens most are give
+        counts : (givens : List Given) → AllGive (query_of pass) inputs givens
+            → CountUpTo (query_of pass) pass.plan.most (all_pieces inputs givens)
+        counts givens give = plan_counts pass inputs givens most are give
 
-    aggregate_of : IsTrue (g.honest before) → IsAggregate (query_of pass) inputs run
-    aggregate_of honest = is_aggregate (query_of pass) setting.hash inputs run are made.safe.rises
-        (λ givens give. (made.whole honest givens give (counts givens give)).stands)
+        aggregate_of : IsTrue (g.honest before) → IsAggregate (query_of pass) inputs run
+        aggregate_of honest = is_aggregate (query_of pass) setting.hash inputs run are made.safe.rises
+            (λ givens give. (made.whole honest givens give (counts givens give)).stands)
 
-    pub answer_is : Aggregated (g.honest before) (meaning query) inputs run
-    answer_is = record {
-      aggregate = λ honest. subst (λ (query : Checked). IsAggregate (meaning query) inputs run) queried (aggregate_of honest);
-      run_over =
-          subst (λ (query : Checked). IsRunOver (meaning query) inputs run) queried
-          (record {
-            is_run = safe_run (query_of pass) (all_rows inputs) run (subst (λ most. AreSafe (query_of pass) most run) most made.safe.safe)
-                made.safe.rises;
-            few = λ lists bring. few_keys (query_of pass) inputs lists (length run) are made.few bring;
-          });
-    }
-
-    pub answer_few : IsTrue (g.honest before) → HasFewPasses (meaning query) (setting_by hash_of (meaning query) means) inputs (length run)
-    answer_few honest =
-        subst (λ (query : Checked). HasFewPasses (meaning query) (setting_by hash_of (meaning query) means) inputs (length run)) queried
-        (λ givens give.
-        subst (λ (set : Setting). (cost set (records_of (query_of pass) set.width (all_pieces inputs givens))).passes
-        ≤ max 1 (length run)) set_is
-        (few_passes (query_of pass) setting inputs givens run (aggregate_of honest) give
-        (all_fit (query_of pass) setting inputs givens plan.formed plan.limit plan.narrow give)))
-
-    pub answer_counted : IsTrue (g.honest before) → IsCounted inputs (meaning query) (setting_by hash_of (meaning query) means) begun
-        (g.writes before) work (g.writes after)
-    answer_counted honest =
-        subst (λ (query : Checked). IsCounted inputs (meaning query) (setting_by hash_of (meaning query) means) begun (g.writes before) work
-        (g.writes after)) queried
-        (record {
-          work = λ givens give.
-              subst (λ (set : Setting). AddsUp begun (cost set (records_of (query_of pass) set.width (all_pieces inputs givens))) work)
-              set_is (made.whole honest givens give (counts givens give)).adds;
-          pages = λ givens give.
-              subst (λ (set : Setting). g.writes after
-              ≡ g.writes before + (cost set (records_of (query_of pass) set.width (all_pieces inputs givens))).pages) set_is
-              (made.whole honest givens give (counts givens give)).paged;
-        })
-
-    pub answer_held : begun.most_held ≤ means.limit → work.most_held ≤ means.limit
-    answer_held low = subst (λ limit. work.most_held ≤ limit) limited (made.within.held (subst (λ limit. begun.most_held ≤ limit)
-        (sym limited) low))
-
-  -- the same where nothing was counted before
-  module _ (run : List Entry) (after : D) (work : Work) (made : MadeAll hash_of g inputs pass before no_work run after work) where
-    answer_took : IsTrue (g.honest before) → Took inputs (meaning query) (setting_by hash_of (meaning query) means) no_work
-        (g.writes before) work (g.writes after)
-    answer_took honest =
-        let q : Query = meaning query in
-        let set : Setting = setting_by hash_of q means in
-        let counted = answer_counted no_work run after work made honest in
-        record {
-          counted = counted;
-          work = λ groups givens give.
-              let passes = answer_few no_work run after work made honest givens give in
-              let many = run_few q (states_width q) inputs givens run (answer_is no_work run after work made).run_over give in
-              let records = records_few q (states_width q) inputs givens give in
-              let spilled = spilled_few set (records_of q (states_width q) (all_pieces inputs givens)) in
-              let low = given.few in
-              let counts = cost_counts (cost_given q set inputs givens) (length (records_of q (states_width q) (all_pieces inputs givens)))
-              (omega (arith, passes, many)) spilled (omega (arith, records, low, groups)) in
-              is_work no_work work (cost_given q set inputs givens) refl (counted.work givens give) counts.0 counts.1;
+        pub answer_is : Aggregated (g.honest before) (meaning query) inputs run
+        answer_is = record {
+          aggregate = λ honest. subst (λ (query : Checked). IsAggregate (meaning query) inputs run) queried (aggregate_of honest);
+          run_over =
+              subst (λ (query : Checked). IsRunOver (meaning query) inputs run) queried
+              (record {
+                is_run = safe_run (query_of pass) (all_rows inputs) run (subst (λ most. AreSafe (query_of pass) most run) most made.safe.safe)
+                    made.safe.rises;
+                few = λ lists bring. few_keys (query_of pass) inputs lists (length run) are made.few bring;
+              });
         }
 
-    pub aggregation_is : Aggregation (g.honest before) (meaning query) inputs (run, work)
-    aggregation_is = record {
-      aggregated = answer_is no_work run after work made;
-      passes = made.within.counted;
-      few = λ honest.
-          let one = all_given (meaning query) inputs given.are in
-          passes_few work (cost_given (meaning query) (setting_by hash_of (meaning query) means) inputs one.0) (max 1 (length run))
-          ((answer_counted no_work run after work made honest).work one.0 one.1)
-          (answer_few no_work run after work made honest one.0 one.1);
-    }
+        pub answer_few : IsTrue (g.honest before) → HasFewPasses (meaning query) (setting_by hash_of (meaning query) means) inputs (length run)
+        answer_few honest =
+            subst (λ (query : Checked). HasFewPasses (meaning query) (setting_by hash_of (meaning query) means) inputs (length run)) queried
+            (λ givens give.
+            subst (λ (set : Setting). (cost set (records_of (query_of pass) set.width (all_pieces inputs givens))).passes
+            ≤ max 1 (length run)) set_is
+            (few_passes (query_of pass) setting inputs givens run (aggregate_of honest) give
+            (all_fit (query_of pass) setting inputs givens plan.formed plan.limit plan.narrow give)))
 
-    pub aggregation_ran : DiskFrame g 0 before after → Ran g hash_of query means (Took inputs) Done before no_work after work
-    aggregation_ran leaves = record {
-      disk = leaves;
-      undamaged = λ honest same. absurd cc;
-      counted = answer_took;
-      uncounted = tt;
-      held = answer_held no_work run after work made;
-    }
+        pub answer_counted : IsTrue (g.honest before) → IsCounted inputs (meaning query) (setting_by hash_of (meaning query) means) begun
+            (g.writes before) work (g.writes after)
+        answer_counted honest =
+            subst (λ (query : Checked). IsCounted inputs (meaning query) (setting_by hash_of (meaning query) means) begun (g.writes before) work
+            (g.writes after)) queried
+            (record {
+              work = λ givens give.
+                  subst (λ (set : Setting). AddsUp begun (cost set (records_of (query_of pass) set.width (all_pieces inputs givens))) work)
+                  set_is (made.whole honest givens give (counts givens give)).adds;
+              pages = λ givens give.
+                  subst (λ (set : Setting). g.writes after
+                  ≡ g.writes before + (cost set (records_of (query_of pass) set.width (all_pieces inputs givens))).pages) set_is
+                  (made.whole honest givens give (counts givens give)).paged;
+            })
+
+        pub answer_held : begun.most_held ≤ means.limit → work.most_held ≤ means.limit
+        answer_held low = subst (λ limit. work.most_held ≤ limit) limited (made.within.held (subst (λ limit. begun.most_held ≤ limit)
+            (sym limited) low))
+
+    -- the same where nothing was counted before
+    module _ (run : List Entry) (after : D) (work : Work) (made : MadeAll hash_of g inputs pass before no_work run after work) where
+      answer_took : IsTrue (g.honest before) → Took inputs (meaning query) (setting_by hash_of (meaning query) means) no_work
+          (g.writes before) work (g.writes after)
+      answer_took honest =
+          let q : Query = meaning query in
+          let set : Setting = setting_by hash_of q means in
+          let counted = answer_counted no_work run after work made honest in
+          record {
+            counted = counted;
+            work = λ groups givens give.
+                let passes = answer_few no_work run after work made honest givens give in
+                let many = run_few q (states_width q) inputs givens run (answer_is no_work run after work made).run_over give in
+                let records = records_few q (states_width q) inputs givens give in
+                let spilled = spilled_few set (records_of q (states_width q) (all_pieces inputs givens)) in
+                let low = given.few in
+                let counts = cost_counts (cost_given q set inputs givens) (length (records_of q (states_width q) (all_pieces inputs givens)))
+                (omega (arith, passes, many)) spilled (omega (arith, records, low, groups)) in
+                is_work no_work work (cost_given q set inputs givens) refl (counted.work givens give) counts.0 counts.1;
+          }
+
+      pub aggregation_is : Aggregation (g.honest before) (meaning query) inputs (run, work)
+      aggregation_is = record {
+        aggregated = answer_is no_work run after work made;
+        passes = made.within.counted;
+        few = λ honest.
+            let one = all_given (meaning query) inputs given.are in
+            passes_few work (cost_given (meaning query) (setting_by hash_of (meaning query) means) inputs one.0) (max 1 (length run))
+            ((answer_counted no_work run after work made honest).work one.0 one.1)
+            (answer_few no_work run after work made honest one.0 one.1);
+      }
+
+      pub aggregation_ran : DiskFrame g 0 before after → Ran g hash_of query means (Took inputs) Done before no_work after work
+      aggregation_ran leaves = record {
+        disk = leaves;
+        undamaged = λ honest same. absurd cc;
+        counted = answer_took;
+        uncounted = tt;
+        held = answer_held no_work run after work made;
+      }
 
 -- ---- a run that more is folded into
 

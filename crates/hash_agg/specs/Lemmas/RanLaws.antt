@@ -73,7 +73,12 @@ module _ {D H : Type 0} (g : Ghosts D) (hash_of : H → List ℕ → ℕ) (query
   ran_weaker Counts Other ended before begun after done weaker ran = record {
     disk = ran.disk;
     undamaged = ran.undamaged;
-    counted = where_done ended _ _ (λ counted honest. weaker (counted honest)) ran.counted;
+    counted = where_done ended
+        (IsTrue (g.honest before)
+        → Counts (meaning query) (setting_by hash_of (meaning query) means) begun (g.writes before) done (g.writes after))
+        (IsTrue (g.honest before)
+        → Other (meaning query) (setting_by hash_of (meaning query) means) begun (g.writes before) done (g.writes after))
+        (λ counted honest. weaker (counted honest)) ran.counted;
     uncounted = ran.uncounted;
     held = ran.held;
   }

@@ -124,19 +124,19 @@ returns-clause-delivery g c =
     c.drain.ensures.drained c.drain.ensures.same in
     elim c.match-drain.branch [
       | in-Ok w ↦ rw w.result-is (record {
-          delivers = (omega (arith, above, next, prefix), ap (λ (p : Part). p.prefix) w.self.view_is, w.in-Ok.ensures.drained);
-          refuses = tt;
-          part = is_part;
-        })
+        delivers = (omega (arith, above, next, prefix), ap (λ (p : Part). p.prefix) w.self.view_is, w.in-Ok.ensures.drained);
+        refuses = tt;
+        part = is_part;
+      })
       | in-Err w ↦ rw w.result-is (record {
-          delivers = tt;
-          refuses = record {
-            back = refl;
-            same = w.in-Err.ensures.same;
-            tells = rw w.from-why.ensures (unknown part c.args.batch.number over none);
-          };
-          part = is_part;
-        })
+        delivers = tt;
+        refuses = record {
+          back = refl;
+          same = w.in-Err.ensures.same;
+          tells = rw w.from-why.ensures (unknown part c.args.batch.number over none);
+        };
+        part = is_part;
+      })
     ]
 
 pub returns-clause-ran : goal.returns-clause-ran
