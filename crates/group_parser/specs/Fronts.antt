@@ -1,7 +1,9 @@
 -- How far tokens go as a query (own).
-use Rattle.std.specs.Prelude.{◌≡◌, ℕ, List, [], ◌∷◌, ◌++◌, length}
+use Rattle.std.specs.Prelude.{◌≡◌, ℕ, ◌-◌, List, [], ◌∷◌, ◌++◌, length, Ok, Err}
 use Rattle.query_tokens.specs.Words.{Lexeme}
+use Rattle.query_checks.specs.Order.{Asked}
 use Rattle.query_grammar.specs.Queries.{Begins}
+use Rattle.query_grammar.specs.Reading.{Read, Unexpected, Too_deep}
 
 -- no query goes on behind the front with the first of these tokens, if there is one
 abbrev pub NoneFollows : ℕ → List Lexeme → List Lexeme → Type 0
@@ -17,3 +19,9 @@ pub record IsLongestFront (limit : ℕ) (ts : List Lexeme) (count : ℕ) : Type 
   pub many : length front ≡ count
   pub begins : Begins limit front
   pub ends : NoneFollows limit front rest
+
+-- how many of the tokens are read before reading stops
+abbrev pub read_of : List Lexeme → Read Asked → ℕ
+read_of ts (Ok x) = length ts
+read_of ts (Err (Unexpected left)) = length ts - left
+read_of ts (Err (Too_deep left)) = length ts - left

@@ -7,7 +7,7 @@ mod checks;
 mod condition;
 mod distinct;
 mod error;
-pub mod levels;
+mod levels;
 mod limits;
 mod mapping;
 mod operators;

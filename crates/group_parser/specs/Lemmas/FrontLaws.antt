@@ -5,13 +5,13 @@ use Rattle.query_tokens.specs.Words.{Lexeme}
 use Rattle.query_checks.specs.Order.{Asked}
 use Rattle.query_grammar.specs.Grammar.{opening}
 use Rattle.query_grammar.specs.Queries.{IsQuery, Begins}
-use Rattle.query_grammar.specs.Reading.{Unexpected, Too_deep}
+use Rattle.query_grammar.specs.Reading.{Read, Unexpected, Too_deep}
 use Rattle.query_grammar.specs.Whole.{query_at}
 use Rattle.query_grammar.specs.Laws.{NoneGoesOn, IsUnexpected, IsTooDeep}
 use Rattle.query_grammar.specs.Lemmas.Faults.{is_query, is_unexpected, is_too_deep}
-use Rattle.group_parser.specs.Fronts.{NoneFollows, IsLongestFront}
+use Rattle.group_parser.specs.Fronts.{NoneFollows, IsLongestFront, read_of}
 
-pub all_begin : (limit : ℕ) (ts : List Lexeme) (q : Asked) (rest : List Lexeme) → query_at limit ts ≡ Ok (q, rest)
+all_begin : (limit : ℕ) (ts : List Lexeme) (q : Asked) (rest : List Lexeme) → query_at limit ts ≡ Ok (q, rest)
     → IsLongestFront limit ts (length ts)
 all_begin limit ts q rest e =
     record {
@@ -37,7 +37,7 @@ none_follows : (limit : ℕ) (front rest : List Lexeme) → NoneGoesOn limit fro
 none_follows limit front [] none = tt
 none_follows limit front (t ∷ rest) none = none
 
-pub begin_up_to_unexpected : (limit : ℕ) (ts : List Lexeme) (left : ℕ) → query_at limit ts ≡ Err (Unexpected left)
+begin_up_to_unexpected : (limit : ℕ) (ts : List Lexeme) (left : ℕ) → query_at limit ts ≡ Err (Unexpected left)
     → IsLongestFront limit ts (length ts - left)
 begin_up_to_unexpected limit ts left e =
     let a = is_unexpected limit ts left e in
@@ -50,7 +50,7 @@ begin_up_to_unexpected limit ts left e =
       ends = none_follows limit a.front a.rest a.ends;
     }
 
-pub begin_up_to_too_deep : (limit : ℕ) (ts : List Lexeme) (left : ℕ) → query_at limit ts ≡ Err (Too_deep left)
+begin_up_to_too_deep : (limit : ℕ) (ts : List Lexeme) (left : ℕ) → query_at limit ts ≡ Err (Too_deep left)
     → IsLongestFront limit ts (length ts - left)
 begin_up_to_too_deep limit ts left e =
     let a = is_too_deep limit ts left e in
@@ -62,3 +62,11 @@ begin_up_to_too_deep limit ts left e =
       begins = a.begins;
       ends = none_follows limit a.front (opening ∷ a.rest) a.ends;
     }
+
+longest_of : (limit : ℕ) (ts : List Lexeme) (r : Read Asked) → query_at limit ts ≡ r → IsLongestFront limit ts (read_of ts r)
+longest_of limit ts (Ok x) e = all_begin limit ts x.0 x.1 e
+longest_of limit ts (Err (Unexpected left)) e = begin_up_to_unexpected limit ts left e
+longest_of limit ts (Err (Too_deep left)) e = begin_up_to_too_deep limit ts left e
+
+pub longest : (limit : ℕ) (ts : List Lexeme) (count : ℕ) → count ≡ read_of ts (query_at limit ts) → IsLongestFront limit ts count
+longest limit ts count e = subst (λ n. IsLongestFront limit ts n) (sym e) (longest_of limit ts (query_at limit ts) refl)

@@ -13,7 +13,6 @@ use Rattle.grouping_model.specs.Datum as datum
 use Rattle.grouping_model.specs.Datum.{Datum}
 use Rattle.grouping_model.specs.Aggregates as function
 use Rattle.grouping_model.specs.Condition as model
-use Rattle.query_checks.specs.declared.levels.TheConstants as levels
 use Rattle.query_checks.specs.Forms as form
 use Rattle.query_grammar.specs.Grammar as grammar
 use Rattle.query_grammar.specs.Lemmas.Texts.{reads_space, reads_spelled, never_first, Quiet, Spells, Opens, spells_lexeme, spells_two}
@@ -28,21 +27,21 @@ pub record Printed (limit : ℕ) (x : Named) : Type 0 where
   pub tokens : List Lexeme
   pub spells : Spells (spelled x) tokens
   pub condition : (room : ℕ) → depth x ≤ suc room → IsCondition limit room tokens x
-  pub and : levels.AND ≤ level x → (room : ℕ) → depth x ≤ suc room → IsAnd limit room tokens x
-  pub not : levels.NOT ≤ level x → (room : ℕ) → depth x ≤ suc room → IsNot limit room tokens x
-  pub test : levels.IS ≤ level x → (room : ℕ) → depth x ≤ suc room → IsTested limit room tokens x
-  pub compared : levels.COMPARISON ≤ level x → (room : ℕ) → depth x ≤ suc room → IsCompared limit room tokens x
-  pub operand : levels.OPERAND ≤ level x → (room : ℕ) → depth x ≤ suc room → IsOperand limit room tokens x
+  pub and : 2 ≤ level x → (room : ℕ) → depth x ≤ suc room → IsAnd limit room tokens x
+  pub not : 3 ≤ level x → (room : ℕ) → depth x ≤ suc room → IsNot limit room tokens x
+  pub test : 4 ≤ level x → (room : ℕ) → depth x ≤ suc room → IsTested limit room tokens x
+  pub compared : 5 ≤ level x → (room : ℕ) → depth x ≤ suc room → IsCompared limit room tokens x
+  pub operand : 6 ≤ level x → (room : ℕ) → depth x ≤ suc room → IsOperand limit room tokens x
 
 -- an operand in its place, which asks for a level
 record Placed (limit asked : ℕ) (x : Named) : Type 0 where
   tokens : List Lexeme
   spells : Spells (operand asked x (spelled x)) tokens
   condition : (room : ℕ) → depth x ≤ room → IsCondition limit room tokens x
-  and : levels.AND ≤ asked → (room : ℕ) → depth x ≤ room → IsAnd limit room tokens x
-  not : levels.NOT ≤ asked → (room : ℕ) → depth x ≤ room → IsNot limit room tokens x
-  test : levels.IS ≤ asked → (room : ℕ) → depth x ≤ room → IsTested limit room tokens x
-  operand_is : levels.OPERAND ≤ asked → (room : ℕ) → depth x ≤ room → IsOperand limit room tokens x
+  and : 2 ≤ asked → (room : ℕ) → depth x ≤ room → IsAnd limit room tokens x
+  not : 3 ≤ asked → (room : ℕ) → depth x ≤ room → IsNot limit room tokens x
+  test : 4 ≤ asked → (room : ℕ) → depth x ≤ room → IsTested limit room tokens x
+  operand_is : 6 ≤ asked → (room : ℕ) → depth x ≤ room → IsOperand limit room tokens x
 
 some_depth : (x : Named) → 1 ≤ depth x
 some_depth (form.Column w) = omega arith
@@ -100,7 +99,7 @@ of_operand limit x ts s p = record {
   operand = λ _ room le. p room le;
 }
 
-of_compared : (limit : ℕ) (x : Named) (ts : List Lexeme) → level x ≡ levels.COMPARISON → Spells (spelled x) ts
+of_compared : (limit : ℕ) (x : Named) (ts : List Lexeme) → level x ≡ 5 → Spells (spelled x) ts
     → ((room : ℕ) → depth x ≤ suc room → IsCompared limit room ts x) → Printed limit x
 of_compared limit x ts five s p = record {
   tokens = ts;
@@ -113,7 +112,7 @@ of_compared limit x ts five s p = record {
   operand = λ a. absurd (omega (arith, a, five));
 }
 
-of_test : (limit : ℕ) (x : Named) (ts : List Lexeme) → level x ≡ levels.IS → Spells (spelled x) ts
+of_test : (limit : ℕ) (x : Named) (ts : List Lexeme) → level x ≡ 4 → Spells (spelled x) ts
     → ((room : ℕ) → depth x ≤ suc room → IsTested limit room ts x) → Printed limit x
 of_test limit x ts four s p = record {
   tokens = ts;
@@ -126,7 +125,7 @@ of_test limit x ts four s p = record {
   operand = λ a. absurd (omega (arith, a, four));
 }
 
-of_not : (limit : ℕ) (x : Named) (ts : List Lexeme) → level x ≡ levels.NOT → Spells (spelled x) ts
+of_not : (limit : ℕ) (x : Named) (ts : List Lexeme) → level x ≡ 3 → Spells (spelled x) ts
     → ((room : ℕ) → depth x ≤ suc room → IsNot limit room ts x) → Printed limit x
 of_not limit x ts three s p = record {
   tokens = ts;
@@ -139,7 +138,7 @@ of_not limit x ts three s p = record {
   operand = λ a. absurd (omega (arith, a, three));
 }
 
-of_and : (limit : ℕ) (x : Named) (ts : List Lexeme) → level x ≡ levels.AND → Spells (spelled x) ts
+of_and : (limit : ℕ) (x : Named) (ts : List Lexeme) → level x ≡ 2 → Spells (spelled x) ts
     → ((room : ℕ) → depth x ≤ suc room → IsAnd limit room ts x) → Printed limit x
 of_and limit x ts two s p = record {
   tokens = ts;
@@ -152,7 +151,7 @@ of_and limit x ts two s p = record {
   operand = λ a. absurd (omega (arith, a, two));
 }
 
-of_or : (limit : ℕ) (x : Named) (ts : List Lexeme) → level x ≡ levels.OR → Spells (spelled x) ts
+of_or : (limit : ℕ) (x : Named) (ts : List Lexeme) → level x ≡ 1 → Spells (spelled x) ts
     → ((room : ℕ) → depth x ≤ suc room → IsCondition limit room ts x) → Printed limit x
 of_or limit x ts one s p = grind (arith, nat_tests, common_steps)
 
@@ -338,53 +337,49 @@ printed limit (form.Call_where f column x) legal shallow =
     ∷ word (codes "where") ∷ (p.tokens ++ closing ∷ [])))
     (filtered_spelled limit f column x c p) (λ room _. grammar.call (filtered_is limit f column x c p (omega (arith, le))))
 printed limit (form.Unary form.Negation x) legal shallow =
-    let p = placed limit levels.NOT x (printed limit x legal shallow) in
-    of_not limit (form.Not x) (word (codes "not") ∷ p.tokens) refl (opens_then (codes "NOT ") (operand levels.NOT x (spelled x))
-    (word (codes "not")
+    let p = placed limit 3 x (printed limit x legal shallow) in
+    of_not limit (form.Not x) (word (codes "not") ∷ p.tokens) refl (opens_then (codes "NOT ") (operand 3 x (spelled x)) (word (codes "not")
     ∷ []) p.tokens (opens_word (codes "NOT") refl) p.spells)
     (λ room le. grammar.by_not (p.not (omega arith) room (omega (arith, le))))
 printed limit (form.Binary form.Conjunction x y) legal shallow =
     let parts = and_parts (filters_pass (λ c. nat_le (depth c) limit) x) (filters_pass (λ c. nat_le (depth c) limit) y) shallow in
-    let p = placed limit levels.AND x (printed limit x legal.0 parts.0) in
-    let q = placed limit (levels.AND + 1) y (printed limit y legal.1 parts.1) in
+    let p = placed limit 2 x (printed limit x legal.0 parts.0) in
+    let q = placed limit 3 y (printed limit y legal.1 parts.1) in
     of_and limit (form.And x y) (p.tokens ++ word (codes "and") ∷ q.tokens) refl
-    (spells_between (operand levels.AND x (spelled x)) (codes " AND ") (operand (levels.AND + 1) y (spelled y)) p.tokens (word (codes "and")
-    ∷ []) q.tokens p.spells
+    (spells_between (operand 2 x (spelled x)) (codes " AND ") (operand 3 y (spelled y)) p.tokens (word (codes "and") ∷ []) q.tokens p.spells
     (λ rest. refl) (opens_between (codes "AND") refl) q.spells)
     (λ room le. grammar.by_and p.tokens q.tokens (p.and (omega arith) room (left_depth (depth x) (depth y) room le))
     (q.not (omega arith) room (right_depth (depth x) (depth y) room le)))
 printed limit (form.Binary form.Disjunction x y) legal shallow =
     let parts = and_parts (filters_pass (λ c. nat_le (depth c) limit) x) (filters_pass (λ c. nat_le (depth c) limit) y) shallow in
-    let p = placed limit levels.OR x (printed limit x legal.0 parts.0) in
-    let q = placed limit (levels.OR + 1) y (printed limit y legal.1 parts.1) in
+    let p = placed limit 1 x (printed limit x legal.0 parts.0) in
+    let q = placed limit 2 y (printed limit y legal.1 parts.1) in
     of_or limit (form.Or x y) (p.tokens ++ word (codes "or") ∷ q.tokens) refl
-    (spells_between (operand levels.OR x (spelled x)) (codes " OR ") (operand (levels.OR + 1) y (spelled y)) p.tokens (word (codes "or")
-    ∷ []) q.tokens p.spells
+    (spells_between (operand 1 x (spelled x)) (codes " OR ") (operand 2 y (spelled y)) p.tokens (word (codes "or") ∷ []) q.tokens p.spells
     (λ rest. refl) (opens_between (codes "OR") refl) q.spells)
     (λ room le. grammar.by_or p.tokens q.tokens (p.condition room (left_depth (depth x) (depth y) room le))
     (q.and (omega arith) room (right_depth (depth x) (depth y) room le)))
 printed limit (form.Binary (form.Comparing c) x y) legal shallow =
     let parts = and_parts (filters_pass (λ c. nat_le (depth c) limit) x) (filters_pass (λ c. nat_le (depth c) limit) y) shallow in
-    let p = placed limit (levels.COMPARISON + 1) x (printed limit x legal.0 parts.0) in
-    let q = placed limit levels.OPERAND y (printed limit y legal.1 parts.1) in
+    let p = placed limit 6 x (printed limit x legal.0 parts.0) in
+    let q = placed limit 6 y (printed limit y legal.1 parts.1) in
     let k = compares c in
     of_compared limit (form.Compare c x y) (p.tokens ++ Sign k.symbol ∷ q.tokens) refl
-    (spells_between (operand (levels.COMPARISON + 1) x (spelled x)) (comparison_text c) (operand levels.OPERAND y (spelled y)) p.tokens
-    (Sign k.symbol ∷ []) q.tokens p.spells
+    (spells_between (operand 6 x (spelled x)) (comparison_text c) (operand 6 y (spelled y)) p.tokens (Sign k.symbol ∷ []) q.tokens p.spells
     k.quiet k.opens q.spells)
     (λ room le. grammar.by_comparison p.tokens q.tokens k.symbol (p.operand_is (omega arith) room (left_depth (depth x) (depth y) room le))
     k.is (q.operand_is (omega arith) room (right_depth (depth x) (depth y) room le)))
 printed limit (form.Unary (form.Testing t false) x) legal shallow =
-    let p = placed limit levels.IS x (printed limit x legal shallow) in
+    let p = placed limit 4 x (printed limit x legal shallow) in
     let k = tests t in
     of_test limit (form.Is t x) (p.tokens ++ word (codes "is") ∷ k.tokens) refl
-    (spells_between (operand levels.IS x (spelled x)) (codes " IS ") (test_text t) p.tokens (word (codes "is") ∷ []) k.tokens p.spells
+    (spells_between (operand 4 x (spelled x)) (codes " IS ") (test_text t) p.tokens (word (codes "is") ∷ []) k.tokens p.spells
     (λ rest. refl) (opens_between (codes "IS") refl) k.spells)
     (λ room le. grammar.by_is p.tokens k.tokens (p.test (omega arith) room (omega (arith, le))) k.is)
 printed limit (form.Unary (form.Testing t true) x) legal shallow =
-    let p = placed limit levels.IS x (printed limit x legal shallow) in
+    let p = placed limit 4 x (printed limit x legal shallow) in
     let k = tests t in
     of_test limit (form.Is_not t x) (p.tokens ++ word (codes "is") ∷ word (codes "not") ∷ k.tokens) refl
-    (spells_between (operand levels.IS x (spelled x)) (codes " IS NOT ") (test_text t) p.tokens (word (codes "is") ∷ word (codes "not")
+    (spells_between (operand 4 x (spelled x)) (codes " IS NOT ") (test_text t) p.tokens (word (codes "is") ∷ word (codes "not")
     ∷ []) k.tokens p.spells (λ rest. refl) opens_is_not k.spells)
     (λ room le. grammar.by_is_not p.tokens k.tokens (p.test (omega arith) room (omega (arith, le))) k.is)
