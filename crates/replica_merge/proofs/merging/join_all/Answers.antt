@@ -5,8 +5,8 @@ use Rattle.std.proofs.lemmas.Result.{err_from_is_err_and}
 use Rattle.std.specs.List.{AllByRecursion}
 use Rattle.std.specs.List.Sorted.{IsStrictlySortedBy}
 use Rattle.std.specs.Ordering.{nat_cmp}
-use Rattle.replica_merge.proofs.Words.{meaning, Query, setting_by, Joins, PartsDisagree, JoinTells, JoinIsCounted, Spill, MergeIsCounted}
-use Rattle.replica_merge.proofs.Words.{JoinsInOrder, Part, empty, IsPartOf, Parts, part_at, part_of, IsHeldPart, IsFirstRefused, MergeTells}
+use Rattle.replica_merge.specs.Lemmas.Words.{meaning, Query, setting_by, Joins, PartsDisagree, JoinTells, JoinIsCounted, Spill, MergeIsCounted}
+use Rattle.replica_merge.specs.Lemmas.Words.{JoinsInOrder, Part, empty, IsPartOf, Parts, part_at, part_of, IsHeldPart, IsFirstRefused, MergeTells}
 use Rattle.aggregation_cost.specs.Space.{Setting}
 use Rattle.spill_partitions.specs.declared.error.SpillError.TheVariants.{TapeDamaged}
 use Rattle.replica_merge.specs.declared.error.MergeError.TheVariants.{Join}
@@ -14,8 +14,8 @@ use Rattle.origin_prefix.specs.Lemmas.ByNumber.{numbers, rising_rest}
 use Rattle.tape_disks.specs.Disk.{DiskFrame}
 use Rattle.tape_disks.specs.DiskLaws.{leaves_twice}
 use Rattle.replica_merge.specs.Errors.{merge_faults}
-use Rattle.replica_merge.proofs.DeliveredLaws.{part_is, when_fine}
-use Rattle.replica_merge.proofs.MergedLaws.{JoinedSoFar, joined_more, found_refused, counted_more}
+use Rattle.replica_merge.specs.Lemmas.DeliveredLaws.{part_is, when_fine}
+use Rattle.replica_merge.specs.Lemmas.MergedLaws.{JoinedSoFar, joined_more, found_refused, counted_more}
 use Rattle.replica_merge.proofs.merging.join_all.Goals as goal
 
 pub join_part-requires-clause-own : goal.join_part-requires-clause-own

@@ -2,9 +2,9 @@ use Rattle.std.specs.Prelude.{◌≡◌, ℕ, ◌++◌, map, IsTrue}
 use Rattle.std.specs.List.{AllByRecursion}
 use Rattle.std.specs.List.Sorted.{IsStrictlySortedBy}
 use Rattle.std.specs.Ordering.{nat_cmp}
-use Rattle.replica_merge.proofs.Words.{meaning, setting_by, Part, MergeIsCounted, Parts, part_at, part_of, IsHeldPart}
+use Rattle.replica_merge.specs.Lemmas.Words.{meaning, setting_by, Part, MergeIsCounted, Parts, part_at, part_of, IsHeldPart}
 use Rattle.tape_disks.specs.Disk.{DiskFrame}
-use Rattle.replica_merge.proofs.MergedLaws.{JoinedSoFar}
+use Rattle.replica_merge.specs.Lemmas.MergedLaws.{JoinedSoFar}
 use Rattle.replica_merge.proofs.merging.join_all.Given as goal
 
 abbrev pub invariant-loop-origin : goal.invariant-loop-origin

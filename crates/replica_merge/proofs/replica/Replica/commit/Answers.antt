@@ -1,8 +1,8 @@
 use Rattle.std.specs.Prelude.{◌≡◌, ℕ, Bool, IsTrue}
 use Rattle.std.proofs.Common.{◌∙◌, sym, subst}
-use Rattle.replica_merge.proofs.Words.{World, IsWorld, union, kinds, Parts, Held, part_at, told, Fits, AreHeldParts, JoinedAside, Merges}
-use Rattle.replica_merge.proofs.Words.{filled}
-use Rattle.replica_merge.proofs.MergedLaws.{merges, merged_held, merged_told, merged_fits}
+use Rattle.replica_merge.specs.Lemmas.Words.{World, IsWorld, union, kinds, Parts, Held, part_at, told, Fits, AreHeldParts, JoinedAside, MergesParts}
+use Rattle.replica_merge.specs.Lemmas.Words.{filled}
+use Rattle.replica_merge.specs.Lemmas.MergedLaws.{merges, merged_held, merged_told, merged_fits}
 use Rattle.replica_merge.proofs.replica.Replica.commit.Goals as goal
 
 pub invariant_of-self : goal.invariant_of-self
@@ -25,7 +25,7 @@ returns-clause-merges c =
     c.fill.ensures.at o ∙ (λ i. filled (part_at (c.replace-old.ensures.after i).entries o)
     (part_at (c.replace-old.ensures.value i).entries o)) in
     subst (λ (h : Held). (honest : Bool) (other : Parts) → AreHeldParts h.query other
-    → JoinedAside honest h.query h.parts other c.args.joined → Merges honest h.query h.parts other c.fill.new.parts.entries)
+    → JoinedAside honest h.query h.parts other c.args.joined → MergesParts honest h.query h.parts other c.fill.new.parts.entries)
     c.self.view_is
     (λ honest other theirs aside. merges honest c.self.inside.query old other joined c.fill.new.parts.entries c.self.invariant theirs
     (subst (JoinedAside honest c.self.inside.query old other) (sym c.joined.view_is) aside) back)

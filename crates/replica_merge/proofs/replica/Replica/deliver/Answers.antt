@@ -1,11 +1,11 @@
 use Rattle.std.specs.Prelude.{◌≡◌, ◌≢◌, ℕ, List, Option, Some, IfOk, IfErr, OnOk, IsTrue, false}
 use Rattle.std.proofs.Common.{subst}
-use Rattle.replica_merge.proofs.Words.{Row, reply_of, World, IsWorld, knows, learn, kinds, packings, meaning, AreCounted, setting_by}
-use Rattle.replica_merge.proofs.Words.{Disagrees, BatchTells, aggregations_on, OriginDisagrees, Spill, Held, part_of, told, Fits}
-use Rattle.replica_merge.proofs.Words.{DeliversAt}
+use Rattle.replica_merge.specs.Lemmas.Words.{Row, reply_of, World, IsWorld, knows, learn, kinds, packings, meaning, AreCounted, setting_by}
+use Rattle.replica_merge.specs.Lemmas.Words.{Disagrees, BatchTells, aggregations_on, OriginDisagrees, Spill, Held, part_of, told, Fits}
+use Rattle.replica_merge.specs.Lemmas.Words.{DeliversAt}
 use Rattle.spill_partitions.specs.declared.error.SpillError.{SpillError}
-use Rattle.replica_merge.proofs.DeliveredLaws.{still_held, reply_told, more_told, still_fits, handed_back, why_told, agreed_else}
-use Rattle.replica_merge.proofs.DeliveredLaws.{unknown_else, world_agrees}
+use Rattle.replica_merge.specs.Lemmas.DeliveredLaws.{still_held, reply_told, more_told, still_fits, handed_back, why_told, agreed_else}
+use Rattle.replica_merge.specs.Lemmas.DeliveredLaws.{unknown_else, world_agrees}
 use Rattle.replica_merge.proofs.replica.Replica.deliver.Goals as goal
 
 pub invariant_of-self : goal.invariant_of-self

@@ -1,11 +1,11 @@
 use Rattle.std.specs.Prelude.{◌≡◌, ℕ, Option, IfErr, IsTrue}
 use Rattle.std.proofs.Common.{◌∙◌, sym, ap, subst}
 use Rattle.std.proofs.lemmas.Result.{err_from_is_err_and}
-use Rattle.replica_merge.proofs.Words.{World, Checked, meaning, setting_by, JoinsInOrder, Held, Fits, AreHeldParts, DisagreeSomewhere}
-use Rattle.replica_merge.proofs.Words.{MergeTells, OriginDisagrees}
+use Rattle.replica_merge.specs.Lemmas.Words.{World, Checked, meaning, setting_by, JoinsInOrder, Held, Fits, AreHeldParts, DisagreeSomewhere}
+use Rattle.replica_merge.specs.Lemmas.Words.{MergeTells, OriginDisagrees}
 use Rattle.query_grammar.specs.Lemmas.OneText.{one_text}
 use Rattle.replica_merge.specs.declared.error.MergeError.TheVariants.{Join}
-use Rattle.replica_merge.proofs.MergedLaws.{never_refused, aside_agree}
+use Rattle.replica_merge.specs.Lemmas.MergedLaws.{never_refused, aside_agree}
 use Rattle.replica_merge.proofs.replica.Replica.join.Goals as goal
 
 pub join_all-requires-clause-theirs : goal.join_all-requires-clause-theirs

@@ -1,5 +1,5 @@
 use Rattle.std.proofs.Common.{subst}
-use Rattle.replica_merge.proofs.Words.{Checked, Fits}
+use Rattle.replica_merge.specs.Lemmas.Words.{Checked, Fits}
 use Rattle.replica_merge.proofs.replica.Replica.merge.Goals as goal
 
 pub commit-requires : goal.commit-requires

@@ -12,10 +12,10 @@ use Rattle.std.specs.BTreeMap.{BTreeMap, insert_entry, is_at, WritesThrough}
 use Rattle.std.specs.Ordering.{eq_by_cmp, nat_cmp, is_eq, match_ordering}
 use Rattle.std.specs.declared.cmp.Ordering.TheVariants.{Less, Equal, Greater}
 use Rattle.std.proofs.lemmas.Result.{IfOk-weaker, IfErr-weaker}
-use Rattle.replica_merge.proofs.Words.{LAST_ORIGIN, Row, InLimits, reply_of, World, IsWorld, knows, learn, prefix, kinds, packings, Checked}
-use Rattle.replica_merge.proofs.Words.{meaning, Part, empty, rows_at, tells, IsEarly, IsPartOf, Delivers, Disagrees, BatchTells}
-use Rattle.replica_merge.proofs.Words.{OriginDisagrees, Spill, FitsOrigin, Parts, part_at, part_of, told, Held, Fits, IsHeldPart}
-use Rattle.replica_merge.proofs.Words.{AreHeldParts, DeliversAt, RefusesAt}
+use Rattle.replica_merge.specs.Lemmas.Words.{LAST_ORIGIN, Row, InLimits, reply_of, World, IsWorld, knows, learn, prefix, kinds, packings, Checked}
+use Rattle.replica_merge.specs.Lemmas.Words.{meaning, Part, empty, rows_at, tells, IsEarly, IsPartOf, Delivers, Disagrees, BatchTells}
+use Rattle.replica_merge.specs.Lemmas.Words.{OriginDisagrees, Spill, FitsOrigin, Parts, part_at, part_of, told, Held, Fits, IsHeldPart}
+use Rattle.replica_merge.specs.Lemmas.Words.{AreHeldParts, DeliversAt, RefusesAt}
 use Rattle.grouping_model.specs.declared.delivered.Delivered.{Delivered}
 use Rattle.grouping_model.specs.declared.delivered.Delivered.TheVariants.{Folded, Early, Known}
 use Rattle.grouping_model.specs.KnowledgeLaws.{same_knowledge, knows_learn}
@@ -27,7 +27,7 @@ use Rattle.origin_prefix.specs.Lemmas.ByNumber.{at, found_holds, all_found, put_
 use Rattle.origin_prefix.specs.Lemmas.TellingLaws.{delivered_tells}
 use Rattle.origin_prefix.specs.Lemmas.FittingLaws.{fits_delivered, agrees_delivered}
 use Rattle.replica_merge.specs.Lemmas.ToldLaws.{held_part}
-use Rattle.replica_merge.proofs.ToldLaws.{told_is, same_batch, HasGap, part_gap, prefix_told, part_here}
+use Rattle.replica_merge.specs.Lemmas.ToldLaws.{told_is, same_batch, HasGap, part_gap, prefix_told, part_here}
 
 -- ---- maps
 
@@ -163,7 +163,7 @@ some_if_tells p n known =
     within false b one two e = absurd (true≢false (sym e))
 
 -- a batch that is taken isn't there already with other rows
-taken_agrees : (honest : Bool) (query : Checked) (old new : Part) (n : ℕ) (rows : List (List ℕ)) (reply : Delivered) → IsPartOf query old
+pub taken_agrees : (honest : Bool) (query : Checked) (old new : Part) (n : ℕ) (rows : List (List ℕ)) (reply : Delivered) → IsPartOf query old
     → Delivers honest (meaning query) old n rows new reply → ¬ (Disagrees old n rows)
 taken_agrees honest query old new n rows Known is d there = there.other (d.1 there.kept there.there)
 taken_agrees honest query old new n rows Early is d there = absurd (true≢false (sym (ap is_some there.there)
@@ -287,61 +287,3 @@ pub never_disagrees : (query : Checked) (old : Parts) (o n : ℕ) (rows : List (
     → world o n ≡ Some those → rows ≢ packings those
 never_disagrees query old o n rows d world those fits there same =
     agrees_delivered (meaning query) world o (part_of old o) n those (fits o) there (subst (Disagrees (part_of old o) n) same d)
-
--- ---- results
-
-module _ (r : Result Delivered RefusedBatch) (honest : Bool) (query : Checked) (old new : Parts) (batch : Batch)
-    (held : AreHeldParts query old) (limits : InLimits (batch.origin, batch.number))
-    (takes : IfOk r (DeliversAt honest query old batch.origin batch.number batch.rows new))
-    (refuses : IfErr r (RefusesAt old batch new)) where
-  pub still_held : AreHeldParts query new
-  still_held = go r takes refuses
-    where
-      go : (s : Result Delivered RefusedBatch) → IfOk s (DeliversAt honest query old batch.origin batch.number batch.rows new)
-          → IfErr s (RefusesAt old batch new) → AreHeldParts query new
-      go (Ok reply) d e = delivered_held honest query old new batch.origin batch.number batch.rows reply held limits d
-      go (Err e) d same = subst (AreHeldParts query) (sym same.same) held
-
-  pub reply_told : IfOk r (λ reply. reply ≡ reply_of (told old) (batch.origin, batch.number))
-  reply_told = IfOk-weaker r (DeliversAt honest query old batch.origin batch.number batch.rows new) _
-      (λ reply d. delivered_reply honest query old new batch.origin batch.number batch.rows reply held limits d) takes
-
-  pub more_told : OnOk r (told new ≡ learn (told old) (batch.origin, batch.number))
-  more_told = IfOk-weaker r (DeliversAt honest query old batch.origin batch.number batch.rows new) _
-      (λ reply d. delivered_told honest query old new batch.origin batch.number batch.rows reply held limits d) takes
-
-  pub still_fits : OnOk r (IsTrue honest → (world : World) (those : List Row) → IsWorld (kinds query.columns) world
-      → Fits world (record { query = query; parts = old }) → world batch.origin batch.number ≡ Some those
-      → batch.rows ≡ packings those → Fits world (record { query = query; parts = new }))
-  still_fits =
-      IfOk-weaker r (DeliversAt honest query old batch.origin batch.number batch.rows new) _
-      (λ reply d so world those is fits there same. delivered_fits honest so query old new batch.origin batch.number batch.rows reply held d
-      world those is fits there same) takes
-
-  pub handed_back : IfErr r (λ e. (e.batch ≡ batch)
-      × ◌≡◌ {A = Held} (record { query = query; parts = new }) (record { query = query; parts = old }))
-  handed_back = IfErr-weaker r (RefusesAt old batch new) _ (λ e d. (d.back, λ i. record { query = query; parts = d.same i })) refuses
-
-  pub why_told : IfErr r (λ e. BatchTells e.why (part_of old batch.origin) batch.number batch.rows)
-  why_told = IfErr-weaker r (RefusesAt old batch new) _ (λ e d. d.tells) refuses
-
-  pub agreed_else : IfOk r (λ _. ¬ (Disagrees (part_of old batch.origin) batch.number batch.rows))
-  agreed_else =
-      IfOk-weaker r (DeliversAt honest query old batch.origin batch.number batch.rows new) _
-      (λ reply d. taken_agrees honest query (part_of old batch.origin) d.part batch.number batch.rows reply
-      (part_is query old held batch.origin) d.delivers) takes
-
-  pub unknown_else : IfErr r (λ e. (error : SpillError) → e.why ≡ Spill error → knows (told old) (batch.origin, batch.number) ≡ false)
-  unknown_else =
-      IfErr-weaker r (RefusesAt old batch new) _
-      (λ e d error why. told_is old held.rising batch.origin batch.number
-      ∙ subst (λ w. BatchTells w (part_of old batch.origin) batch.number batch.rows) why d.tells) refuses
-
-  pub world_agrees : IfErr r (λ e. (told : Option ℕ) → e.why ≡ OriginDisagrees told → (world : World) (those : List Row)
-      → Fits world (record { query = query; parts = old }) → world batch.origin batch.number ≡ Some those
-      → batch.rows ≢ packings those)
-  world_agrees =
-      IfErr-weaker r (RefusesAt old batch new) _
-      (λ e d told why world those fits there.
-      never_disagrees query old batch.origin batch.number batch.rows
-      (subst (λ w. BatchTells w (part_of old batch.origin) batch.number batch.rows) why d.tells).1 world those fits there) refuses

@@ -23,6 +23,6 @@ pub use Rattle.summary_codec.specs.WorldFile.{world_file, world_file_in, world_p
 pub use Rattle.summary_codec.specs.declared.version.Version.TheVariants.{Second}
 pub use Rattle.replica_merge.specs.Counting.{JoinsInOrder, MergeIsCounted}
 pub use Rattle.replica_merge.specs.Replicas.{AreHeldParts, AsideAt, DeliversAt, DisagreeSomewhere, Fits, Held, IsFirstRefused, IsHeldPart}
-pub use Rattle.replica_merge.specs.Replicas.{JoinedAside, JoinsAt, MergeTells, Merges, MergesIn, Parts, RefusesAt, batches_of, counted}
+pub use Rattle.replica_merge.specs.Replicas.{JoinedAside, JoinsAt, MergeTells, MergesParts, MergesIn, Parts, RefusesAt, batches_of, counted}
 pub use Rattle.replica_merge.specs.Replicas.{counted_part, filled, known_of, known_part, part_at, part_of, told}
 pub use Rattle.replica_merge.specs.Unions.{IsRunAlone, IsUnion, brought_by}
