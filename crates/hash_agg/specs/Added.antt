@@ -1,7 +1,6 @@
 -- What a pass adds to its groups and lists, and what it leaves of its disk. All of this is our own.
 use Rattle.std.specs.Prelude.{◌≡◌, ◌≢◌, ℕ, ◌+◌, ◌≤◌, ◌<◌, ◌&&◌, max, Bool, true, false, List, [], ◌∷◌, ◌++◌, length, IsTrue, IfErr, OnOk}
 use Rattle.std.specs.Prelude.{Result}
-use Rattle.std.specs.List.{AllByRecursion}
 use Rattle.std.specs.List.Sorted.{IsPermutation}
 use Rattle.aggregation_cost.specs.Cost.{Cost, cost}
 use Rattle.aggregation_cost.specs.Passes.{is_empty}
@@ -22,7 +21,7 @@ use Rattle.spill_partitions.specs.declared.error.SpillError.{SpillError}
 use Rattle.spill_partitions.specs.declared.error.SpillError.TheVariants.{TapeDamaged}
 use Rattle.having_filter.specs.Meaning.{meaning}
 use Rattle.group_runs.specs.Runs.{Entry, Rises, packed_keys}
-use Rattle.hash_agg.specs.Inputs.{Brought, Packed, Counted, IsInput, all_rows, Given, AllGive}
+use Rattle.hash_agg.specs.Inputs.{Brought, Packed, Counted, Given, AllGive}
 use Rattle.hash_agg.specs.Passes.{Piece, ArePieces, AreSafe, IsPlan, IsSameTable, HasPlace, CountUpTo, Stands, AreRows, AreOfRun, Reads}
 use Rattle.hash_agg.specs.Passes.{CanRead, ReadsList, CanReadList, Brings, Proceeds, WritesPages, entries_of, total, standing, setting_of}
 use Rattle.hash_agg.specs.Passes.{records_of, all_pieces, brought_by}
@@ -157,11 +156,6 @@ pub record Adds {H D T : Type 0} (Done : (H → List ℕ → ℕ) → Ghosts D �
   pub added : OnOk result (Done hash_of g what old before new after)
   pub refused : IfErr result (λ error. Refused hash_of g what old before error new)
   pub disk : DiskFrame g (failed spill_faults result) before after
-
--- inputs of the query, which count so many rows at most
-pub record AreInputs (query : Query) (most : ℕ) (inputs : List Brought) : Type 0 where
-  pub are : AllByRecursion (IsInput query) inputs
-  pub few : all_rows inputs ≤ most
 
 -- ---- a list that it reads
 

@@ -1,9 +1,10 @@
 -- What is counted of aggregations that come one after the other. All of this is our own.
-use Rattle.std.specs.Prelude.{◌≡◌, ℕ, ◌+◌, ◌≤◌, max, List, [], ◌∷◌}
+use Rattle.std.specs.Prelude.{◌≡◌, ℕ, ◌+◌, ◌≤◌, max, List, [], ◌∷◌, Result, Ok, Err}
 use Rattle.grouping_model.specs.Query.{Query}
 use Rattle.aggregation_cost.specs.Space.{Setting}
 use Rattle.aggregation_cost.specs.Cost.{Cost, cost}
-use Rattle.hash_agg.specs.Inputs.{Brought, Given, AllGive}
+use Rattle.agg_protocol.specs.States.{most_rows}
+use Rattle.hash_agg.specs.Inputs.{Brought, all_groups, Given, AllGive}
 use Rattle.hash_agg.specs.Means.{MeansState}
 use Rattle.group_runs.specs.Standing.{states_width}
 use Rattle.hash_agg.specs.Passes.{setting_for, records_of, all_pieces}
@@ -23,20 +24,31 @@ abbrev pub HasFewPasses : Query → Setting → List Brought → ℕ → Type 0
 HasFewPasses query setting inputs most = (givens : List Given) → AllGive query inputs givens
     → (cost_given query setting inputs givens).passes ≤ max 1 most
 
--- an aggregation of inputs took just what it costs: its work is told, and its pages are written beside others
-pub record Took (query : Query) (setting : Setting) (inputs : List Brought) (told : Work) (writes written : ℕ) : Type 0 where
-  pub work : (givens : List Given) → AllGive query inputs givens → IsWork told (cost_given query setting inputs givens)
-  pub pages : (givens : List Given) → AllGive query inputs givens → written ≡ writes + (cost_given query setting inputs givens).pages
+-- the work of no aggregation
+abbrev pub no_work : Work
+no_work = record { passes = 0; spilled = 0; most_held = 0 }
+
+-- what an aggregation tells beside its answer
+abbrev pub told_work : {Answer Error : Type 0} → Result (Answer × Work) Error → Work
+told_work (Ok done) = done.1
+told_work (Err error) = no_work
 
 -- an aggregation of inputs was counted: what it costs was added to the work, and its pages to those that were written
-pub record IsCounted (query : Query) (setting : Setting) (inputs : List Brought) (old : Work) (writes : ℕ) (new : Work) (written : ℕ) :
+pub record IsCounted (inputs : List Brought) (query : Query) (setting : Setting) (old : Work) (writes : ℕ) (new : Work) (written : ℕ) :
     Type 0 where
   pub work : (givens : List Given) → AllGive query inputs givens → AddsUp old (cost_given query setting inputs givens) new
   pub pages : (givens : List Given) → AllGive query inputs givens → written ≡ writes + (cost_given query setting inputs givens).pages
 
+-- it was, and the work that is told is just what it costs, unless it has more groups than a counter of passes holds
+pub record Took (inputs : List Brought) (query : Query) (setting : Setting) (old : Work) (writes : ℕ) (told : Work) (written : ℕ) :
+    Type 0 where
+  pub counted : IsCounted inputs query setting old writes told written
+  pub work : all_groups inputs ≤ most_rows → (givens : List Given) → AllGive query inputs givens
+      → IsWork told (cost_given query setting inputs givens)
+
 -- some aggregations were counted, one after the other, and nothing else
-abbrev pub AreCounted : Query → Setting → List (List Brought) → Work → ℕ → Work → ℕ → Type 0
-AreCounted query setting [] old writes new written = (new ≡ old) × (written ≡ writes)
-AreCounted query setting (inputs ∷ more) old writes new written =
-    (work : Work) × (pages : ℕ) × IsCounted query setting inputs old writes work pages
-    × AreCounted query setting more work pages new written
+abbrev pub AreCounted : List (List Brought) → Query → Setting → Work → ℕ → Work → ℕ → Type 0
+AreCounted [] query setting old writes new written = (new ≡ old) × (written ≡ writes)
+AreCounted (inputs ∷ more) query setting old writes new written =
+    (work : Work) × (pages : ℕ) × IsCounted inputs query setting old writes work pages
+    × AreCounted more query setting work pages new written

@@ -1,5 +1,5 @@
 -- What is aggregated. All of this is our own.
-use Rattle.std.specs.Prelude.{◌≡◌, ℕ, ◌≤◌, List, [], ◌∷◌, map, length, sum_by}
+use Rattle.std.specs.Prelude.{◌≡◌, ℕ, ◌≤◌, max, Bool, IsTrue, List, [], ◌∷◌, map, length, sum_by}
 use Rattle.std.specs.List.{AllByRecursion}
 use Rattle.packed_rows.specs.ConcatenatedRows.{concatenated}
 use Rattle.grouping_model.specs.Datum.{Row, Kind, HasKinds, row_cmp}
@@ -13,6 +13,7 @@ use Rattle.hash_agg.specs.declared.input.Input.{Input}
 use Rattle.hash_agg.specs.declared.input.Input.TheVariants as code
 use Rattle.hash_agg.specs.declared.input.Packings.{Packings}
 use Rattle.hash_agg.specs.declared.input.Packings.TheVariants.{Apart, Concatenated}
+use Rattle.hash_agg.specs.declared.work.Work.{Work}
 use Rattle.group_runs.specs.Runs.{Entry, packed_keys}
 use Rattle.group_runs.specs.Standing.{AreGroups, IsRun}
 
@@ -58,6 +59,11 @@ all_groups inputs = sum_by groups_in inputs
 abbrev pub IsInput : Query → Brought → Type 0
 IsInput query (Packed packed) = (rows : List Row) × ArePackings query.kinds packed rows
 IsInput query (Counted run most) = IsRun query most run
+
+-- inputs of the query, which count so many rows at most
+pub record AreInputs (query : Query) (most : ℕ) (inputs : List Brought) : Type 0 where
+  pub are : AllByRecursion (IsInput query) inputs
+  pub few : all_rows inputs ≤ most
 
 -- an input stands for a list of rows: it has their packings, or the groups of their part
 abbrev pub IsInputOf : Query → Brought → List Row → Type 0
@@ -114,3 +120,14 @@ pub record IsAggregate (query : Query) (inputs : List Brought) (run : List Entry
 pub record IsRunOver (query : Query) (inputs : List Brought) (run : List Entry) : Type 0 where
   pub is_run : IsRun query (all_rows inputs) run
   pub few : (lists : List (List Row)) → AllBring query inputs lists → length run ≤ length (concatenated lists)
+
+-- what is answered of inputs: the aggregate over an honest disk, and a run of the query over any
+pub record Aggregated (honest : Bool) (query : Query) (inputs : List Brought) (run : List Entry) : Type 0 where
+  pub aggregate : IsTrue honest → IsAggregate query inputs run
+  pub run_over : IsRunOver query inputs run
+
+-- the same, and the work that is told beside it: one pass at least over any disk, and no more than groups over an honest one
+pub record Aggregation (honest : Bool) (query : Query) (inputs : List Brought) (done : List Entry × Work) : Type 0 where
+  pub aggregated : Aggregated honest query inputs done.0
+  pub passes : 1 ≤ done.1.passes
+  pub few : IsTrue honest → done.1.passes ≤ max 1 (length done.0)

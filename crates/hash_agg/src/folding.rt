@@ -1,18 +1,13 @@
 //! More inputs for a run.
 
-ghost use Rattle.std.specs.Prelude.{◌≡◌, ◌≢◌, ◌+◌, ◌≤◌, ◌∷◌, map, IsTrue, IfErr, OnOk, OnErr};
-ghost use Rattle.std.specs.List.{AllByRecursion};
-ghost use Rattle.tape_disks.specs.Calls.{failed};
-ghost use Rattle.tape_disks.specs.Disk.{DiskFrame};
-ghost use Rattle.spill_partitions.specs.Errors.{spill_faults};
-ghost use Rattle.spill_partitions.specs.declared.error.SpillError.TheVariants.{TapeDamaged};
+ghost use Rattle.std.specs.Prelude.{◌≡◌, ◌∷◌, map, OnOk, OnErr};
 ghost use Rattle.agg_protocol.specs.States.{most_rows};
 ghost use Rattle.having_filter.specs.Meaning.{meaning};
-ghost use Rattle.group_runs.specs.Standing.{IsRun};
-ghost use Rattle.hash_agg.specs.Counting.{IsCounted, setting_by};
-ghost use Rattle.hash_agg.specs.Inputs.{Counted, brought, all_rows, IsInput, IsAggregate, IsRunOver};
+ghost use Rattle.hash_agg.specs.Counting.{IsCounted};
+ghost use Rattle.hash_agg.specs.Inputs.{Counted, brought, AreInputs, Aggregated};
+ghost use Rattle.hash_agg.specs.Ran.{Ran, ended};
 
-use crate::aggregation::aggregated;
+use crate::aggregation::aggregate;
 use crate::input::Input;
 use crate::means::Means;
 use crate::work::Work;
@@ -41,25 +36,16 @@ pub fn fold<H: KeyHash + Copy, D: TapeDisk>(
     disk: &mut D,
     work: &mut Work,
 ) -> Result<(), SpillError>
-    requires run { IsRun (meaning query.now) rows run.old }
-    requires inputs { AllByRecursion (IsInput (meaning query.now)) (map brought more.now) }
-    requires few { rows + all_rows (map brought more.now) ≤ most_rows }
-    ensures folded { OnOk result (IsTrue (D.honest disk.old) → IsAggregate (meaning query.now)
-        (Counted run.old rows ∷ map brought more.now) run.new) }
-    ensures run { OnOk result (IsRunOver (meaning query.now)
-        (Counted run.old rows ∷ map brought more.now) run.new) }
-    ensures counted { OnOk result (IsTrue (D.honest disk.old) →
-        IsCounted (meaning query.now) (setting_by H.hash_of (meaning query.now) means.now) (map brought more.now) work.old (D.writes disk.old) work.new (D.writes disk.new)) }
-    ensures held { OnOk result (work.old.most_held ≤ means.now.limit → work.new.most_held ≤ means.now.limit) }
+    requires inputs { AreInputs (meaning query.now) most_rows (Counted run.old rows ∷ map brought more.now) }
+    ensures folded { OnOk result (Aggregated (D.honest disk.old) (meaning query.now) (Counted run.old rows ∷ map brought more.now)
+        run.new) }
     ensures same { OnErr result (run.new ≡ run.old) }
-    ensures uncounted { OnErr result (work.new ≡ work.old) }
-    ensures undamaged { IfErr result (λ error. IsTrue (D.honest disk.old) → error ≢ TapeDamaged) }
-    ensures disk { DiskFrame D.TapeDisk (failed spill_faults result) disk.old disk.new }
+    ensures ran { Ran D.TapeDisk H.hash_of query.now means.now (IsCounted (map brought more.now)) (ended result) disk.old work.old
+        disk.new work.new }
 {
     let _schema = query.schema();
-    let mut counted = *work;
-    let more = aggregated(alloc, query, more, means, disk, &mut counted)?;
+    let (more, took) = aggregate(alloc, query, more, means, disk)?;
     run.merge_from(alloc, query, &more)?;
-    *work = counted;
+    work.add(took);
     Ok(())
 }

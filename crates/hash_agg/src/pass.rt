@@ -8,9 +8,9 @@ ghost use Rattle.spill_partitions.specs.declared.error.SpillError.TheVariants.{T
 ghost use Rattle.grouping_model.specs.Grouping.{Group};
 ghost use Rattle.packed_rows.specs.View.{row_of};
 ghost use Rattle.group_runs.specs.Standing.{StandsFor, IsRun};
-ghost use Rattle.hash_agg.specs.Inputs.{brought, packings_in};
+ghost use Rattle.hash_agg.specs.Inputs.{brought, packings_in, AreInputs};
 ghost use Rattle.hash_agg.specs.Passes.{IsPlan};
-ghost use Rattle.hash_agg.specs.Added.{Packed_rows, Entries, On_tape, Added, AddedGenuine, AddedList, AddedOne, Adds, AreInputs};
+ghost use Rattle.hash_agg.specs.Added.{Packed_rows, Entries, On_tape, Added, AddedGenuine, AddedList, AddedOne, Adds};
 ghost use Rattle.hash_agg.specs.Added.{CountsPass, Finished, HasRoom, IsFirst, IsFresh, IsReady, IsSelected, RefusedList, enters, query_of};
 ghost use Rattle.hash_agg.specs.Added.{source_of};
 

@@ -1,6 +1,7 @@
 //! What an aggregation took.
 
-ghost use Rattle.std.specs.Prelude.{◌≡◌};
+ghost use Rattle.std.specs.Prelude.{◌≡◌, ◌+◌, min, max};
+ghost use Rattle.hash_agg.specs.Counting.{no_work};
 
 /// What an aggregation took: how many passes it made, how many records these spilled, a record once for each pass that spills it, and
 /// the most bytes of blocks that its table of groups held at any time. The run that is answered, the pages of tapes and what
@@ -15,12 +16,23 @@ pub struct Work {
 impl Work {
     /// The work of no aggregation.
     pub fn none() -> Work
-        ensures { result ≡ record { passes = 0; spilled = 0; most_held = 0 } }
+        ensures { result ≡ no_work }
     {
         Work {
             passes: 0,
             spilled: 0,
             most_held: 0,
         }
+    }
+
+    /// Adds the work of another aggregation. Counters stop at the greatest number that they can have.
+    pub(crate) fn add(&mut self, more: Work)
+        ensures passes { self.new.passes ≡ min (self.old.passes + more.passes) 18446744073709551615 }
+        ensures spilled { self.new.spilled ≡ min (self.old.spilled + more.spilled) 340282366920938463463374607431768211455 }
+        ensures most_held { self.new.most_held ≡ max self.old.most_held more.most_held }
+    {
+        self.passes = self.passes.saturating_add(more.passes);
+        self.spilled = self.spilled.saturating_add(more.spilled);
+        self.most_held = self.most_held.max(more.most_held);
     }
 }

@@ -1,6 +1,7 @@
 -- Why a batch is not taken, or parts are not joined. All of this is our own.
-use Rattle.std.specs.Prelude.{ℕ}
-use Rattle.spill_partitions.specs.Errors.{spill_faults}
+use Rattle.std.specs.Prelude.{Option, Some, None, Result}
+use Rattle.hash_agg.specs.Ran.{Ended, ended_by}
+use Rattle.spill_partitions.specs.declared.error.SpillError.{SpillError}
 use Rattle.spill_partitions.specs.declared.error.SpillError.TheVariants.{NoMemory}
 use Rattle.origin_prefix.specs.declared.error.JoinError.{JoinError}
 use Rattle.origin_prefix.specs.declared.error.JoinError.TheVariants.{OriginDisagrees, Spill}
@@ -10,10 +11,14 @@ use Rattle.origin_prefix.specs.declared.error.RefusedBatch.{RefusedBatch}
 abbrev pub no_memory : JoinError
 no_memory = Spill NoMemory
 
--- how often the disk failed in a call that is refused so; and in one that hands its batch back
-abbrev pub join_faults : JoinError → ℕ
-join_faults (OriginDisagrees number) = 0
-join_faults (Spill error) = spill_faults error
+-- the error of spilling that a call is refused by, if it is one
+abbrev pub join_reason : JoinError → Option SpillError
+join_reason (OriginDisagrees number) = None
+join_reason (Spill error) = Some error
 
-abbrev pub batch_faults : RefusedBatch → ℕ
-batch_faults refused = join_faults refused.why
+-- how a call ended that joins, and one that hands its batch back where it is refused
+abbrev pub join_ended : {T : Type 0} → Result T JoinError → Ended
+join_ended result = ended_by join_reason result
+
+abbrev pub batch_ended : {T : Type 0} → Result T RefusedBatch → Ended
+batch_ended result = ended_by (λ (refused : RefusedBatch). join_reason refused.why) result

@@ -1,5 +1,5 @@
 -- What becomes of two parts of one origin that are joined. All of this is our own.
-use Rattle.std.specs.Prelude.{◌≡◌, ◌≢◌, ℕ, ◌<◌, ◌⊎◌, max, nat_lt, Bool, List, map, Option, Some, None, if◌then◌else◌}
+use Rattle.std.specs.Prelude.{◌≡◌, ◌≢◌, ℕ, ◌<◌, ◌⊎◌, max, nat_lt, Bool, List, map, Option, Some, None, if◌then◌else◌, Result, IfOk, IfErr, OnOk}
 use Rattle.std.specs.List.{AllByRecursion}
 use Rattle.std.specs.List.Sorted.{IsStrictlySortedBy}
 use Rattle.std.specs.Ordering.{nat_cmp}
@@ -9,7 +9,9 @@ use Rattle.hash_agg.specs.Counting.{AreCounted}
 use Rattle.hash_agg.specs.declared.work.Work.{Work}
 use Rattle.origin_prefix.specs.declared.error.JoinError.{JoinError}
 use Rattle.origin_prefix.specs.declared.error.JoinError.TheVariants.{OriginDisagrees, Spill}
-use Rattle.origin_prefix.specs.Parts.{Batches, Part, rows_at, Drains, aggregations_behind}
+use Rattle.query_checks.specs.Checks.{Checked}
+use Rattle.having_filter.specs.Meaning.{meaning}
+use Rattle.origin_prefix.specs.Parts.{Batches, Part, rows_at, IsPartOf, Drains, aggregations_behind}
 
 -- the part whose prefix is the longer one, and the other
 abbrev pub longer : Part → Part → Part
@@ -68,9 +70,19 @@ pub record Joins (honest : Bool) (query : Query) (a b new : Part) : Type 0 where
   pub united : Unites (longer a b).prefix (longer a b) (shorter a b) behind
   pub drained : Drains honest query (longer a b).prefix (longer a b).run behind new
 
+-- what two parts do that are joined: they agree and give a part of the query, or what refuses them says why
+pub record Joining (honest : Bool) (query : Checked) (a b : Part) (result : Result Part JoinError) : Type 0 where
+  pub joins : IfOk result (Joins honest (meaning query) a b)
+  pub part : IfOk result (IsPartOf query)
+  pub agree : OnOk result (¬ (PartsDisagree a b))
+  pub tells : IfErr result (λ why. JoinTells why a b)
+
 -- what joining two parts takes was counted: the aggregation of the early batches of both that follow the longer prefix
-pub record JoinIsCounted (query : Query) (setting : Setting) (a b : Part) (old : Work) (writes : ℕ) (new : Work) (written : ℕ) :
+pub record UniteIsCounted (long short : Part) (query : Query) (setting : Setting) (old : Work) (writes : ℕ) (new : Work) (written : ℕ) :
     Type 0 where
   pub behind : Batches
-  pub united : Unites (longer a b).prefix (longer a b) (shorter a b) behind
-  pub counted : AreCounted query setting (aggregations_behind (longer a b).prefix behind) old writes new written
+  pub united : Unites long.prefix long short behind
+  pub counted : AreCounted (aggregations_behind long.prefix behind) query setting old writes new written
+
+abbrev pub JoinIsCounted : (a b : Part) → Query → Setting → Work → ℕ → Work → ℕ → Type 0
+JoinIsCounted a b = UniteIsCounted (longer a b) (shorter a b)

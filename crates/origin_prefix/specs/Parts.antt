@@ -1,6 +1,6 @@
 -- What is held of one origin, and what becomes of it where batches follow its prefix. All of this is our own.
 use Rattle.std.specs.Prelude.{◌≡◌, ◌≢◌, ℕ, suc, ◌+◌, ◌*◌, ◌<◌, ◌≤◌, ◌==◌, ◌||◌, ◌&&◌, Bool, false, nat_le, nat_eq, List, [], ◌∷◌, map, take}
-use Rattle.std.specs.Prelude.{drop, length, Option, Some, None, if◌then◌else◌, IsTrue}
+use Rattle.std.specs.Prelude.{drop, length, Option, Some, None, if◌then◌else◌, IsTrue, Result, IfOk, IfErr}
 use Rattle.std.specs.List.{AllByRecursion}
 use Rattle.std.specs.List.Sorted.{IsStrictlySortedBy}
 use Rattle.std.specs.Map.{lookup}
@@ -14,13 +14,15 @@ use Rattle.grouping_model.specs.declared.delivered.Delivered.{Delivered}
 use Rattle.grouping_model.specs.declared.delivered.Delivered.TheVariants as reply
 use Rattle.packed_rows.specs.Columns.{kinds}
 use Rattle.batch_reader.specs.Rows.{ArePackedRows}
+use Rattle.batch_reader.specs.declared.batch.Batch as packed
 use Rattle.query_checks.specs.Checks.{Checked}
 use Rattle.origin_prefix.specs.declared.error.JoinError.{JoinError}
+use Rattle.origin_prefix.specs.declared.error.RefusedBatch.{RefusedBatch}
 use Rattle.origin_prefix.specs.declared.error.JoinError.TheVariants.{OriginDisagrees, Spill}
 use Rattle.having_filter.specs.Meaning.{meaning}
 use Rattle.group_runs.specs.Runs.{Entry}
 use Rattle.group_runs.specs.Standing.{IsRun}
-use Rattle.hash_agg.specs.Inputs.{Brought, Packed, Counted, IsAggregate, IsRunOver}
+use Rattle.hash_agg.specs.Inputs.{Brought, Packed, Counted, Aggregated}
 
 -- batches by their numbers, each with its packed rows
 abbrev pub Batches : Type 0
@@ -87,13 +89,11 @@ following number (batch ∷ batches) = if batch.0 == number + 1 then suc (follow
 abbrev pub rows_following : ℕ → Batches → List (List (List ℕ))
 rows_following number batches = map (λ (batch : ℕ × List (List ℕ)). batch.1) (take (following number batches) batches)
 
--- batches are folded into a run that counts at most so many rows: over an honest disk it becomes what the aggregation of it and of
--- them gives, over another some run of the query, and it stays what it is where there are none
+-- batches are folded into a run that counts at most so many rows: it becomes what is answered of it and of them, over a disk that may be
+-- honest, and it stays what it is where there are none
 abbrev pub Folds : (honest : Bool) → Query → List Entry → ℕ → List (List (List ℕ)) → List Entry → Type 0
 Folds honest query old rows [] new = new ≡ old
-Folds honest query old rows (batch ∷ batches) new =
-    IsRunOver query (Counted old rows ∷ map Packed (batch ∷ batches)) new
-    × (IsTrue honest → IsAggregate query (Counted old rows ∷ map Packed (batch ∷ batches)) new)
+Folds honest query old rows (batch ∷ batches) new = Aggregated honest query (Counted old rows ∷ map Packed (batch ∷ batches)) new
 
 -- the batches behind a prefix: the early ones, and the one next to it where its rows are given
 abbrev pub behind : ℕ → Batches → Option (List (List ℕ)) → Batches
@@ -108,10 +108,13 @@ aggregation_of (batch ∷ batches) = map Packed (batch ∷ batches) ∷ []
 abbrev pub aggregations_behind : ℕ → Batches → List (List Brought)
 aggregations_behind prefix batches = aggregation_of (rows_following prefix batches)
 
+-- those behind the prefix of a part, with the rows of the batch next to it where they are given
+abbrev pub aggregations_with : Part → Option (List (List ℕ)) → List (List Brought)
+aggregations_with part next = aggregations_behind part.prefix (behind part.prefix part.early next)
+
 -- those that a delivery takes: none, if the batch isn't next to the prefix
 abbrev pub aggregations_on : Part → ℕ → List (List ℕ) → List (List Brought)
-aggregations_on part number rows = if number == part.prefix + 1
-    then aggregations_behind part.prefix (behind part.prefix part.early (Some rows)) else []
+aggregations_on part number rows = if number == part.prefix + 1 then aggregations_with part (Some rows) else []
 
 -- a prefix with its run takes those of the batches behind it that follow without a gap, over a disk that may be honest; the others
 -- stay early
@@ -119,6 +122,13 @@ pub record Drains (honest : Bool) (query : Query) (prefix : ℕ) (run : List Ent
   pub upto : new.prefix ≡ prefix + following prefix batches
   pub folded : Folds honest query run (prefix * MAX_ROWS) (rows_following prefix batches) new.run
   pub early : new.early ≡ drop (following prefix batches) batches
+
+-- a part may take the batches behind its prefix, with the one next to it where its rows are given; and it takes them
+abbrev pub IsOpenWith : Checked → Part → Option (List (List ℕ)) → Type 0
+IsOpenWith query part next = IsOpen query part.prefix part.run (behind part.prefix part.early next)
+
+abbrev pub DrainsWith : (honest : Bool) → Query → Part → Option (List (List ℕ)) → Part → Type 0
+DrainsWith honest query old next new = Drains honest query old.prefix old.run (behind old.prefix old.early next) new
 
 -- a batch is there already, with other rows
 pub record Disagrees (part : Part) (number : ℕ) (rows : List (List ℕ)) : Type 0 where
@@ -139,4 +149,17 @@ Delivers honest query old number rows new reply.Known =
 Delivers honest query old number rows new reply.Early =
     (tells old number ≡ false) × (number ≢ old.prefix + 1) × (new ≡ record old { early = insert_entry nat_cmp old.early number rows })
 Delivers honest query old number rows new (reply.Folded upto) =
-    (number ≡ old.prefix + 1) × (upto ≡ new.prefix) × Drains honest query old.prefix old.run (behind old.prefix old.early (Some rows)) new
+    (number ≡ old.prefix + 1) × (upto ≡ new.prefix) × DrainsWith honest query old (Some rows) new
+
+-- a batch is refused to a part: it is handed back, the part stays, and why
+pub record Refuses (old : Part) (batch : packed.Batch) (new : Part) (refused : RefusedBatch) : Type 0 where
+  pub back : refused.batch ≡ batch
+  pub same : new ≡ old
+  pub tells : BatchTells refused.why old batch.number batch.rows
+
+-- a batch is delivered to a part of a query: the part takes it or refuses it, and is one of the query in any case
+pub record Delivery (honest : Bool) (query : Checked) (old : Part) (batch : packed.Batch) (new : Part)
+    (result : Result Delivered RefusedBatch) : Type 0 where
+  pub delivers : IfOk result (Delivers honest (meaning query) old batch.number batch.rows new)
+  pub refuses : IfErr result (Refuses old batch new)
+  pub part : IsPartOf query new

@@ -1,16 +1,12 @@
 //! Joining two parts of one origin.
 
-ghost use Rattle.std.specs.Prelude.{◌≡◌, ◌≢◌, ◌≤◌, ℕ, Option, None, IsTrue, IfOk, IfErr, OnOk, OnErr};
+ghost use Rattle.std.specs.Prelude.{◌≡◌, ◌≤◌, ℕ, Option, IfOk, IfErr};
 ghost use Rattle.having_filter.specs.Meaning.{meaning};
-ghost use Rattle.hash_agg.specs.Counting.{AreCounted, setting_by};
-ghost use Rattle.origin_prefix.specs.Parts.{Batches, IsPartOf, Drains, aggregations_behind};
-ghost use Rattle.origin_prefix.specs.Joins.{PartsDisagree, DisagreeAt, JoinTells, Joins, Unites, JoinIsCounted};
-ghost use Rattle.origin_prefix.specs.Errors.{join_faults};
-ghost use Rattle.tape_disks.specs.Calls.{failed};
-ghost use Rattle.tape_disks.specs.Disk.{DiskFrame};
-ghost use Rattle.spill_partitions.specs.Errors.{spill_faults};
-ghost use Rattle.spill_partitions.specs.declared.error.SpillError.TheVariants.{TapeDamaged};
-ghost use Rattle.origin_prefix.specs.declared.error.JoinError.TheVariants.{OriginDisagrees, Spill};
+ghost use Rattle.hash_agg.specs.Ran.{Ran, ended};
+ghost use Rattle.origin_prefix.specs.Errors.{join_ended};
+ghost use Rattle.origin_prefix.specs.Parts.{Batches, IsPartOf, Drains};
+ghost use Rattle.origin_prefix.specs.Joins.{PartsDisagree, DisagreeAt, Joining, JoinIsCounted, Unites, UniteIsCounted};
+ghost use Rattle.origin_prefix.specs.declared.error.JoinError.TheVariants.{OriginDisagrees};
 
 use crate::early::{copy_above, first_difference};
 use crate::error::JoinError;
@@ -34,16 +30,9 @@ impl OriginPart {
     ) -> Result<OriginPart, JoinError>
         requires part { IsPartOf query.now self.now }
         requires other { IsPartOf query.now other.now }
-        ensures joins { IfOk result (Joins (D.honest disk.old) (meaning query.now) self.now other.now) }
-        ensures counted { OnOk result (IsTrue (D.honest disk.old) →
-            JoinIsCounted (meaning query.now) (setting_by H.hash_of (meaning query.now) means.now) self.now other.now
-            work.old (D.writes disk.old) work.new (D.writes disk.new)) }
-        ensures uncounted { OnErr result (work.new ≡ work.old) }
-        ensures part { IfOk result (IsPartOf query.now) }
-        ensures agree { IfOk result (λ _. ¬ (PartsDisagree self.now other.now)) }
-        ensures tells { IfErr result (λ why. JoinTells why self.now other.now) }
-        ensures undamaged { IfErr result (λ e. IsTrue (D.honest disk.old) → e ≢ Spill TapeDamaged) }
-        ensures disk { DiskFrame D.TapeDisk (failed join_faults result) disk.old disk.new }
+        ensures joining { Joining (D.honest disk.old) query.now self.now other.now result }
+        ensures ran { Ran D.TapeDisk H.hash_of query.now means.now (JoinIsCounted self.now other.now) (join_ended result) disk.old
+            work.old disk.new work.new }
     {
         self.agree(other)?;
         if self.prefix < other.prefix {
@@ -85,15 +74,9 @@ impl OriginPart {
         ensures joins { IfOk result (λ part. (behind : Batches)
             × Unites self.now.prefix self.now shorter.now behind
             × Drains (D.honest disk.old) (meaning query.now) self.now.prefix self.now.run behind part) }
-        ensures counted { OnOk result (IsTrue (D.honest disk.old) → (behind : Batches)
-            × Unites self.now.prefix self.now shorter.now behind
-            × AreCounted (meaning query.now) (setting_by H.hash_of (meaning query.now) means.now)
-            (aggregations_behind self.now.prefix behind)
-            work.old (D.writes disk.old) work.new (D.writes disk.new)) }
-        ensures uncounted { OnErr result (work.new ≡ work.old) }
         ensures part { IfOk result (IsPartOf query.now) }
-        ensures undamaged { IfErr result (λ error. IsTrue (D.honest disk.old) → error ≢ TapeDamaged) }
-        ensures disk { DiskFrame D.TapeDisk (failed spill_faults result) disk.old disk.new }
+        ensures ran { Ran D.TapeDisk H.hash_of query.now means.now (UniteIsCounted self.now shorter.now) (ended result) disk.old
+            work.old disk.new work.new }
     {
         let mut early = BTreeMap::new(self.alloc);
         copy_above(self.alloc, &self.early, self.prefix, &mut early)?;

@@ -1,26 +1,23 @@
 //! What is held of one origin.
 
-ghost use Rattle.std.specs.Prelude.{◌≡◌, ◌≢◌, ◌≤◌, ◌+◌, ◌*◌, ℕ, List, [], map, false, IfOk, IfErr, OnOk, OnErr, IsTrue, nat_le, ◌||◌};
+ghost use Rattle.std.specs.Prelude.{◌≡◌, ◌≢◌, ◌≤◌, ◌+◌, ◌*◌, ◌||◌, ℕ, List, map, nat_le, IfOk, IfErr, OnOk, OnErr};
 ghost use Rattle.std.specs.Option.{is_some, option_copied};
-ghost use Rattle.grouping_model.specs.declared.limits.TheConstants.{LAST_NUMBER, MAX_ROWS};
+ghost use Rattle.std.specs.BTreeMap.{insert_entry};
 ghost use Rattle.std.specs.List.{AllByRecursion};
 ghost use Rattle.std.specs.List.Sorted.{IsStrictlySortedBy};
-ghost use Rattle.hash_agg.specs.Inputs.{Packed, brought};
-ghost use Rattle.hash_agg.specs.Counting.{AreCounted, setting_by};
+ghost use Rattle.std.specs.Ordering.{nat_cmp};
+ghost use Rattle.grouping_model.specs.declared.limits.TheConstants.{LAST_NUMBER, MAX_ROWS};
+ghost use Rattle.grouping_model.specs.declared.delivered.Delivered.TheVariants.{Early, Known};
 ghost use Rattle.having_filter.specs.Meaning.{meaning};
 ghost use Rattle.packed_rows.specs.Columns.{kinds};
 ghost use Rattle.batch_reader.specs.Rows.{ArePackedRows};
-ghost use Rattle.origin_prefix.specs.Parts.{Part, empty, rows_at, is_nothing, IsOpen, IsPartOf, behind, following, rows_following};
-ghost use Rattle.origin_prefix.specs.Parts.{aggregations_behind, aggregations_on, Folds, Drains, Delivers, BatchTells};
-ghost use Rattle.tape_disks.specs.Calls.{failed};
-ghost use Rattle.tape_disks.specs.Disk.{DiskFrame};
-ghost use Rattle.spill_partitions.specs.Errors.{spill_faults};
-ghost use Rattle.spill_partitions.specs.declared.error.SpillError.TheVariants.{TapeDamaged};
-ghost use Rattle.origin_prefix.specs.Errors.{no_memory, batch_faults};
-ghost use Rattle.origin_prefix.specs.declared.error.JoinError.TheVariants.{OriginDisagrees, Spill};
-ghost use Rattle.grouping_model.specs.declared.delivered.Delivered.TheVariants.{Early, Known};
-ghost use Rattle.std.specs.BTreeMap.{insert_entry};
-ghost use Rattle.std.specs.Ordering.{nat_cmp};
+ghost use Rattle.hash_agg.specs.Counting.{AreCounted};
+ghost use Rattle.hash_agg.specs.Inputs.{Packed, brought};
+ghost use Rattle.hash_agg.specs.Ran.{Ran, ended};
+ghost use Rattle.origin_prefix.specs.Errors.{batch_ended, no_memory};
+ghost use Rattle.origin_prefix.specs.Parts.{Part, empty, rows_at, is_nothing, behind, following, rows_following, aggregations_with};
+ghost use Rattle.origin_prefix.specs.Parts.{aggregations_on, Delivery, DrainsWith, IsOpenWith, IsPartOf};
+ghost use Rattle.origin_prefix.specs.declared.error.JoinError.TheVariants.{OriginDisagrees};
 
 use crate::early::{add_following, drop_first};
 use crate::error::{JoinError, RefusedBatch};
@@ -176,19 +173,11 @@ impl OriginPart {
         disk: &mut D,
         work: &mut Work,
     ) -> Result<(), SpillError>
-        requires may { IsOpen query.now self.old.prefix self.old.run
-            (behind self.old.prefix self.old.early (option_copied next)) }
-        ensures drained { OnOk result (Drains (D.honest disk.old) (meaning query.now) self.old.prefix self.old.run
-            (behind self.old.prefix self.old.early (option_copied next.entry)) self.new) }
-        ensures counted { OnOk result (IsTrue (D.honest disk.old) →
-            AreCounted (meaning query.now) (setting_by H.hash_of (meaning query.now) means.now)
-            (aggregations_behind self.old.prefix
-            (behind self.old.prefix self.old.early (option_copied next.entry)))
-            work.old (D.writes disk.old) work.new (D.writes disk.new)) }
+        requires may { IsOpenWith query.now self.old (option_copied next) }
+        ensures drained { OnOk result (DrainsWith (D.honest disk.old) (meaning query.now) self.old (option_copied next.entry) self.new) }
         ensures same { OnErr result (self.new ≡ self.old) }
-        ensures uncounted { OnErr result (work.new ≡ work.old) }
-        ensures undamaged { IfErr result (λ error. IsTrue (D.honest disk.old) → error ≢ TapeDamaged) }
-        ensures disk { DiskFrame D.TapeDisk (failed spill_faults result) disk.old disk.new }
+        ensures ran { Ran D.TapeDisk H.hash_of query.now means.now (AreCounted (aggregations_with self.old (option_copied next.entry)))
+            (ended result) disk.old work.old disk.new work.new }
     {
         let next_is_given = next.is_some();
         let (inputs, upto) = following_inputs(self.alloc, self.prefix, next, &self.early)?;
@@ -260,18 +249,9 @@ impl OriginPart {
         requires part { IsPartOf query.now self.old }
         requires number { (1 ≤ batch.number) × (batch.number ≤ LAST_NUMBER) }
         requires rows { ArePackedRows (kinds query.now.columns) batch.rows }
-        ensures delivers { IfOk result (Delivers (D.honest disk.old) (meaning query.now) self.old
-            batch.number batch.rows self.new) }
-        ensures counted { OnOk result (IsTrue (D.honest disk.old) →
-            AreCounted (meaning query.now) (setting_by H.hash_of (meaning query.now) means.now)
-            (aggregations_on self.old batch.number batch.rows)
-            work.old (D.writes disk.old) work.new (D.writes disk.new)) }
-        ensures uncounted { OnErr result (work.new ≡ work.old) }
-        ensures part { IsPartOf query.now self.new }
-        ensures refused { IfErr result (λ e. (e.batch ≡ batch) × (self.new ≡ self.old)) }
-        ensures tells { IfErr result (λ e. BatchTells e.why self.old batch.number batch.rows) }
-        ensures undamaged { IfErr result (λ e. IsTrue (D.honest disk.old) → e.why ≢ Spill TapeDamaged) }
-        ensures disk { DiskFrame D.TapeDisk (failed batch_faults result) disk.old disk.new }
+        ensures delivery { Delivery (D.honest disk.old) query.now self.old batch self.new result }
+        ensures ran { Ran D.TapeDisk H.hash_of query.now means.now (AreCounted (aggregations_on self.old batch.number batch.rows))
+            (batch_ended result) disk.old work.old disk.new work.new }
     {
         if batch.number <= self.prefix {
             return Ok(Delivered::Known);
