@@ -1,9 +1,9 @@
 -- What a replica holds and tells, and when it fits a world. All of this is our own.
 use Rattle.std.specs.Prelude.{◌≡◌, ◌≢◌, ℕ, ◌*◌, ◌<◌, List, ◌++◌, map, flat_map, Option, Some, None, option_map, unwrap_or, Bool}
 use Rattle.std.specs.Prelude.{if◌then◌else◌, true, false, IsSome}
-use Rattle.std.specs.BTreeMap.{insert_entry}
+use Rattle.std.specs.BTreeMap.{insert_entry, is_at}
 use Rattle.std.specs.List.Sorted.{IsStrictlySortedBy}
-use Rattle.std.specs.Map.{lookup}
+use Rattle.std.specs.Map.{lookup, remove_entry}
 use Rattle.std.specs.Ordering.{eq_by_cmp, nat_cmp}
 use Rattle.grouping_model.specs.declared.limits.TheConstants.{MAX_ROWS}
 use Rattle.grouping_model.specs.declared.delivered.Delivered.{Delivered}
@@ -133,6 +133,11 @@ pub record RefusesAt (old : Parts) (batch : packed.Batch) (new : Parts) (refused
 abbrev pub IsPlace : (old : Parts) (origin : ℕ) (new : Parts) → Bool → Type 0
 IsPlace old origin new true = (part_at old origin ≡ None) × (new ≡ insert_entry nat_cmp old origin empty)
 IsPlace old origin new false = IsSome (part_at old origin) × (new ≡ old)
+
+-- the parts without the one of an origin, if its place was made
+abbrev pub taken_back : (origin : ℕ) → Parts → Bool → Parts
+taken_back origin parts true = remove_entry (is_at (nat_cmp origin)) parts
+taken_back origin parts false = parts
 
 -- what a part of an origin says of it
 abbrev pub known_part : ℕ × Part → KnownOrigin

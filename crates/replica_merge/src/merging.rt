@@ -1,25 +1,12 @@
 //! Merging two replicas: the parts of both are joined aside, and then moved in without taking memory.
 
-ghost use Rattle.std.specs.Prelude.{◌≡◌, ◌≢◌, ℕ, Bool, Option, IsTrue, map, cond, option_map, unwrap_or, Some, IfOk, IfErr, OnOk, OnErr};
+ghost use Rattle.std.specs.Prelude.{◌≡◌, ℕ, Bool, map, cond, option_map, unwrap_or, Some, IfOk};
 ghost use Rattle.std.specs.List.Sorted.{IsStrictlySortedBy};
-ghost use Rattle.std.specs.Option.{option_copied};
 ghost use Rattle.std.specs.Ordering.{eq_by_cmp, nat_cmp};
-ghost use Rattle.grouping_model.specs.World.{World, IsWorld, union};
-ghost use Rattle.packed_rows.specs.Columns.{kinds};
-ghost use Rattle.having_filter.specs.Meaning.{meaning};
-ghost use Rattle.hash_agg.specs.Counting.{setting_by};
-ghost use Rattle.origin_prefix.specs.Parts.{Part, empty, IsPartOf};
-ghost use Rattle.origin_prefix.specs.Joins.{Joins, PartsDisagree, JoinTells, JoinIsCounted};
-ghost use Rattle.origin_prefix.specs.declared.error.JoinError.{JoinError};
-ghost use Rattle.origin_prefix.specs.declared.error.JoinError.TheVariants.{OriginDisagrees, Spill};
-ghost use Rattle.replica_merge.specs.Counting.{MergeIsCounted, JoinsInOrder};
+ghost use Rattle.origin_prefix.specs.Parts.{Part, empty};
+ghost use Rattle.replica_merge.specs.Counting.{MergeRan};
 ghost use Rattle.replica_merge.specs.Replicas.{Held, part_at, AreHeldParts, filled};
 ghost use Rattle.replica_merge.specs.Results.{JoinsHeld, JoinsReplicas, MergesHeld, MergesReplicas};
-ghost use Rattle.spill_partitions.specs.declared.error.SpillError.TheVariants.{TapeDamaged};
-ghost use Rattle.tape_disks.specs.Calls.{failed};
-ghost use Rattle.tape_disks.specs.Disk.{DiskFrame};
-ghost use Rattle.replica_merge.specs.Errors.{merge_faults};
-ghost use Rattle.replica_merge.specs.declared.error.MergeError.TheVariants.{Join};
 
 use crate::error::MergeError;
 use crate::replica::Replica;
@@ -68,6 +55,20 @@ fn places(
     Ok(places)
 }
 
+/// The part of an origin, or this where there is none.
+fn part_or<'a>(
+    parts: &'a BTreeMap<u16, OriginPart>,
+    origin: u16,
+    nothing: &'a OriginPart,
+) -> &'a OriginPart
+    ensures { result.now ≡ unwrap_or (part_at parts.now.entries origin) nothing.now }
+{
+    match parts.get(&origin) {
+        Some(part) => part,
+        None => nothing,
+    }
+}
+
 /// The parts of both, joined aside.
 fn join_all<H: KeyHash + Copy, D: TapeDisk>(
     alloc: Global,
@@ -82,23 +83,16 @@ fn join_all<H: KeyHash + Copy, D: TapeDisk>(
     requires theirs { AreHeldParts query.now theirs.now.entries }
     ensures joins { JoinsReplicas (D.honest disk.old) (record { query = query.now; parts = own.now.entries })
         (record { query = query.now; parts = theirs.now.entries }) result }
-    ensures counted { OnOk result (IsTrue (D.honest disk.old) →
-        MergeIsCounted (meaning query.now) (setting_by H.hash_of (meaning query.now) means.now)
-        own.now.entries theirs.now.entries
-        work.old (D.writes disk.old) work.new (D.writes disk.new)) }
-    ensures uncounted { OnErr result (work.new ≡ work.old) }
-    ensures order { IfErr result (λ e. IsTrue (D.honest disk.old) →
-        JoinsInOrder (meaning query.now) (setting_by H.hash_of (meaning query.now) means.now)
-        own.now.entries theirs.now.entries
-        work.old (D.writes disk.old) e (D.writes disk.new)) }
-    ensures undamaged { IfErr result (λ e. IsTrue (D.honest disk.old) → (at : ℕ) → e ≢ Join at (Spill TapeDamaged)) }
-    ensures disk { DiskFrame D.TapeDisk (failed merge_faults result) disk.old disk.new }
+    ensures ran { MergeRan D.TapeDisk H.hash_of (record { query = query.now; parts = own.now.entries })
+        (record { query = query.now; parts = theirs.now.entries }) means.now result disk.old work.old disk.new work.new }
 {
     let nothing = OriginPart::empty(alloc);
-    let mut joined = places(alloc, own)?;
+    let Ok(mut joined) = places(alloc, own) else {
+        return Err(MergeError::NoMemory);
+    };
     let mut counted = *work;
     for (origin, part) in theirs {
-        let own = own.get(origin).unwrap_or(&nothing);
+        let own = part_or(own, *origin, &nothing);
         let part = match own.join(part, query, means, disk, &mut counted) {
             Ok(part) => part,
             Err(why) => {
@@ -150,7 +144,7 @@ impl Replica {
     ///
     /// `DifferentQuery`, and then by rising origin `OriginDisagrees` where its parts disagree, with the first number where they do, and
     /// want of memory or the error of the disk of tapes over which its batches are aggregated. The parts of all lower origins were joined
-    /// before, by construction; `order` has what a clause can say of it.
+    /// before, by construction; `order` of `MergeRan` has what a clause can say of it.
     pub fn join<H: KeyHash + Copy, D: TapeDisk>(
         &self,
         other: &Replica,
@@ -159,18 +153,7 @@ impl Replica {
         work: &mut Work,
     ) -> Result<Joined, MergeError>
         ensures joins { JoinsReplicas (D.honest disk.old) self.now other.now result }
-        ensures counted { OnOk result (IsTrue (D.honest disk.old) →
-            MergeIsCounted (meaning self.now.query) (setting_by H.hash_of (meaning self.now.query) means.now)
-            self.now.parts other.now.parts
-            work.old (D.writes disk.old) work.new (D.writes disk.new)) }
-        ensures uncounted { OnErr result (work.new ≡ work.old) }
-        // Over an honest disk, at least the pages are written that joining the parts of all lower origins takes.
-        ensures order { IfErr result (λ e. IsTrue (D.honest disk.old) →
-            JoinsInOrder (meaning self.now.query) (setting_by H.hash_of (meaning self.now.query) means.now)
-            self.now.parts other.now.parts
-            work.old (D.writes disk.old) e (D.writes disk.new)) }
-        ensures undamaged { IfErr result (λ e. IsTrue (D.honest disk.old) → (at : ℕ) → e ≢ Join at (Spill TapeDamaged)) }
-        ensures disk { DiskFrame D.TapeDisk (failed merge_faults result) disk.old disk.new }
+        ensures ran { MergeRan D.TapeDisk H.hash_of self.now other.now means.now result disk.old work.old disk.new work.new }
     {
         if !self.query.same_query(&other.query) {
             return Err(MergeError::DifferentQuery);
@@ -213,18 +196,7 @@ impl Replica {
         work: &mut Work,
     ) -> Result<(), MergeError>
         ensures merges { MergesReplicas (D.honest disk.old) self.old other.now self.new result }
-        ensures counted { OnOk result (IsTrue (D.honest disk.old) →
-            MergeIsCounted (meaning self.old.query) (setting_by H.hash_of (meaning self.old.query) means.now)
-            self.old.parts other.now.parts
-            work.old (D.writes disk.old) work.new (D.writes disk.new)) }
-        ensures uncounted { OnErr result (work.new ≡ work.old) }
-        // Over an honest disk, at least the pages are written that joining the parts of all lower origins takes.
-        ensures order { IfErr result (λ e. IsTrue (D.honest disk.old) →
-            JoinsInOrder (meaning self.old.query) (setting_by H.hash_of (meaning self.old.query) means.now)
-            self.old.parts other.now.parts
-            work.old (D.writes disk.old) e (D.writes disk.new)) }
-        ensures undamaged { IfErr result (λ e. IsTrue (D.honest disk.old) → (at : ℕ) → e ≢ Join at (Spill TapeDamaged)) }
-        ensures disk { DiskFrame D.TapeDisk (failed merge_faults result) disk.old disk.new }
+        ensures ran { MergeRan D.TapeDisk H.hash_of self.old other.now means.now result disk.old work.old disk.new work.new }
     {
         let joined = self.join(other, means, disk, work)?;
         self.commit(joined);

@@ -1,31 +1,25 @@
 //! What a replica holds, and what it tells of it.
 
-ghost use Rattle.std.specs.Prelude.{◌≡◌, ◌≢◌, ◌+◌, ◌≤◌, ℕ, List, Option, None, All, [], map, length, Some, IsSome, IsTrue, false, IfOk};
-ghost use Rattle.std.specs.Prelude.{IfErr, OnOk, OnErr};
-ghost use Rattle.grouping_model.specs.declared.limits.TheConstants.{LAST_NUMBER};
+ghost use Rattle.std.specs.Prelude.{◌≡◌, ℕ, List, None, All, [], map, length, IfOk, OnErr};
 ghost use Rattle.grouping_model.specs.Answer.{answer};
-ghost use Rattle.grouping_model.specs.Datum.{Row};
-ghost use Rattle.grouping_model.specs.Replies.{InLimits, reply_of, known_list};
-ghost use Rattle.grouping_model.specs.World.{World, IsWorld, knows, learn};
+ghost use Rattle.grouping_model.specs.Replies.{InLimits, known_list};
+ghost use Rattle.grouping_model.specs.World.{World, IsWorld};
 ghost use Rattle.packed_rows.specs.Columns.{kinds};
-ghost use Rattle.batch_reader.specs.Rows.{ArePackedRows, packings};
+ghost use Rattle.batch_reader.specs.Rows.{ArePackedRows};
 ghost use Rattle.having_filter.specs.Meaning.{meaning};
-ghost use Rattle.hash_agg.specs.Counting.{AreCounted, setting_by};
-ghost use Rattle.origin_prefix.specs.Parts.{IsPartOf, Disagrees, BatchTells, aggregations_on};
-ghost use Rattle.origin_prefix.specs.Errors.{batch_faults};
-ghost use Rattle.origin_prefix.specs.declared.error.JoinError.TheVariants.{OriginDisagrees, Spill};
-ghost use Rattle.tape_disks.specs.Calls.{failed};
-ghost use Rattle.tape_disks.specs.Disk.{DiskFrame};
-ghost use Rattle.spill_partitions.specs.declared.error.SpillError.{SpillError};
-ghost use Rattle.spill_partitions.specs.declared.error.SpillError.TheVariants.{TapeDamaged};
-ghost use Rattle.replica_merge.specs.Replicas.{IsPlace, part_of, told, Fits, known_of, known_part};
+ghost use Rattle.hash_agg.specs.Counting.{AreCounted};
+ghost use Rattle.hash_agg.specs.Ran.{Ran};
+ghost use Rattle.origin_prefix.specs.Parts.{aggregations_on};
+ghost use Rattle.origin_prefix.specs.Errors.{batch_ended};
+ghost use Rattle.replica_merge.specs.Replicas.{IsPlace, taken_back, part_at, part_of, told, Fits, known_of};
+ghost use Rattle.replica_merge.specs.Replicas.{known_part};
 ghost use Rattle.replica_merge.specs.Results.{DeliversBatch};
 
 use crate::known_origin::KnownOrigin;
 use crate::uniting::{listed, run_alone, united};
 use batch_reader::{Batch, PackedRows};
 use group_answers::finalize_and_project;
-use hash_agg::{KeyHash, Means, SpillError, TapeDisk, Work};
+use hash_agg::{KeyHash, Means, TapeDisk, Work};
 use having_filter::{Answer, Query};
 use origin_prefix::{Delivered, JoinError, OriginPart, RefusedBatch};
 use std::alloc::{AllocError, Global};
@@ -91,14 +85,23 @@ fn place_of(
     origin: u16,
 ) -> Result<bool, AllocError>
     ensures place { IfOk result (IsPlace parts.old.entries origin parts.new.entries) }
-    ensures same { OnErr result (parts.new.entries ≡ parts.old.entries) }
+    ensures none { OnErr result ((part_at parts.old.entries origin ≡ None) × (parts.new.entries ≡ parts.old.entries)) }
 {
     if parts.contains_key(&origin) {
         return Ok(false);
     }
-    match parts.insert(origin, OriginPart::empty(alloc)) {
-        Ok(_) => Ok(true),
-        Err(_) => Err(AllocError),
+    if parts.insert(origin, OriginPart::empty(alloc)).is_err() {
+        return Err(AllocError);
+    }
+    Ok(true)
+}
+
+/// Takes the place of an origin away again, if it was made.
+fn take_back(parts: &mut BTreeMap<u16, OriginPart>, origin: u16, is_new: bool)
+    ensures { parts.new.entries ≡ taken_back origin parts.old.entries is_new }
+{
+    if is_new {
+        parts.remove(&origin);
     }
 }
 
@@ -143,14 +146,9 @@ impl Replica {
         requires limits { InLimits (batch.origin, batch.number) }
         requires rows { ArePackedRows (kinds self.old.query.columns) batch.rows }
         ensures delivers { DeliversBatch (D.honest disk.old) self.old batch self.new result }
-        // What the aggregation of the batches that were folded took was added to the work.
-        ensures counted { OnOk result (IsTrue (D.honest disk.old) →
-            AreCounted (meaning self.old.query) (setting_by H.hash_of (meaning self.old.query) means.now)
-            (aggregations_on (part_of self.old.parts batch.origin) batch.number batch.rows)
-            work.old (D.writes disk.old) work.new (D.writes disk.new)) }
-        ensures uncounted { OnErr result (work.new ≡ work.old) }
-        ensures undamaged { IfErr result (λ e. IsTrue (D.honest disk.old) → e.why ≢ Spill TapeDamaged) }
-        ensures disk { DiskFrame D.TapeDisk (failed batch_faults result) disk.old disk.new }
+        ensures ran { Ran D.TapeDisk H.hash_of self.old.query means.now
+            (AreCounted (aggregations_on (part_of self.old.parts batch.origin) batch.number batch.rows)) (batch_ended result)
+            disk.old work.old disk.new work.new }
     {
         // The part has its place before the batch is taken, so that a batch is never lost.
         let origin = batch.origin;
@@ -164,9 +162,7 @@ impl Replica {
         match part.deliver(&self.query, batch, means, disk, work) {
             Ok(delivered) => Ok(delivered),
             Err(refused) => {
-                if is_new {
-                    self.parts.remove(&origin);
-                }
+                take_back(&mut self.parts, origin, is_new);
                 Err(refused)
             }
         }

@@ -15,7 +15,7 @@ use Rattle.std.proofs.lemmas.Result.{IfOk-weaker, IfErr-weaker}
 use Rattle.replica_merge.specs.Lemmas.Words.{LAST_ORIGIN, Row, InLimits, reply_of, World, IsWorld, knows, learn, prefix, kinds, packings, Checked}
 use Rattle.replica_merge.specs.Lemmas.Words.{meaning, Part, empty, rows_at, tells, IsEarly, IsPartOf, Delivers, Disagrees, BatchTells}
 use Rattle.replica_merge.specs.Lemmas.Words.{OriginDisagrees, Spill, FitsOrigin, Parts, part_at, part_of, told, Held, Fits, IsHeldPart}
-use Rattle.replica_merge.specs.Lemmas.Words.{AreHeldParts, DeliversAt, RefusesAt}
+use Rattle.replica_merge.specs.Lemmas.Words.{AreHeldParts, DeliversAt, RefusesAt, Delivery, IsPlace, taken_back}
 use Rattle.grouping_model.specs.declared.delivered.Delivered.{Delivered}
 use Rattle.grouping_model.specs.declared.delivered.Delivered.TheVariants.{Folded, Early, Known}
 use Rattle.grouping_model.specs.KnowledgeLaws.{same_knowledge, knows_learn}
@@ -27,7 +27,7 @@ use Rattle.origin_prefix.specs.Lemmas.ByNumber.{at, found_holds, all_found, put_
 use Rattle.origin_prefix.specs.Lemmas.TellingLaws.{delivered_tells}
 use Rattle.origin_prefix.specs.Lemmas.FittingLaws.{fits_delivered, agrees_delivered}
 use Rattle.replica_merge.specs.Lemmas.ToldLaws.{held_part}
-use Rattle.replica_merge.specs.Lemmas.ToldLaws.{told_is, same_batch, HasGap, part_gap, prefix_told, part_here}
+use Rattle.replica_merge.specs.Lemmas.ToldLaws.{empty_tells, told_is, same_batch, HasGap, part_gap, prefix_told, part_here}
 
 -- ---- maps
 
@@ -56,32 +56,31 @@ when_fine (Err x) P p e = absurd (true≢false e)
 
 pub taken_at : (r : Result Delivered RefusedBatch) (honest : Bool) (query : Checked) (old new : BTreeMap ℕ Part) (batch : Batch)
     (before after : Part)
-    → part_at old.entries batch.origin ≡ Some before → WritesThrough nat_cmp (nat_cmp batch.origin) old after new → IsPartOf query after
-    → IfOk r (Delivers honest (meaning query) before batch.number batch.rows after) → IfErr r (λ e. (e.batch ≡ batch) × (after ≡ before))
-    → IfErr r (λ e. BatchTells e.why before batch.number batch.rows)
+    → part_at old.entries batch.origin ≡ Some before → WritesThrough nat_cmp (nat_cmp batch.origin) old after new
+    → Delivery honest query before batch after r
     → IfOk r (DeliversAt honest query old.entries batch.origin batch.number batch.rows new.entries)
     × IfErr r (RefusesAt old.entries batch new.entries)
-taken_at (Ok reply) honest query old new batch before after there written is d refused tells =
+taken_at (Ok reply) honest query old new batch before after there written d =
     let updates = written.3 (ap is_some there) in (
       record {
         part = after;
         own = updates.1;
         delivers = subst (λ (p : Part). Delivers honest (meaning query) p batch.number batch.rows after reply)
-            (sym (part_here old.entries batch.origin before there)) d;
-        is_part = is;
+            (sym (part_here old.entries batch.origin before there)) d.delivers;
+        is_part = d.part;
         others = λ other apart. updates.2 other (is_other batch.origin other (λ e. apart (sym e)));
         rising = written.4;
       },
       tt,
     )
-taken_at (Err e) honest query old new batch before after there written is d refused tells =
+taken_at (Err e) honest query old new batch before after there written d =
     let here : before ≡ part_of old.entries batch.origin = sym (part_here old.entries batch.origin before there) in (
       tt,
       record {
-        back = refused.0;
-        same = written.0 ∙ ap (set_value (is_at (nat_cmp batch.origin)) old.entries) refused.1
+        back = d.refuses.back;
+        same = written.0 ∙ ap (set_value (is_at (nat_cmp batch.origin)) old.entries) d.refuses.same
             ∙ set_value_same (is_at (nat_cmp batch.origin)) old.entries before there;
-        tells = subst (λ (p : Part). BatchTells e.why p batch.number batch.rows) here tells;
+        tells = subst (λ (p : Part). BatchTells e.why p batch.number batch.rows) here d.refuses.tells;
       },
     )
 
@@ -117,6 +116,38 @@ first_refused old between failed new batch e none put r removed =
       same = removed ∙ ap (remove_entry (is_at (nat_cmp batch.origin))) (r.same ∙ put) ∙ taken_out old batch.origin empty none;
       tells = subst (λ (p : Part). BatchTells e.why p batch.number batch.rows) nothing r.tells;
     }
+
+-- the same where the place of its origin may be new
+pub placed_part : (old between : Parts) (o : ℕ) (is_new : Bool) → IsPlace old o between is_new → part_of between o ≡ part_of old o
+placed_part old between o true (none, put) = made_part old between o none put
+placed_part old between o false (there, same) = ap (λ ps. part_of ps o) same
+
+pub placed_delivers : (honest : Bool) (query : Checked) (old between new : Parts) (o n : ℕ) (rows : List (List ℕ)) (reply : Delivered)
+    (is_new : Bool) → IsPlace old o between is_new
+    → DeliversAt honest query between o n rows new reply → DeliversAt honest query old o n rows new reply
+placed_delivers honest query old between new o n rows reply true (none, put) d =
+    first_delivers honest query old between new o n rows reply none put d
+placed_delivers honest query old between new o n rows reply false (there, same) d =
+    subst (λ ps. DeliversAt honest query ps o n rows new reply) same d
+
+pub placed_refused : (old between failed new : Parts) (batch : Batch) (e : RefusedBatch) (is_new : Bool)
+    → IsPlace old batch.origin between is_new → RefusesAt between batch failed e → new ≡ taken_back batch.origin failed is_new
+    → RefusesAt old batch new e
+placed_refused old between failed new batch e true (none, put) r back = first_refused old between failed new batch e none put r back
+placed_refused old between failed new batch e false (there, same) r back = record {
+  back = r.back;
+  same = back ∙ r.same ∙ same;
+  tells = subst (λ ps. BatchTells e.why (part_of ps batch.origin) batch.number batch.rows) same r.tells;
+}
+
+pub placed_there : (old between : Parts) (o : ℕ) (is_new : Bool) → IsPlace old o between is_new → part_at between o ≡ None → ⊥
+placed_there old between o true (none, put) e = true≢false (ap is_some (sym (ap (λ ps. part_at ps o) put ∙ put_same old o empty) ∙ e))
+placed_there old between o false (there, same) e =
+    true≢false (sym there ∙ ap is_some (sym (ap (λ ps. part_at ps o) same) ∙ e))
+
+-- no part of an origin tells no number
+pub none_tells : (parts : Parts) (o n : ℕ) → part_at parts o ≡ None → tells (part_of parts o) n ≡ false
+none_tells parts o n none = ap (λ found. tells (unwrap_or found empty) n) none ∙ empty_tells n
 
 -- ---- the whole replica
 

@@ -305,17 +305,17 @@ never_refused query own theirs origin number d world fits fits_other =
     go (Some n) first = inr (n, first.1.0)
 
 -- one part more is joined and counted
-pub counted_more : (query : Query) (setting : Setting) (own front : Parts) (held : ℕ × Part) (old : Work) (writes : ℕ) (work : Work)
+pub counted_more : (own front : Parts) (held : ℕ × Part) (query : Query) (setting : Setting) (old : Work) (writes : ℕ) (work : Work)
     (pages : ℕ) (new : Work) (written : ℕ)
-    → MergeIsCounted query setting own front old writes work pages → JoinIsCounted query setting (part_of own held.0) held.1 work pages new
+    → MergeIsCounted own front query setting old writes work pages → JoinIsCounted (part_of own held.0) held.1 query setting work pages new
     written
-    → MergeIsCounted query setting own (front ++ (held ∷ [])) old writes new written
-counted_more query setting own [] held old writes work pages new written (same, none) joined = (
+    → MergeIsCounted own (front ++ (held ∷ [])) query setting old writes new written
+counted_more own [] held query setting old writes work pages new written (same, none) joined = (
   new,
   written,
-  subst (λ (w : Work). JoinIsCounted query setting (part_of own held.0) held.1 w writes new written) same
-      (subst (λ (n : ℕ). JoinIsCounted query setting (part_of own held.0) held.1 work n new written) none joined),
+  subst (λ (w : Work). JoinIsCounted (part_of own held.0) held.1 query setting w writes new written) same
+      (subst (λ (n : ℕ). JoinIsCounted (part_of own held.0) held.1 query setting work n new written) none joined),
   (refl, refl),
 )
-counted_more query setting own (first ∷ front) held old writes work pages new written (one, mid, counted, rest) joined =
-    (one, mid, counted, counted_more query setting own front held one mid work pages new written rest joined)
+counted_more own (first ∷ front) held query setting old writes work pages new written (one, mid, counted, rest) joined =
+    (one, mid, counted, counted_more own front held query setting one mid work pages new written rest joined)
