@@ -23,3 +23,4 @@ pub mod FitLaws
 pub mod FewLaws
 pub mod ReturnLaws
 pub mod AddedLaws
+pub mod AnswerLaws

@@ -36,7 +36,8 @@ pub use Rattle.tape_disks.specs.declared.disk.TapeDisk.{Ghosts}
 pub use Rattle.hash_agg.specs.Added.{Added, AddedBy, AddedOne, Adds, Are, Continues, CountsWithin, Entries, Finished, HasRoom}
 pub use Rattle.hash_agg.specs.Added.{IsDone, IsOver, IsReady, IsSafeRun, IsSelected, IsUnderway, KeepsLater, KeepsPass, MadeFirst}
 pub use Rattle.hash_agg.specs.Added.{MadeLater, On_tape, Packed_rows, Refused, RefusedBy, Source, enters, query_of, setting_in, source_of}
-pub use Rattle.hash_agg.specs.Inputs.{AllBring, AllGive, AreInputs, AreInputsOf, ArePackings, Brought, Counted, Given, IsAggregate, IsInput, IsRunOver}
+pub use Rattle.hash_agg.specs.Inputs.{AllBring, AllGive, AreInputs, AreInputsOf, ArePackings, Brought}
+pub use Rattle.hash_agg.specs.Inputs.{Counted, Given, IsAggregate, IsInput, IsRunOver}
 pub use Rattle.hash_agg.specs.Inputs.{Of_groups, Of_rows, OneByOne, Packed, all_groups, all_rows, brought, groups_in, packings_in, rows_in}
 pub use Rattle.hash_agg.specs.Passes.{AreCosted, AreGroupsBy, AreHeld, AreOfRun, AreOnce, ArePieces, AreRows, AreSafe, Brings, CanRead}
 pub use Rattle.hash_agg.specs.Passes.{CanReadList, CountUpTo, GroupsState, Holds, IsCosted, IsGroupRecord, IsAbbreviated, IsParted, IsPiece}

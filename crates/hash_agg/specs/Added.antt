@@ -1,4 +1,4 @@
--- What a pass adds to its groups and lists, and what it leaves of its disk. All of this is our own.
+-- What a pass adds to its groups and partitions, and what it leaves of its disk. All of this is our own.
 use Rattle.std.specs.Prelude.{◌≡◌, ◌≢◌, ℕ, ◌+◌, ◌≤◌, ◌<◌, ◌&&◌, max, Bool, true, false, List, [], ◌∷◌, ◌++◌, length, IsTrue, IfErr, OnOk}
 use Rattle.std.specs.Prelude.{Result}
 use Rattle.std.specs.List.Sorted.{IsPermutation}
@@ -86,7 +86,7 @@ pub record KeepsPass {H : Type 0} (old new : Pass H) : Type 0 where
   pub table : IsSameTable old.plan.limit old.groups new.groups
   pub lists : KeepsRest old.lists new.lists
 
--- whether a key that isn't there enters its table
+-- whether its table takes a key that isn't there
 abbrev pub enters : {H : Type 0} → (List ℕ → ℕ) → Pass H → List ℕ → Bool
 enters hash pass key = is_empty pass.lists.partitions && fits (setting_of pass.plan hash) (packed_keys (entries_of pass.groups) ++ key ∷ [])
 

@@ -107,7 +107,7 @@ AllBring query [] [] = Unit {0}
 AllBring query (input ∷ inputs) (keys ∷ lists) = Brings query input keys × AllBring query inputs lists
 AllBring query inputs lists = ⊥
 
--- what aggregation gives of inputs: over lists of rows the groups of all of them on end; for all inputs the keys that they bring,
+-- what aggregation gives of inputs: over lists of rows the groups of all of them, concatenated; for all inputs the keys that they bring,
 -- each once and rising, and states that count at most as many rows as there are
 pub record IsAggregate (query : Query) (inputs : List Brought) (run : List Entry) : Type 0 where
   pub part : (lists : List (List Row)) → AreInputsOf query inputs lists

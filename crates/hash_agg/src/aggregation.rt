@@ -101,7 +101,7 @@ fn first_pass<H: KeyHash + Drop, D: TapeDisk>(
     pass.finish(alloc, disk, work)
 }
 
-/// Makes the passes over the lists that are left, and unites their groups with those of the first.
+/// Makes the passes over the partitions that are left, and unites their groups with those of the first.
 fn later_passes<H: KeyHash + Drop, D: TapeDisk>(
     alloc: Global,
     disk: &mut D,

@@ -120,7 +120,7 @@ impl<H: KeyHash + Drop> Groups<H> {
         self.most_held
     }
 
-    /// How many bytes of blocks are held at most while a group with this key enters, if these are within a limit and the buckets are
+    /// How many bytes of blocks are held at most while a group with this key is inserted, if these are within a limit and the buckets are
     /// not too many.
     pub(crate) fn need_within(&self, key: &[u8], limit: u64) -> Option<u64>
         requires { length key.now ≤ 65535 }

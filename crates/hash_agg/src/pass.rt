@@ -1,4 +1,4 @@
-//! A pass: the groups that its table takes, and the records that it spills to lists for later passes.
+//! A pass: the groups that its table takes, and the records that it spills to partitions for later passes.
 
 ghost use Rattle.std.specs.Prelude.{◌≡◌, ◌≢◌, ◌≤◌, ℕ, List, [], ◌∷◌, is_some, length, IfOk, IfErr, IfSome, OnOk};
 ghost use Rattle.tape_disks.specs.Calls.{failed};
@@ -76,8 +76,8 @@ impl<'q, H: KeyHash + Drop> Pass<'q, H> {
         })
     }
 
-    /// How many bytes of blocks the table holds at most while a group that isn't there enters it, if it may insert.
-    fn room_for(&self, key: &[u8]) -> Option<u64>
+    /// How many bytes of blocks the table holds at most while it inserts a group that isn't there, if it may.
+    fn need_to_insert(&self, key: &[u8]) -> Option<u64>
         requires ready { IsReady self.now }
         requires key { length key.now ≤ 8192 }
         ensures room { IfSome result (HasRoom self.now key.now) }
@@ -111,7 +111,7 @@ impl<'q, H: KeyHash + Drop> Pass<'q, H> {
                 Err(BadState) => Err(SpillError::TapeDamaged),
             };
         }
-        if let Some(need) = self.room_for(key) {
+        if let Some(need) = self.need_to_insert(key) {
             self.plan.first_after(row, states)?;
             self.groups.insert(key, states, need)?;
             return Ok(());
@@ -141,7 +141,7 @@ impl<'q, H: KeyHash + Drop> Pass<'q, H> {
                 Err(BadState) => Err(SpillError::TapeDamaged),
             };
         }
-        if let Some(need) = self.room_for(key) {
+        if let Some(need) = self.need_to_insert(key) {
             self.groups.insert(key, states, need)?;
             return Ok(());
         }
@@ -290,7 +290,7 @@ impl<'q, H: KeyHash + Drop> Pass<'q, H> {
         }
     }
 
-    /// Reads the records of the list that the pass reads. What `bytes` and `buffers` hold doesn't matter.
+    /// Reads the records of the partition that the pass reads. What `bytes` and `buffers` hold doesn't matter.
     pub(crate) fn add_list<D: TapeDisk>(
         &mut self,
         alloc: Global,

@@ -69,7 +69,7 @@ pub(crate) fn united(alloc: Global, first: &Run, others: &[Run]) -> Result<Run, 
 }
 
 /// How many bytes the keys and the states of groups have, if all are as long as those of the first.
-fn room_for(entries: &[AbbreviatedKey<'_>]) -> (usize, usize) {
+fn total_lengths(entries: &[AbbreviatedKey<'_>]) -> (usize, usize) {
     if entries.is_empty() {
         return (0, 0);
     }
@@ -93,7 +93,7 @@ pub(crate) fn sort_distinct(
     ensures faultless { IfErr result (λ error. error ≢ TapeFault) }
 {
     entries.sort_unstable();
-    let (keys, states) = room_for(entries);
+    let (keys, states) = total_lengths(entries);
     let mut run = Run::with_capacity(alloc, entries.len(), keys, states)?;
     for place in 0..entries.len() {
         let (_, (key, states)) = entries[place];

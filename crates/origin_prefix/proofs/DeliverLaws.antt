@@ -17,12 +17,11 @@ use Rattle.packed_rows.specs.Columns.{kinds}
 use Rattle.batch_reader.specs.Rows.{ArePackedRows}
 use Rattle.query_checks.specs.Checks.{Checked}
 use Rattle.having_filter.specs.Meaning.{meaning}
-use Rattle.origin_prefix.specs.Parts.{Batches, Part, rows_at, tells, IsEarly, IsBehind, IsOpen, IsPartOf, Delivers, BatchTells, Drains}
-use Rattle.origin_prefix.specs.Parts.{behind}
+use Rattle.origin_prefix.specs.Parts.{Batches, Part, rows_at, tells, IsEarly, IsBehind, IsOpen, IsPartOf, Delivers}
+use Rattle.origin_prefix.specs.Parts.{BatchTells, Drains, Refuses, behind}
 use Rattle.batch_reader.specs.declared.batch.Batch.{Batch}
 use Rattle.origin_prefix.specs.declared.error.RefusedBatch.{RefusedBatch}
-use Rattle.origin_prefix.specs.declared.error.JoinError.TheVariants.{OriginDisagrees, Spill}
-use Rattle.spill_partitions.specs.declared.error.SpillError.{SpillError}
+use Rattle.origin_prefix.specs.declared.error.JoinError.TheVariants.{OriginDisagrees}
 use Rattle.origin_prefix.specs.Errors.{no_memory}
 use Rattle.origin_prefix.specs.Lemmas.ByNumber.{numbers, some_is, found_holds, all_put}
 use Rattle.origin_prefix.proofs.PartLaws.{drained_part}
@@ -105,15 +104,18 @@ reply_early honest q part number rows kept r there known =
     IfOk-weaker r (λ reply. (reply ≡ Known) × (kept ≡ rows)) (Delivers honest q part number rows part)
     (λ reply e. subst (Delivers honest q part number rows part) (sym e.0) (known_early honest q part number rows kept there e.1)) known
 
-pub refused_early : (part : Part) (number : ℕ) (batch : Batch) (kept : List (List ℕ)) (r : Result Delivered RefusedBatch)
-    → rows_at part.early number ≡ Some kept
-    → IfErr r (λ e. (e.batch ≡ batch) × (e.why ≡ OriginDisagrees (Some number)) × (kept ≢ batch.rows))
-    → IfErr r (λ e. BatchTells e.why part number batch.rows)
-refused_early part number batch kept r there other =
-    IfErr-weaker r (λ e. (e.batch ≡ batch) × (e.why ≡ OriginDisagrees (Some number)) × (kept ≢ batch.rows))
-    (λ e. BatchTells e.why part number batch.rows)
-    (λ e is. subst (λ why. BatchTells why part number batch.rows) (sym is.1) (refl, record { kept = kept; there = there; other = is.2 }))
-    other
+pub refused_early : (part : Part) (batch : Batch) (kept : List (List ℕ)) (r : Result Delivered RefusedBatch)
+    → rows_at part.early batch.number ≡ Some kept
+    → IfErr r (λ e. (e.batch ≡ batch) × (e.why ≡ OriginDisagrees (Some batch.number)) × (kept ≢ batch.rows))
+    → IfErr r (Refuses part batch part)
+refused_early part batch kept r there other =
+    IfErr-weaker r (λ e. (e.batch ≡ batch) × (e.why ≡ OriginDisagrees (Some batch.number)) × (kept ≢ batch.rows)) (Refuses part batch part)
+    (λ e is. record {
+      back = is.0;
+      same = refl;
+      tells = subst (λ why. BatchTells why part batch.number batch.rows) (sym is.1)
+          (refl, record { kept = kept; there = there; other = is.2 });
+    }) other
 
 -- a number behind the prefix that isn't early is not told
 pub unknown : (part : Part) (number : ℕ) → part.prefix < number → rows_at part.early number ≡ None → tells part number ≡ false
@@ -121,13 +123,16 @@ unknown part number above none =
     let out : nat_le number part.prefix ≡ false = grind arith in λ i. and_right (nat_le 1 number) (nat_le number part.prefix) out i
     || is_some (none i)
 
--- and so whatever is refused for want of memory, or by a disk
-pub unknown_refused : {T : Type 0} (r : Result T RefusedBatch) (part : Part) (number : ℕ) (rows : List (List ℕ)) → part.prefix < number
-    → rows_at part.early number ≡ None
-    → IfErr r (λ e. (error : SpillError) × (e.why ≡ Spill error)) → IfErr r (λ e. BatchTells e.why part number rows)
-unknown_refused (Ok x) part number rows above none spills = tt
-unknown_refused (Err e) part number rows above none spills = subst (λ why. BatchTells why part number rows) (sym spills.1)
-    (unknown part number above none)
+-- and so it may be refused for want of memory
+pub kept_refuses : (old new : Part) (batch : Batch) (r : Result Delivered RefusedBatch) → tells old batch.number ≡ false
+    → IfErr r (λ e. (e.batch ≡ batch) × (e.why ≡ no_memory) × (new ≡ old)) → IfErr r (Refuses old batch new)
+kept_refuses old new batch r unknown refused =
+    IfErr-weaker r (λ e. (e.batch ≡ batch) × (e.why ≡ no_memory) × (new ≡ old)) (Refuses old batch new)
+    (λ e is. record {
+      back = is.0;
+      same = is.2;
+      tells = subst (λ why. BatchTells why old batch.number batch.rows) (sym is.1) unknown;
+    }) refused
 
 -- a batch was kept early, or handed back
 pub part_kept : (r : Result Delivered RefusedBatch) (query : Checked) (old new : Part) (batch : Batch) → IsPartOf query old → old.prefix

@@ -1,5 +1,5 @@
 -- What two parts give that are joined.
-use Rattle.std.specs.Prelude.{◌≡◌, ℕ, ◌<◌, nat_lt, true, List, [], None, if◌then◌else◌}
+use Rattle.std.specs.Prelude.{◌≡◌, ℕ, ◌<◌, nat_lt, Bool, true, List, [], None, if◌then◌else◌, Result, Ok, Err, IsErrAnd}
 use Rattle.std.proofs.Common.{◌∙◌, sym, subst, ap, arith}
 use Rattle.std.specs.List.{AllByRecursion}
 use Rattle.std.specs.List.Sorted.{IsStrictlySortedBy}
@@ -9,7 +9,8 @@ use Rattle.grouping_model.specs.Datum.{Kind}
 use Rattle.packed_rows.specs.Columns.{kinds}
 use Rattle.query_checks.specs.Checks.{Checked}
 use Rattle.origin_prefix.specs.Parts.{Batches, Part, rows_at, IsEarly, IsBehind, IsOpen, IsPartOf}
-use Rattle.origin_prefix.specs.Joins.{either, Unites}
+use Rattle.origin_prefix.specs.Joins.{either, Unites, Joining, JoinTells}
+use Rattle.origin_prefix.specs.declared.error.JoinError.{JoinError}
 use Rattle.origin_prefix.specs.Lemmas.ByNumber.{numbers}
 
 -- what was copied from a part, and then from another, behind a number
@@ -69,3 +70,14 @@ module _ (query : Checked) (a b own shorter : Part) (start first both : Batches)
   pub united_batches : Unites own.prefix own shorter both
   united_batches = subst (λ (p : Part). Unites p.prefix p shorter both) view (subst (λ (p : Part). Unites a.prefix a p both) other_view
       inside_united)
+
+-- what refuses to join parts says of them why
+pub refused_joining : (honest : Bool) (query : Checked) (a b : Part) (r : Result Part JoinError) (error : JoinError)
+    → IsErrAnd r (λ e. e ≡ error) → JoinTells error a b → Joining honest query a b r
+refused_joining honest query a b (Ok x) error given tells = absurd given
+refused_joining honest query a b (Err e) error given tells = record {
+  joins = tt;
+  part = tt;
+  agree = tt;
+  tells = subst (λ why. JoinTells why a b) (sym given) tells;
+}

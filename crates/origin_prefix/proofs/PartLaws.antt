@@ -21,7 +21,7 @@ use Rattle.batch_reader.specs.Rows.{ArePackedRows}
 use Rattle.query_checks.specs.Checks.{Checked}
 use Rattle.having_filter.specs.Meaning.{meaning}
 use Rattle.packed_rows.specs.ConcatenatedRows.{concatenated}
-use Rattle.hash_agg.specs.Inputs.{Packed, Counted, IsAggregate, IsRunOver, IsInput, AllBring, all_rows, rows_in}
+use Rattle.hash_agg.specs.Inputs.{Packed, Counted, Aggregated, IsInput, AllBring, all_rows, rows_in}
 use Rattle.group_runs.specs.Runs.{Entry, packed_keys}
 use Rattle.group_runs.specs.Standing.{IsRun}
 use Rattle.group_runs.specs.StandingLaws.{groups_raised, keys_packed, keys_of_kinds}
@@ -126,18 +126,17 @@ gap_behind n (batch ∷ batches) rising above =
 
 -- a run that took the batches that follow, where some do
 pub folds_some : (honest : Bool) (q : Query) (old new : List Entry) (rows prefix : ℕ) (batches : Batches) → prefix < prefix
-    + following prefix batches → IsRunOver q (Counted old rows ∷ map Packed (rows_following prefix batches)) new
-    → (IsTrue honest → IsAggregate q (Counted old rows ∷ map Packed (rows_following prefix batches)) new)
+    + following prefix batches → Aggregated honest q (Counted old rows ∷ map Packed (rows_following prefix batches)) new
     → Folds honest q old rows (rows_following prefix batches) new
-folds_some honest q old new rows prefix [] some run is = absurd (omega (arith, some))
-folds_some honest q old new rows prefix (b ∷ batches) some run is =
+folds_some honest q old new rows prefix [] some is = absurd (omega (arith, some))
+folds_some honest q old new rows prefix (b ∷ batches) some is =
     elim (b.0 == prefix + 1) as (λ t. let lists : List (List (List ℕ)) = map (λ (batch : ℕ × List (List ℕ)). batch.1)
     (take (if t then suc (following (prefix + 1) batches) else 0) (b ∷ batches)) in
-    prefix < prefix + (if t then suc (following (prefix + 1) batches) else 0) → IsRunOver q (Counted old rows ∷ map Packed lists) new
-    → (IsTrue honest → IsAggregate q (Counted old rows ∷ map Packed lists) new) → Folds honest q old rows lists new) [
-      | true ↦ λ some run is. (run, is)
+    prefix < prefix + (if t then suc (following (prefix + 1) batches) else 0)
+    → Aggregated honest q (Counted old rows ∷ map Packed lists) new → Folds honest q old rows lists new) [
+      | true ↦ λ some is. is
       | false ↦ λ some. absurd (omega (arith, some))
-    ] some run is
+    ] some is
 
 -- what packed rows bring: as many keys as rows at most
 brings_packed : (q : Query) (rows : List (List (List ℕ))) → AllByRecursion (IsInput q) (map Packed rows)
@@ -177,7 +176,7 @@ few_groups honest q rows old new (batch ∷ batches) is all folds =
     let packed : packed_keys old ≡ map packing these = keys_packed q rows old is.groups is.are in
     let rest = brings_packed q (batch ∷ batches) all in
     let few : length new ≤ length (concatenated (these ∷ rest.0)) =
-    folds.0.few (these ∷ rest.0) (record { of_kinds = keys_of_kinds q rows old is.groups is.are; packings_are = packed }, rest.1) in
+    folds.run_over.few (these ∷ rest.0) (record { of_kinds = keys_of_kinds q rows old is.groups is.are; packings_are = packed }, rest.1) in
     let count : length (concatenated (these ∷ rest.0)) ≡ length these
     + length (concatenated rest.0) = length-append these (concatenated rest.0) in
     let as_many : length old ≡ length these = sym (length-map old (λ (e : Entry). e.0)) ∙ ap length packed ∙ length-map these packing in
@@ -191,7 +190,7 @@ still_run honest q rows old new [] is folds =
     let same : rows + all_rows (map Packed []) ≡ rows = omega arith in
     subst (λ n. IsRun q n new) (sym same) (subst (IsRun q rows) (sym folds) is)
 still_run honest q rows old new (batch ∷ batches) is folds = subst (λ n. IsRun q n new)
-    (sum_by-cons rows_in (Counted old rows) (map Packed (batch ∷ batches))) folds.0.is_run
+    (sum_by-cons rows_in (Counted old rows) (map Packed (batch ∷ batches))) folds.run_over.is_run
 
 run_raised : (q : Query) (m n : ℕ) (run : List Entry) → m ≤ n → IsRun q m run → IsRun q n run
 run_raised q m n run low is = record { groups = is.groups; are = groups_raised q m n run is.groups low is.are; rises = is.rises }

@@ -1,5 +1,6 @@
 -- What becomes of two parts of one origin that are joined. All of this is our own.
-use Rattle.std.specs.Prelude.{◌≡◌, ◌≢◌, ℕ, ◌<◌, ◌⊎◌, max, nat_lt, Bool, List, map, Option, Some, None, if◌then◌else◌, Result, IfOk, IfErr, OnOk}
+use Rattle.std.specs.Prelude.{◌≡◌, ◌≢◌, ℕ, ◌<◌, ◌⊎◌, max, nat_lt, Bool, List, map, Option, Some, None}
+use Rattle.std.specs.Prelude.{if◌then◌else◌, Result, IfOk, IfErr, OnOk}
 use Rattle.std.specs.List.{AllByRecursion}
 use Rattle.std.specs.List.Sorted.{IsStrictlySortedBy}
 use Rattle.std.specs.Ordering.{nat_cmp}

@@ -21,6 +21,9 @@ use Rattle.hash_agg.specs.declared.work.Work.{Work}
 abbrev pub Counting : Type 1
 Counting = Query → Setting → Work → ℕ → Work → ℕ → Type 0
 
+pub reason_is : {one other : Option SpillError} → Refused one ≡ Refused other → one ≡ other
+reason_is same = cc
+
 -- an error that is handed on ends a call as its reason says
 pub refused_by : {T E : Type 0} (reason : E → Option SpillError) (r : Result T E) (error : E) → IsErrAnd r (λ e. e ≡ error)
     → ended_by reason r ≡ Refused (reason error)
@@ -70,7 +73,12 @@ module _ {D H : Type 0} (g : Ghosts D) (hash_of : H → List ℕ → ℕ) (query
   ran_weaker Counts Other ended before begun after done weaker ran = record {
     disk = ran.disk;
     undamaged = ran.undamaged;
-    counted = where_done ended _ _ (λ counted honest. weaker (counted honest)) ran.counted;
+    counted = where_done ended
+        (IsTrue (g.honest before)
+        → Counts (meaning query) (setting_by hash_of (meaning query) means) begun (g.writes before) done (g.writes after))
+        (IsTrue (g.honest before)
+        → Other (meaning query) (setting_by hash_of (meaning query) means) begun (g.writes before) done (g.writes after))
+        (λ counted honest. weaker (counted honest)) ran.counted;
     uncounted = ran.uncounted;
     held = ran.held;
   }
@@ -101,9 +109,30 @@ module _ {D H : Type 0} (g : Ghosts D) (hash_of : H → List ℕ → ℕ) (query
     uncounted = refl;
     held = λ low. low;
   }
-    where
-      reason_is : {one other : Option SpillError} → Refused one ≡ Refused other → one ≡ other
-      reason_is same = cc
+
+  -- what is refused counts nothing, whatever was to be counted
+  pub refused_other : (Counts Other : Counting) (reason : Option SpillError) (before : D) (begun : Work) (after : D) (done : Work)
+      → Ran g hash_of query means Counts (Refused reason) before begun after done
+      → Ran g hash_of query means Other (Refused reason) before begun after done
+  refused_other Counts Other reason before begun after done ran = record {
+    disk = ran.disk;
+    undamaged = ran.undamaged;
+    counted = tt;
+    uncounted = ran.uncounted;
+    held = ran.held;
+  }
+
+  -- and so it may be said of any work
+  pub refused_alike : (Counts Other : Counting) (reason : Option SpillError) (before : D) (begun : Work) (after : D) (done work : Work)
+      → Ran g hash_of query means Counts (Refused reason) before begun after done
+      → Ran g hash_of query means Other (Refused reason) before work after work
+  refused_alike Counts Other reason before begun after done work ran = record {
+    disk = ran.disk;
+    undamaged = ran.undamaged;
+    counted = tt;
+    uncounted = refl;
+    held = λ low. low;
+  }
 
   -- a refusal behind calls that are done leaves the work as it was before them all
   pub refused_later : (Counts : Counting) (reason : Option SpillError) (before middle after : D) (work : Work)
@@ -117,6 +146,3 @@ module _ {D H : Type 0} (g : Ghosts D) (hash_of : H → List ℕ → ℕ) (query
     uncounted = refl;
     held = λ low. low;
   }
-    where
-      reason_is : {one other : Option SpillError} → Refused one ≡ Refused other → one ≡ other
-      reason_is same = cc

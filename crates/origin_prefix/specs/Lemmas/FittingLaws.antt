@@ -154,7 +154,7 @@ folds_fit honest so query world is origin p (suc k) run new are folds =
     (groups_raised q (all_rows (Counted run (p * MAX_ROWS) ∷ map Packed (map (packed_batch world origin) ns))) ((p + suc k) * MAX_ROWS) new
     (part q (concatenated lists))
     (omega (arith, sum, few, product, product_too))
-    ((folds.1 so).part lists (are, are_inputs (kinds query.columns) world is origin q refl ns)))
+    ((folds.aggregate so).part lists (are, are_inputs (kinds query.columns) world is origin q refl ns)))
 
 -- a prefix that fits, with batches of the world behind it, fits once it has drained
 drained_fits : (honest : Bool) → IsTrue honest → (query : Checked) (world : World) → IsWorld (kinds query.columns) world

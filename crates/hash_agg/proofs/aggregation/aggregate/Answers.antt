@@ -1,33 +1,117 @@
-use Rattle.std.specs.Prelude.{map}
-use Rattle.std.proofs.Common.{arith}
-use Rattle.aggregation_cost.specs.Lemmas.BoundLaws.{spilled_few}
-use Rattle.hash_agg.proofs.Words.{Query, meaning, states_width, brought, records_of, all_pieces}
-use Rattle.hash_agg.specs.Counting.{cost_given, setting_by}
-use Rattle.hash_agg.proofs.FewLaws.{run_few, records_few}
+use Rattle.std.specs.Prelude.{◌≡◌, ℕ, List, map, IsTrue}
+use Rattle.std.specs.List.{AllByRecursion}
+use Rattle.std.proofs.Common.{sym, ◌∙◌, ap, subst, arith}
+use Rattle.tape_disks.specs.DiskLaws.{leaves_twice}
+use Rattle.hash_agg.proofs.Words.{NoMemory, spill_faults, Query, meaning, IsSafeRun, query_of, Brought, brought, all_rows, IsInput}
+use Rattle.hash_agg.proofs.Words.{CountUpTo, all_pieces, Plan}
+use Rattle.query_checks.specs.Checks.{Checked}
+use Rattle.hash_agg.specs.Counting.{Took, no_work}
+use Rattle.hash_agg.proofs.AnswerLaws.{plan_counts, refused_ran, aggregation_is, aggregation_ran}
+use Rattle.hash_agg.proofs.DiskLaws.{leaves_still}
+use Rattle.hash_agg.proofs.LaterLaws.{MadeAll, begun, made_all}
+use Rattle.hash_agg.proofs.ReturnLaws.{no_if_ok}
 use Rattle.hash_agg.proofs.WholeLaws.{all_given}
-use Rattle.hash_agg.proofs.WorkLaws.{is_work, cost_counts, work_few}
 use Rattle.hash_agg.proofs.aggregation.aggregate.Goals as goal
 
-pub returns-clause-took : goal.returns-clause-took
-returns-clause-took g c = λ honest.
-    let q : Query = meaning c.args.query.now in
-    let counted = c.in_ok-run.ensures.counted honest in
+pub first_pass-requires-clause-inputs : goal.first_pass-requires-clause-inputs
+first_pass-requires-clause-inputs g c =
+    let by = c.in_ok-pass.ensures.by in
+    let inputs : List Brought = map brought c.args.inputs.now in
+    let most : c.in_ok-pass.pass.plan.most ≡ all_rows inputs = ap (λ (plan : Plan). plan.most) by.0 ∙ c.in_ok-plan.ensures.most
+    ∙ c.rows_of_all.ensures in
     record {
-      work = λ givens give.
-          let passes = c.in_ok-run.ensures.few honest givens give in
-          let groups = run_few q (states_width q) (map brought c.args.inputs.now) givens c.in_ok-run.run' c.in_ok-run.ensures.run give in
-          let records = records_few q (states_width q) (map brought c.args.inputs.now) givens give in
-          let spilled = spilled_few (setting_by g.H.KeyHash.hash_of q c.args.means.now)
-          (records_of q (states_width q) (all_pieces (map brought c.args.inputs.now) givens)) in
-          let rows_low = c.requires.few in
-          let groups_low = c.requires.groups in
-          let counts = cost_counts (cost_given q (setting_by g.H.KeyHash.hash_of q c.args.means.now) (map brought c.args.inputs.now) givens)
-          _ (omega (arith, passes, groups)) spilled (omega (arith, records, rows_low, groups_low)) in
-          is_work _ _ _ c.none-work.ensures (counted.work givens give) counts.0 counts.1;
-      pages = counted.pages;
+      are = subst (λ (query : Checked). AllByRecursion (IsInput (meaning query)) inputs) (sym (ap (λ (plan : Plan). plan.query.now) by.0
+          ∙ c.in_ok-plan.ensures.query)) c.requires.inputs.are;
+      few = omega (arith, most);
     }
 
-pub returns-clause-few : goal.returns-clause-few
-returns-clause-few g c = λ honest.
-    let given = all_given (meaning c.args.query.now) (map brought c.args.inputs.now) c.requires.inputs in
-    work_few _ _ _ ((returns-clause-took g c honest).work given.0 given.1) (c.in_ok-run.ensures.few honest given.0 given.1)
+pub later_passes-requires-clause-run : goal.later_passes-requires-clause-run
+later_passes-requires-clause-run g c =
+    let made = c.in_ok-first.ensures.made in
+    subst (λ (plan : Plan). IsSafeRun (meaning plan.query.now) plan.most c.in_ok-first.first) (sym made.plan) made.safe
+
+pub returns-in_err-plan : goal.returns-in_err-plan
+returns-in_err-plan g c =
+    record {
+      aggregated = no_if_ok c.from_residual.result _ c.from_residual.ensures.0;
+      ran = refused_ran g.D.TapeDisk g.H.KeyHash.hash_of c.args.query.now c.args.means.now (Took (map brought c.args.inputs.now))
+          c.from_residual.result NoMemory c.args.disk.now c.args.disk.now c.from_residual.ensures.1
+          (leaves_still g.D.TapeDisk NoMemory c.args.disk.now (λ same. cc)) (λ honest same. cc);
+    }
+
+pub returns-in_err-pass : goal.returns-in_err-pass
+returns-in_err-pass g c =
+    record {
+      aggregated = no_if_ok c.from_residual-in_err-pass.result _ c.from_residual-in_err-pass.ensures.0;
+      ran = refused_ran g.D.TapeDisk g.H.KeyHash.hash_of c.args.query.now c.args.means.now (Took (map brought c.args.inputs.now))
+          c.from_residual-in_err-pass.result NoMemory c.args.disk.now c.args.disk.now c.from_residual-in_err-pass.ensures.1
+          (leaves_still g.D.TapeDisk NoMemory c.args.disk.now (λ same. cc)) (λ honest same. cc);
+    }
+
+pub returns-in_err-first : goal.returns-in_err-first
+returns-in_err-first g c =
+    record {
+      aggregated = no_if_ok c.from_residual-in_err-first.result _ c.from_residual-in_err-first.ensures.0;
+      ran = refused_ran g.D.TapeDisk g.H.KeyHash.hash_of c.args.query.now c.args.means.now (Took (map brought c.args.inputs.now))
+          c.from_residual-in_err-first.result c.in_err-first.field-0.0 c.args.disk.now c.first_pass.new.disk
+          c.from_residual-in_err-first.ensures.1 c.in_err-first.ensures.disk (λ honest. c.in_err-first.ensures.undamaged);
+    }
+
+pub returns-in_err-run : goal.returns-in_err-run
+returns-in_err-run g c =
+    let inputs : List Brought = map brought c.args.inputs.now in
+    let pass = c.in_ok-pass.pass in
+    let q : Query = query_of pass in
+    let by = c.in_ok-pass.ensures.by in
+    let queried : pass.plan.query.now ≡ c.args.query.now = ap (λ (plan : Plan). plan.query.now) by.0 ∙ c.in_ok-plan.ensures.query in
+    let most : pass.plan.most ≡ all_rows inputs = ap (λ (plan : Plan). plan.most) by.0 ∙ c.in_ok-plan.ensures.most
+    ∙ c.rows_of_all.ensures in
+    let are : AllByRecursion (IsInput q) inputs = subst (λ (query : Checked). AllByRecursion (IsInput (meaning query)) inputs) (sym queried)
+    c.requires.inputs.are in
+    let first = c.in_ok-first.ensures.made in
+    let honesty = c.in_ok-first.ensures.disk.honesty in
+    let given = all_given q inputs are in
+    record {
+      aggregated = no_if_ok c.from_residual-in_err-run.result _ c.from_residual-in_err-run.ensures.0;
+      ran = refused_ran g.D.TapeDisk g.H.KeyHash.hash_of c.args.query.now c.args.means.now (Took inputs)
+          c.from_residual-in_err-run.result c.in_err-run.field-0.0 c.args.disk.now c.later_passes.new.disk
+          c.from_residual-in_err-run.ensures.1
+          (leaves_twice g.D.TapeDisk (spill_faults c.in_err-run.field-0.0) c.args.disk.now c.first_pass.new.disk c.later_passes.new.disk
+          c.in_ok-first.ensures.disk c.in_err-run.ensures.disk)
+          (λ honest.
+          c.in_err-run.ensures.undamaged (subst IsTrue (sym honesty) honest) (all_pieces inputs given.0) c.none-work.result
+          (g.D.TapeDisk.writes c.args.disk.now)
+          (begun g.H.KeyHash.hash_of g.D.TapeDisk inputs pass c.args.disk.now c.none-work.result c.in_ok-first.first c.first_pass.new.pass
+          c.first_pass.new.disk c.first_pass.new.work first given.0 given.1)
+          (subst (λ (plan : Plan). CountUpTo (meaning plan.query.now) plan.most (all_pieces inputs given.0)) (sym first.plan)
+          (plan_counts pass inputs given.0 most are given.1)));
+    }
+
+pub returns : goal.returns
+returns g c =
+    let inputs : List Brought = map brought c.args.inputs.now in
+    let pass = c.in_ok-pass.pass in
+    let plan = c.in_ok-pass.ensures.first.over.ready.plan in
+    let by = c.in_ok-pass.ensures.by in
+    let queried : pass.plan.query.now ≡ c.args.query.now = ap (λ (plan : Plan). plan.query.now) by.0 ∙ c.in_ok-plan.ensures.query in
+    let most : pass.plan.most ≡ all_rows inputs = ap (λ (plan : Plan). plan.most) by.0 ∙ c.in_ok-plan.ensures.most
+    ∙ c.rows_of_all.ensures in
+    let limited : pass.plan.limit ≡ c.args.means.now.limit = ap (λ (plan : Plan). plan.limit) by.0 ∙ c.in_ok-plan.ensures.limit
+    ∙ c.limit.ensures.limit in
+    let hashed = by.1 ∙ c.hash.ensures in
+    let first = c.in_ok-first.ensures.made in
+    let made : MadeAll g.H.KeyHash.hash_of g.D.TapeDisk inputs pass c.args.disk.now no_work c.in_ok-run.run c.later_passes.new.disk
+    c.later_passes.new.work =
+    subst (λ none. MadeAll g.H.KeyHash.hash_of g.D.TapeDisk inputs pass c.args.disk.now none c.in_ok-run.run c.later_passes.new.disk
+    c.later_passes.new.work) c.none-work.ensures
+    (made_all g.H.KeyHash.hash_of g.D.TapeDisk inputs pass c.args.disk.now c.none-work.result c.in_ok-first.first c.first_pass.new.pass
+    c.first_pass.new.disk c.first_pass.new.work first c.in_ok-run.run c.later_passes.new.disk c.later_passes.new.work
+    c.in_ok-first.ensures.disk.honesty c.in_ok-run.ensures.made) in
+    record {
+      aggregated = aggregation_is g.H.KeyHash.hash_of g.D.TapeDisk c.args.query.now c.args.means.now inputs pass c.args.disk.now plan
+          queried most limited hashed c.requires.inputs c.in_ok-run.run c.later_passes.new.disk c.later_passes.new.work made;
+      ran = aggregation_ran g.H.KeyHash.hash_of g.D.TapeDisk c.args.query.now c.args.means.now inputs pass c.args.disk.now plan
+          queried most limited hashed c.requires.inputs c.in_ok-run.run c.later_passes.new.disk c.later_passes.new.work made
+          (leaves_twice g.D.TapeDisk 0 c.args.disk.now c.first_pass.new.disk c.later_passes.new.disk c.in_ok-first.ensures.disk
+          c.in_ok-run.ensures.disk);
+    }

@@ -1,33 +1,69 @@
-use Rattle.std.specs.Prelude.{◌+◌, ◌≤◌, map}
-use Rattle.std.proofs.Common.{arith}
-use Rattle.agg_protocol.specs.States.{most_rows}
-use Rattle.hash_agg.proofs.Words.{meaning, brought, all_rows}
+use Rattle.std.specs.Prelude.{map, Some}
+use Rattle.std.proofs.Common.{sym, arith}
+use Rattle.tape_disks.specs.DiskLaws.{leaves_none}
+use Rattle.hash_agg.specs.Counting.{IsCounted, Took, no_work}
+use Rattle.hash_agg.specs.Lemmas.RanLaws.{ran_as, refused_alike, refused_by, refused_later}
+use Rattle.hash_agg.specs.Ran.{Refused, ended}
+use Rattle.hash_agg.proofs.Words.{NoMemory, meaning, brought, all_rows}
 use Rattle.hash_agg.proofs.FoldLaws.{folded, folded_over}
+use Rattle.hash_agg.proofs.AnswerLaws.{rows_behind, fold_ran}
 use Rattle.hash_agg.proofs.folding.fold.Goals as goal
+
+pub aggregate-requires : goal.aggregate-requires
+aggregate-requires g c =
+    let few = rows_behind c.args.run.now c.args.rows (map brought c.args.more.now) c.requires.inputs.few in
+    record { inputs = record { are = c.requires.inputs.are.1; few = omega (arith, few) } }
 
 pub merge_from-requires : goal.merge_from-requires
 merge_from-requires g c =
-    let few : c.args.rows + all_rows (map brought c.args.more.now) ≤ most_rows = c.requires.few in (
+    let few = rows_behind c.args.run.now c.args.rows (map brought c.args.more.now) c.requires.inputs.few in
+    let run = c.requires.inputs.are.0 in
+    let more = c.in_ok-more.ensures.aggregated.aggregated.run_over.is_run in (
       c.args.rows,
       all_rows (map brought c.args.more.now),
-      c.requires.run.groups,
-      c.in_ok-more.ensures.run.is_run.groups,
-      c.requires.run.are,
-      c.in_ok-more.ensures.run.is_run.are,
-      c.in_ok-more.ensures.run.is_run.rises,
-      omega (arith, few),
+      run.groups,
+      more.groups,
+      run.are,
+      more.are,
+      more.rises,
+      few,
     )
 
 pub returns-clause-folded : goal.returns-clause-folded
 returns-clause-folded g c =
-    let few : c.args.rows + all_rows (map brought c.args.more.now) ≤ most_rows = c.requires.few in
-    λ honest.
-    folded (meaning c.args.query.now) c.args.rows c.args.run.now c.in_ok-more.more c.merge_from.new.self (map brought c.args.more.now)
-    (omega (arith, few)) c.requires.run (c.in_ok-more.ensures.aggregate honest) c.in_ok-merge_from.ensures.added
-    c.schema-schema.ensures.query.well_formed.keys
+    let few = rows_behind c.args.run.now c.args.rows (map brought c.args.more.now) c.requires.inputs.few in
+    let run = c.requires.inputs.are.0 in
+    let more = c.in_ok-more.ensures.aggregated.aggregated in
+    record {
+      aggregate = λ honest.
+          folded (meaning c.args.query.now) c.args.rows c.args.run.now c.in_ok-more.more c.merge_from.new.self (map brought c.args.more.now)
+          few run (more.aggregate honest) c.in_ok-merge_from.ensures.added c.schema-schema.ensures.query.well_formed.keys;
+      run_over = folded_over (meaning c.args.query.now) c.args.rows c.args.run.now c.in_ok-more.more c.merge_from.new.self
+          (map brought c.args.more.now) few run more.run_over c.in_ok-merge_from.ensures.added;
+    }
 
-pub returns-clause-run : goal.returns-clause-run
-returns-clause-run g c =
-    let few : c.args.rows + all_rows (map brought c.args.more.now) ≤ most_rows = c.requires.few in
-    folded_over (meaning c.args.query.now) c.args.rows c.args.run.now c.in_ok-more.more c.merge_from.new.self (map brought c.args.more.now)
-    (omega (arith, few)) c.requires.run c.in_ok-more.ensures.run c.in_ok-merge_from.ensures.added
+pub returns-clause-ran : goal.returns-clause-ran
+returns-clause-ran g c = fold_ran g.D.TapeDisk g.H.KeyHash.hash_of c.args.query.now c.args.means.now (map brought c.args.more.now)
+    c.args.disk.now c.aggregate.new.disk c.args.work.now c.in_ok-more.took c.add.new.self c.in_ok-more.ensures.ran c.add.ensures.passes
+    c.add.ensures.spilled c.add.ensures.most_held
+
+pub returns-in_err-more-clause-ran : goal.returns-in_err-more-clause-ran
+returns-in_err-more-clause-ran g c =
+    let more = map brought c.args.more.now in
+    let error = c.in_err-more.field-0.0 in
+    ran_as g.D.TapeDisk g.H.KeyHash.hash_of c.args.query.now c.args.means.now (IsCounted more) (Refused (Some error))
+    (ended c.from_residual.result) c.args.disk.now c.args.work.now c.aggregate.new.disk c.args.work.now
+    (sym (refused_by Some c.from_residual.result error c.from_residual.ensures.1))
+    (refused_alike g.D.TapeDisk g.H.KeyHash.hash_of c.args.query.now c.args.means.now (Took more) (IsCounted more) (Some error)
+    c.args.disk.now no_work c.aggregate.new.disk no_work c.args.work.now c.in_err-more.ensures.ran)
+
+pub returns-in_err-merge_from-clause-ran : goal.returns-in_err-merge_from-clause-ran
+returns-in_err-merge_from-clause-ran g c =
+    let more = map brought c.args.more.now in
+    let result = c.from_residual-in_err-merge_from.result in
+    ran_as g.D.TapeDisk g.H.KeyHash.hash_of c.args.query.now c.args.means.now (IsCounted more) (Refused (Some NoMemory))
+    (ended result) c.args.disk.now c.args.work.now c.aggregate.new.disk c.args.work.now
+    (sym (refused_by Some result NoMemory c.from_residual-in_err-merge_from.ensures.1))
+    (refused_later g.D.TapeDisk g.H.KeyHash.hash_of c.args.query.now c.args.means.now (IsCounted more) (Some NoMemory)
+    c.args.disk.now c.aggregate.new.disk c.aggregate.new.disk c.args.work.now c.in_ok-more.ensures.ran.disk
+    (leaves_none g.D.TapeDisk c.aggregate.new.disk) (λ honest same. cc))

@@ -30,8 +30,8 @@ returns-in-Err g c =
     let one = one_group q are.0 c.args.key.now c.args.states.now more are.1 in
     c.in-Err.ensures.refused (m, are.0, found, one.0.1, states, one.2.states, low))
 
-pub room_for-requires-clause-key : goal.room_for-requires-clause-key
-room_for-requires-clause-key g c =
+pub need_to_insert-requires-clause-key : goal.need_to_insert-requires-clause-key
+need_to_insert-requires-clause-key g c =
     let group = c.requires.group in
     key_brief (query_of c.args.self.now) c.args.key.now group.0.0 c.requires.ready.plan.formed group.1.key group.1.of_kinds
 
@@ -47,8 +47,8 @@ insert-requires-clause-states g c =
     same_wide (functions q) c.args.self.now.plan.most 0 c.args.states.now c.args.self.now.plan.first.items group.0.1 (partials q [])
     group.1.states c.requires.ready.plan.states ∙ sym c.requires.ready.width
 
-pub returns-in-Some-room_for : goal.returns-in-Some-room_for
-returns-in-Some-room_for g c =
+pub returns-in-Some-need_to_insert : goal.returns-in-Some-need_to_insert
+returns-in-Some-need_to_insert g c =
     let q : Query = query_of c.args.self.now in
     let group = c.requires.group in
     added_here _
@@ -56,8 +56,8 @@ returns-in-Some-room_for g c =
     c.args.key.now
     (λ old new. AreCombined (functions q) c.args.self.now.plan.most old c.args.states.now new) c.requires.ready
     (entry_told q c.args.self.now.plan.most c.args.key.now c.args.states.now)
-    c.insert.new.self c.args.states.now c.in-Some-room_for.need c.in_default.ensures.found c.in-Some-room_for.ensures.room
-    (c.in-Some-room_for.ensures.exact (g.H.KeyHash.hash_of c.args.self.now.groups.hash))
+    c.insert.new.self c.args.states.now c.in-Some-need_to_insert.need c.in_default.ensures.found c.in-Some-need_to_insert.ensures.room
+    (c.in-Some-need_to_insert.ensures.exact (g.H.KeyHash.hash_of c.args.self.now.groups.hash))
     c.in_ok-insert.ensures.entered c.insert.ensures.table
     (λ more are low. (one_group q are.0 c.args.key.now c.args.states.now more are.1).2.states) group.0 group.1)
 
@@ -89,7 +89,7 @@ returns g c =
           (entry_told q c.args.self.now.plan.most c.args.key.now c.args.states.now)
           c.spill.result c.spill.new.self c.spill.new.disk one c.in_default.ensures.found
           (key_brief q c.args.key.now group.0.0 c.requires.ready.plan.formed group.1.key group.1.of_kinds)
-          (sym (c.in_default-room_for.ensures.exact (g.H.KeyHash.hash_of c.args.self.now.groups.hash)))
+          (sym (c.in_default-need_to_insert.ensures.exact (g.H.KeyHash.hash_of c.args.self.now.groups.hash)))
           (λ more are.
           is_group_record q (g.H.KeyHash.hash_of c.args.self.now.groups.hash) are.0 one c.args.key.now c.args.states.now
           (one_group q are.0 c.args.key.now c.args.states.now more are.1).0 refl written c.hash-hash.ensures
@@ -116,7 +116,7 @@ returns-in_err-insert g c =
       kept = record {
         plan = refl;
         table = c.insert.ensures.table c.args.self.now.plan.limit
-            c.in-Some-room_for.ensures.room.within;
+            c.in-Some-need_to_insert.ensures.room.within;
         lists = same_rest _;
       };
     })

@@ -30,8 +30,8 @@ returns-in-Err g c =
     c.advance.new.self c.in-Some.slot c.in-Some.ensures.found c.advance.ensures.table c.advance.ensures.hash c.advance.ensures.held
     (λ more are m found states low. c.in-Err.ensures.refused (m, found, states, omega (arith, low)))
 
-pub room_for-requires-clause-key : goal.room_for-requires-clause-key
-room_for-requires-clause-key g c =
+pub need_to_insert-requires-clause-key : goal.need_to_insert-requires-clause-key
+need_to_insert-requires-clause-key g c =
     let q : Query = query_of c.args.self.now in
     key_brief q c.args.key.now (key_of q (row_of c.args.row.now)) c.requires.ready.plan.formed c.requires.selected.named
     (key_has q (row_of c.args.row.now) c.requires.ready.plan.formed.keys c.requires.selected.has)
@@ -56,8 +56,8 @@ insert-requires-clause-key g c =
     key_short q c.args.key.now (key_of q (row_of c.args.row.now)) c.requires.ready.plan.formed c.requires.selected.named
     (key_has q (row_of c.args.row.now) c.requires.ready.plan.formed.keys c.requires.selected.has)
 
-pub returns-in-Some-room_for : goal.returns-in-Some-room_for
-returns-in-Some-room_for g c =
+pub returns-in-Some-need_to_insert : goal.returns-in-Some-need_to_insert
+returns-in-Some-need_to_insert g c =
     let q : Query = query_of c.args.self.now in
     let within = c.in_ok-first_after.ensures.advanced.within in
     added_here _
@@ -65,8 +65,9 @@ returns-in-Some-room_for g c =
     (λ old new. AreAdvanced q.aggregates c.args.self.now.plan.most old (row_of c.args.row.now) new) c.requires.ready
     (row_told q c.args.self.now.plan.most c.args.packed.now c.args.key.now (row_of c.args.row.now) c.requires.ready.plan.formed
     c.requires.selected)
-    c.insert.new.self c.first_after.new.states.items c.in-Some-room_for.need c.in_default.ensures.found c.in-Some-room_for.ensures.room
-    (c.in-Some-room_for.ensures.exact (g.H.KeyHash.hash_of c.args.self.now.groups.hash))
+    c.insert.new.self c.first_after.new.states.items c.in-Some-need_to_insert.need c.in_default.ensures.found
+    c.in-Some-need_to_insert.ensures.room
+    (c.in-Some-need_to_insert.ensures.exact (g.H.KeyHash.hash_of c.args.self.now.groups.hash))
     (c.in_ok-insert.ensures.entered ∙ ap (λ states. entries_of c.args.self.now.groups ++ (c.args.key.now, states)
     ∷ []) c.deref.ensures.value) c.insert.ensures.table
     (λ more are low. c.in_ok-first_after.ensures.advanced.moved 0 (partials q []) (omega (arith, low)) c.requires.ready.plan.states)
@@ -95,7 +96,7 @@ returns g c =
           c.in_default.ensures.found
           (key_brief q c.args.key.now (key_of q (row_of c.args.row.now)) c.requires.ready.plan.formed c.requires.selected.named
           (key_has q (row_of c.args.row.now) c.requires.ready.plan.formed.keys c.requires.selected.has))
-          (sym (c.in_default-room_for.ensures.exact (g.H.KeyHash.hash_of c.args.self.now.groups.hash)))
+          (sym (c.in_default-need_to_insert.ensures.exact (g.H.KeyHash.hash_of c.args.self.now.groups.hash)))
           (λ more are. record {
             tag = refl;
             of_kinds = c.requires.selected.has;
@@ -127,7 +128,7 @@ returns-in_err-insert g c =
       kept = record {
         plan = refl;
         table = c.insert.ensures.table c.args.self.now.plan.limit
-            c.in-Some-room_for.ensures.room.within;
+            c.in-Some-need_to_insert.ensures.room.within;
         lists = same_rest _;
       };
     })

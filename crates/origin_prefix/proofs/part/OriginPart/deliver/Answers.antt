@@ -1,63 +1,70 @@
-use Rattle.std.specs.Prelude.{◌≡◌, ◌+◌, ◌<◌, ◌≤◌, Some, None}
+use Rattle.std.specs.Prelude.{◌≡◌, refl, ◌+◌, ◌<◌, ◌≤◌, Some, None}
 use Rattle.std.proofs.Common.{◌∙◌, sym, ap, subst, arith}
 use Rattle.std.proofs.lemmas.Result.{IfErr-weaker}
-use Rattle.spill_partitions.specs.declared.error.SpillError.TheVariants.{NoMemory}
 use Rattle.std.specs.Option.{option_copied}
 use Rattle.grouping_model.specs.declared.limits.TheConstants.{LAST_NUMBER}
 use Rattle.having_filter.specs.Meaning.{meaning}
-use Rattle.origin_prefix.specs.Parts.{Part, rows_at, behind}
-use Rattle.origin_prefix.specs.Lemmas.CountLaws.{on_ok}
-use Rattle.origin_prefix.proofs.CountLaws.{early_counted}
-use Rattle.origin_prefix.proofs.DeliverLaws.{known_within, reply_early, refused_early, unknown, unknown_refused, kept_delivers, part_kept}
+use Rattle.hash_agg.specs.Counting.{AreCounted}
+use Rattle.hash_agg.specs.Lemmas.RanLaws.{ran_as, ran_still}
+use Rattle.hash_agg.specs.Ran.{Refused}
+use Rattle.origin_prefix.specs.Errors.{join_reason}
+use Rattle.origin_prefix.specs.Parts.{Part, rows_at, behind, aggregations_on, aggregations_with}
+use Rattle.origin_prefix.proofs.CountLaws.{apart_counted, early_apart, next_counted, batch_still, disagrees_faultless, no_memory_faultless}
+use Rattle.origin_prefix.proofs.DeliverLaws.{known_within, reply_early, refused_early, unknown, kept_delivers, part_kept, kept_refuses}
 use Rattle.origin_prefix.proofs.DeliverLaws.{part_drained, behind_gap, next_open}
 use Rattle.origin_prefix.proofs.part.OriginPart.deliver.Goals as goal
 use Rattle.origin_prefix.proofs.part.OriginPart.deliver.Goals.{in-Ok, in-Err}
 
-pub returns-then-batch-self-clause-delivers : goal.returns-then-batch-self-clause-delivers
-returns-then-batch-self-clause-delivers g c =
-    known_within (g.D.TapeDisk.honest c.args.disk.now) c.args.query.now (meaning c.args.query.now) c.args.self.now c.args.batch.number
-    c.args.batch.rows c.requires.part c.requires.number.0
-    (subst (λ (p : Part). c.args.batch.number ≤ p.prefix) c.self.view_is c.if-batch-self.true)
+-- ---- a number within the prefix
 
-pub returns-in-Some-clause-delivers : goal.returns-in-Some-clause-delivers
-returns-in-Some-clause-delivers g c =
+pub returns-then-batch-self-clause-delivery : goal.returns-then-batch-self-clause-delivery
+returns-then-batch-self-clause-delivery g c = record {
+  delivers = known_within (g.D.TapeDisk.honest c.args.disk.now) c.args.query.now (meaning c.args.query.now) c.args.self.now
+      c.args.batch.number c.args.batch.rows c.requires.part c.requires.number.0
+      (subst (λ (p : Part). c.args.batch.number ≤ p.prefix) c.self.view_is c.if-batch-self.true);
+  refuses = tt;
+  part = c.requires.part;
+}
+
+pub returns-then-batch-self-clause-ran : goal.returns-then-batch-self-clause-ran
+returns-then-batch-self-clause-ran g c =
+    let part : Part = c.args.self.now in
+    let low : c.args.batch.number ≤ part.prefix = subst (λ (p : Part). c.args.batch.number ≤ p.prefix) c.self.view_is c.if-batch-self.true
+    in
+    ran_still g.D.TapeDisk g.H.KeyHash.hash_of c.args.query.now c.args.means.now
+    (AreCounted (aggregations_on part c.args.batch.number c.args.batch.rows)) c.args.disk.now c.args.work.now
+    (λ honest. apart_counted _ _ part c.args.batch.number c.args.batch.rows _ _ (λ same. omega (arith, low, same)))
+
+-- ---- one that is kept early
+
+pub returns-in-Some-clause-delivery : goal.returns-in-Some-clause-delivery
+returns-in-Some-clause-delivery g c =
     let part : Part = c.args.self.now in
     let there : rows_at part.early c.args.batch.number ≡ Some c.in-Some.kept.now =
     subst (λ (p : Part). rows_at p.early c.args.batch.number ≡ Some c.in-Some.kept.now) c.self.view_is (sym c.get.ensures.value
     ∙ ap option_copied c.in-Some.is) in
-    reply_early (g.D.TapeDisk.honest c.args.disk.now) (meaning c.args.query.now) part c.args.batch.number c.args.batch.rows
-    c.in-Some.kept.now c.known_again.result there c.known_again.ensures.known
+    record {
+      delivers = reply_early (g.D.TapeDisk.honest c.args.disk.now) (meaning c.args.query.now) part c.args.batch.number c.args.batch.rows
+          c.in-Some.kept.now c.known_again.result there c.known_again.ensures.known;
+      refuses = refused_early part c.args.batch c.in-Some.kept.now c.known_again.result there c.known_again.ensures.other;
+      part = c.requires.part;
+    }
 
-pub returns-in-Some-clause-tells : goal.returns-in-Some-clause-tells
-returns-in-Some-clause-tells g c =
+pub returns-in-Some-clause-ran : goal.returns-in-Some-clause-ran
+returns-in-Some-clause-ran g c =
     let part : Part = c.args.self.now in
     let there : rows_at part.early c.args.batch.number ≡ Some c.in-Some.kept.now =
     subst (λ (p : Part). rows_at p.early c.args.batch.number ≡ Some c.in-Some.kept.now) c.self.view_is (sym c.get.ensures.value
     ∙ ap option_copied c.in-Some.is) in
-    refused_early part c.args.batch.number c.args.batch c.in-Some.kept.now c.known_again.result there c.known_again.ensures.other
+    batch_still g.D.TapeDisk g.H.KeyHash.hash_of c.args.query.now c.args.means.now part c.args.batch.number c.args.batch.rows
+    c.known_again.result c.args.disk.now c.args.work.now
+    (early_apart c.args.query.now part c.args.batch.number c.in-Some.kept.now c.requires.part there)
+    (IfErr-weaker c.known_again.result _ _ (λ e is. disagrees_faultless e (Some c.args.batch.number) is.1) c.known_again.ensures.other)
 
-pub returns-in-Some-clause-counted : goal.returns-in-Some-clause-counted
-returns-in-Some-clause-counted g c =
-    let part : Part = c.args.self.now in
-    let there : rows_at part.early c.args.batch.number ≡ Some c.in-Some.kept.now =
-    subst (λ (p : Part). rows_at p.early c.args.batch.number ≡ Some c.in-Some.kept.now) c.self.view_is (sym c.get.ensures.value
-    ∙ ap option_copied c.in-Some.is) in
-    on_ok c.known_again.result _ (λ _. early_counted c.args.query.now _ _ part c.args.batch.number c.args.batch.rows c.in-Some.kept.now _ _
-    c.requires.part there)
+-- ---- one that is kept until its gap is filled
 
-pub returns-then-batch-self-2-clause-part : goal.returns-then-batch-self-2-clause-part
-returns-then-batch-self-2-clause-part g c =
-    let above = c.if-batch-self.false in
-    let apart = c.if-batch-self-2.true in
-    let prefix : c.self.inside.prefix ≡ c.args.self.now.prefix = ap (λ (p : Part). p.prefix) c.self.view_is in
-    let behind : c.args.self.now.prefix + 1 < c.args.batch.number = subst (λ n. n + 1 < c.args.batch.number) prefix
-    (behind_gap c.self.inside.prefix c.args.batch.number above apart) in
-    part_kept c.keep_early.result c.args.query.now c.args.self.now c.keep_early.new.self c.args.batch c.requires.part behind
-    c.requires.number.1 c.requires.rows
-    c.keep_early.ensures.kept c.keep_early.ensures.refused c.keep_early.ensures.rising
-
-pub returns-then-batch-self-2-clause-delivers : goal.returns-then-batch-self-2-clause-delivers
-returns-then-batch-self-2-clause-delivers g c =
+pub returns-then-batch-self-2-clause-delivery : goal.returns-then-batch-self-2-clause-delivery
+returns-then-batch-self-2-clause-delivery g c =
     let part : Part = c.args.self.now in
     let above : part.prefix < c.args.batch.number = grind (arith, c.if-batch-self.false, ap (λ (p : Part). p.prefix) c.self.view_is) in
     let apart = c.if-batch-self-2.true in
@@ -67,9 +74,27 @@ returns-then-batch-self-2-clause-delivers g c =
     let none : rows_at part.early c.args.batch.number ≡ None =
     subst (λ (p : Part). rows_at p.early c.args.batch.number ≡ None) c.self.view_is (sym c.get.ensures.value
     ∙ ap option_copied c.in_default.is) in
-    kept_delivers (g.D.TapeDisk.honest c.args.disk.now) (meaning c.args.query.now) part c.keep_early.new.self c.args.batch.number
-    c.args.batch.rows c.keep_early.result
-    (unknown part c.args.batch.number above none) (λ same. omega (arith, behind, same)) c.keep_early.ensures.kept
+    record {
+      delivers = kept_delivers (g.D.TapeDisk.honest c.args.disk.now) (meaning c.args.query.now) part c.keep_early.new.self
+          c.args.batch.number c.args.batch.rows c.keep_early.result (unknown part c.args.batch.number above none)
+          (λ same. omega (arith, behind, same)) c.keep_early.ensures.kept;
+      refuses = kept_refuses part c.keep_early.new.self c.args.batch c.keep_early.result
+          (unknown part c.args.batch.number above none) c.keep_early.ensures.refused;
+      part = part_kept c.keep_early.result c.args.query.now part c.keep_early.new.self c.args.batch c.requires.part behind
+          c.requires.number.1 c.requires.rows c.keep_early.ensures.kept c.keep_early.ensures.refused c.keep_early.ensures.rising;
+    }
+
+pub returns-then-batch-self-2-clause-ran : goal.returns-then-batch-self-2-clause-ran
+returns-then-batch-self-2-clause-ran g c =
+    let part : Part = c.args.self.now in
+    let prefix : c.self.inside.prefix ≡ part.prefix = ap (λ (p : Part). p.prefix) c.self.view_is in
+    let behind : part.prefix + 1 < c.args.batch.number = subst (λ n. n + 1 < c.args.batch.number) prefix
+    (behind_gap c.self.inside.prefix c.args.batch.number c.if-batch-self.false c.if-batch-self-2.true) in
+    batch_still g.D.TapeDisk g.H.KeyHash.hash_of c.args.query.now c.args.means.now part c.args.batch.number c.args.batch.rows
+    c.keep_early.result c.args.disk.now c.args.work.now (λ same. omega (arith, behind, same))
+    (IfErr-weaker c.keep_early.result _ _ (λ e is. no_memory_faultless e is.1) c.keep_early.ensures.refused)
+
+-- ---- the next one
 
 pub drain-requires : goal.drain-requires
 drain-requires g c =
@@ -82,37 +107,51 @@ drain-requires g c =
           c.requires.rows;
     }
 
-pub returns-clause-part : goal.returns-clause-part
-returns-clause-part g c =
+pub returns-clause-delivery : goal.returns-clause-delivery
+returns-clause-delivery g c =
+    let part : Part = c.args.self.now in
     let above = c.if-batch-self.false in
     let next = c.if-batch-self-2.false in
-    let prefix : c.self.inside.prefix ≡ c.args.self.now.prefix = ap (λ (p : Part). p.prefix) c.self.view_is in
+    let prefix : c.self.inside.prefix ≡ part.prefix = ap (λ (p : Part). p.prefix) c.self.view_is in
     let high : c.args.batch.number ≤ LAST_NUMBER = c.requires.number.1 in
-    part_drained c.drain.result (g.D.TapeDisk.honest c.args.disk.now) c.args.query.now c.args.self.now c.drain.new.self
-    (behind c.args.self.now.prefix c.args.self.now.early (Some c.args.batch.rows)) c.requires.part
-    (next_open c.args.query.now c.args.self.now c.args.batch.rows c.requires.part (omega (arith, above, next, prefix, high))
-    c.requires.rows)
-    c.drain.ensures.drained c.drain.ensures.same
-
-pub returns-then-batch-self-2-clause-tells : goal.returns-then-batch-self-2-clause-tells
-returns-then-batch-self-2-clause-tells g c =
-    let part : Part = c.args.self.now in
-    let above : part.prefix < c.args.batch.number = grind (arith, c.if-batch-self.false, ap (λ (p : Part). p.prefix) c.self.view_is) in
+    let over : part.prefix < c.args.batch.number = omega (arith, above, prefix) in
     let none : rows_at part.early c.args.batch.number ≡ None =
     subst (λ (p : Part). rows_at p.early c.args.batch.number ≡ None) c.self.view_is (sym c.get.ensures.value
     ∙ ap option_copied c.in_default.is) in
-    unknown_refused c.keep_early.result part c.args.batch.number c.args.batch.rows above none
-    (IfErr-weaker c.keep_early.result _ _ (λ e is. (NoMemory, is.1)) c.keep_early.ensures.refused)
+    let is_part = part_drained c.drain.result (g.D.TapeDisk.honest c.args.disk.now) c.args.query.now part c.drain.new.self
+    (behind part.prefix part.early (Some c.args.batch.rows)) c.requires.part
+    (next_open c.args.query.now part c.args.batch.rows c.requires.part (omega (arith, above, next, prefix, high)) c.requires.rows)
+    c.drain.ensures.drained c.drain.ensures.same in
+    elim c.match-drain.branch [
+      | in-Ok w ↦ rw w.result-is (record {
+        delivers = (omega (arith, above, next, prefix), ap (λ (p : Part). p.prefix) w.self.view_is, w.in-Ok.ensures.drained);
+        refuses = tt;
+        part = is_part;
+      })
+      | in-Err w ↦ rw w.result-is (record {
+        delivers = tt;
+        refuses = record {
+          back = refl;
+          same = w.in-Err.ensures.same;
+          tells = rw w.from-why.ensures (unknown part c.args.batch.number over none);
+        };
+        part = is_part;
+      })
+    ]
 
-pub returns-clause-tells : goal.returns-clause-tells
-returns-clause-tells g c =
+pub returns-clause-ran : goal.returns-clause-ran
+returns-clause-ran g c =
     let part : Part = c.args.self.now in
-    let above : part.prefix < c.args.batch.number = grind (arith, c.if-batch-self.false, ap (λ (p : Part). p.prefix) c.self.view_is) in
-    let none : rows_at part.early c.args.batch.number ≡ None =
-    subst (λ (p : Part). rows_at p.early c.args.batch.number ≡ None) c.self.view_is (sym c.get.ensures.value
-    ∙ ap option_copied c.in_default.is) in
-    unknown_refused c.match-drain.result part c.args.batch.number c.args.batch.rows above none
+    let above = c.if-batch-self.false in
+    let next = c.if-batch-self-2.false in
+    let prefix : c.self.inside.prefix ≡ part.prefix = ap (λ (p : Part). p.prefix) c.self.view_is in
+    let these = next_counted part c.args.batch.number c.args.batch.rows (omega (arith, above, next, prefix)) in
+    let counts = AreCounted (aggregations_with part (Some c.args.batch.rows)) in
+    rw these
     (elim c.match-drain.branch [
-      | in-Ok w ↦ rw w.result-is tt
-      | in-Err w ↦ rw w.result-is (w.in-Err.error, w.from-why.ensures)
+      | in-Ok w ↦ rw w.result-is w.in-Ok.ensures.ran
+      | in-Err w ↦ rw w.result-is
+          (ran_as g.D.TapeDisk g.H.KeyHash.hash_of c.args.query.now c.args.means.now counts (Refused (Some w.in-Err.error)) _
+          c.args.disk.now c.args.work.now c.drain.new.disk c.drain.new.work (ap (λ why. Refused (join_reason why)) (sym w.from-why.ensures))
+          w.in-Err.ensures.ran)
     ])

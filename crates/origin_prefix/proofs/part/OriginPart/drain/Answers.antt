@@ -1,41 +1,81 @@
-use Rattle.std.specs.Prelude.{refl, ℕ, List, take, ◌≡◌, ◌+◌, ◌*◌, ◌≤◌, map}
+use Rattle.std.specs.Prelude.{refl, ℕ, List, take, ◌≡◌, ◌+◌, ◌*◌, ◌≤◌, map, Some}
 use Rattle.std.proofs.Common.{rules, ◌∙◌, sym, ap, subst, arith}
-use Rattle.std.specs.List.{AllByRecursion}
+use Rattle.std.proofs.lemmas.List.Sums.{sum_by-cons}
 use Rattle.std.specs.Option.{option_copied}
 use Rattle.grouping_model.specs.declared.limits.TheConstants.{LAST_NUMBER, MAX_ROWS}
 use Rattle.grouping_model.specs.Query.{Query}
 use Rattle.having_filter.specs.Meaning.{meaning}
-use Rattle.hash_agg.specs.Inputs.{Packed, brought, IsInput, all_rows}
-use Rattle.origin_prefix.specs.Parts.{Batches, Part, IsOpen, Folds, behind, following, rows_following}
+use Rattle.hash_agg.specs.Counting.{AreCounted, IsCounted}
+use Rattle.hash_agg.specs.Inputs.{Packed, Counted, brought, all_rows, rows_in}
+use Rattle.hash_agg.specs.Lemmas.RanLaws.{ran_as, ran_still, ran_weaker, refused_by, refused_other}
+use Rattle.hash_agg.specs.Ran.{Done, Refused, ended}
+use Rattle.origin_prefix.specs.Parts.{Batches, Part, IsOpen, Folds, behind, following, rows_following, aggregations_behind}
+use Rattle.origin_prefix.specs.Parts.{aggregations_with}
+use Rattle.origin_prefix.proofs.CountLaws.{no_memory_ran, none_counted, some_counted}
 use Rattle.origin_prefix.proofs.PartLaws.{following_inputs, few_following, folds_some}
 use Rattle.origin_prefix.proofs.part.OriginPart.drain.Goals as goal
 use Rattle.origin_prefix.proofs.part.OriginPart.drain.Goals.{then-upto-self+in_ok-fold, else-upto-self}
 
-pub fold-requires-clause-inputs : goal.fold-requires-clause-inputs
-fold-requires-clause-inputs g c =
-    let batches : Batches = behind c.self.inside.prefix c.self.inside.early.entries (option_copied c.args.next) in
+pub fold-requires : goal.fold-requires
+fold-requires g c =
+    let q : Query = meaning c.args.query.now in
+    let prefix : ℕ = c.self.inside.prefix in
+    let batches : Batches = behind prefix c.self.inside.early.entries (option_copied c.args.next) in
     let may = subst (λ (p : Part). IsOpen c.args.query.now p.prefix p.run (behind p.prefix p.early (option_copied c.args.next)))
     (sym c.self.view_is) c.requires.may in
-    let are : map brought c.deref.result.now ≡ map Packed (rows_following c.self.inside.prefix batches) = ap (map brought)
-    c.deref.ensures.value ∙ c.in_ok-inputs.ensures.inputs in
-    subst (AllByRecursion (IsInput (meaning c.args.query.now))) (sym are) (following_inputs c.args.query.now c.self.inside.prefix batches
-    may.above)
-
-pub fold-requires-clause-few : goal.fold-requires-clause-few
-fold-requires-clause-few g c =
-    let batches : Batches = behind c.self.inside.prefix c.self.inside.early.entries (option_copied c.args.next) in
-    let may = subst (λ (p : Part). IsOpen c.args.query.now p.prefix p.run (behind p.prefix p.early (option_copied c.args.next)))
-    (sym c.self.view_is) c.requires.may in
-    let are : map brought c.deref.result.now ≡ map Packed (rows_following c.self.inside.prefix batches) = ap (map brought)
-    c.deref.ensures.value ∙ c.in_ok-inputs.ensures.inputs in
-    let few : all_rows (map Packed (rows_following c.self.inside.prefix batches)) ≤ following c.self.inside.prefix batches
-    * MAX_ROWS = few_following c.args.query.now c.self.inside.prefix batches may.above in
-    let same : all_rows (map brought c.deref.result.now) ≡ all_rows (map Packed (rows_following c.self.inside.prefix batches)) = ap all_rows
-    are in
-    let upto : c.in_ok-inputs.upto ≡ c.self.inside.prefix + following c.self.inside.prefix batches = c.in_ok-inputs.ensures.upto in
+    let are : map brought c.deref.result.now ≡ map Packed (rows_following prefix batches) = ap (map brought) c.deref.ensures.value
+    ∙ c.in_ok-inputs.ensures.inputs in
+    let few : all_rows (map Packed (rows_following prefix batches)) ≤ following prefix batches * MAX_ROWS =
+    few_following c.args.query.now prefix batches may.above in
+    let upto : c.in_ok-inputs.upto ≡ prefix + following prefix batches = c.in_ok-inputs.ensures.upto in
     let limit : c.in_ok-inputs.upto ≤ LAST_NUMBER = c.in_ok-inputs.ensures.limit in
-    let rows : c.most_rows.result ≡ c.self.inside.prefix * MAX_ROWS = c.most_rows.ensures in
-    omega (arith, few, same, upto, limit, rows)
+    let both = sum_by-cons rows_in (Counted c.self.inside.run (prefix * MAX_ROWS)) (map Packed (rows_following prefix batches)) in
+    record {
+      inputs = rw (are, c.most_rows.ensures)
+          (record {
+            are = (may.is_run, following_inputs c.args.query.now prefix batches may.above);
+            few = omega (arith, few, upto, limit, both);
+          });
+    }
+
+pub returns-in_err-inputs-clause-ran : goal.returns-in_err-inputs-clause-ran
+returns-in_err-inputs-clause-ran g c = no_memory_ran g.D.TapeDisk g.H.KeyHash.hash_of c.args.query.now c.args.means.now
+    (AreCounted (aggregations_with c.args.self.now (option_copied c.args.next))) c.from_residual.result c.args.disk.now c.args.work.now
+    c.from_residual.ensures.1
+
+pub returns-then-upto-self-in_err-fold-clause-ran : goal.returns-then-upto-self-in_err-fold-clause-ran
+returns-then-upto-self-in_err-fold-clause-ran g c =
+    let counts = AreCounted (aggregations_with c.args.self.now (option_copied c.args.next)) in
+    let result = c.from_residual-in_err-fold.result in
+    let error = c.in_err-fold.field-0.0 in
+    ran_as g.D.TapeDisk g.H.KeyHash.hash_of c.args.query.now c.args.means.now counts (Refused (Some error)) (ended result)
+    c.args.disk.now c.args.work.now c.fold.new.disk c.fold.new.work
+    (sym (refused_by Some result error c.from_residual-in_err-fold.ensures.1))
+    (refused_other g.D.TapeDisk g.H.KeyHash.hash_of c.args.query.now c.args.means.now (IsCounted (map brought c.deref.result.now)) counts
+    (Some error) c.args.disk.now c.args.work.now c.fold.new.disk c.fold.new.work c.in_err-fold.ensures.ran)
+
+pub returns-clause-ran : goal.returns-clause-ran
+returns-clause-ran g c =
+    let prefix : ℕ = c.self.inside.prefix in
+    let batches : Batches = behind prefix c.self.inside.early.entries (option_copied c.args.next) in
+    let counts = AreCounted (aggregations_behind prefix batches) in
+    let upto : c.in_ok-inputs.upto ≡ prefix + following prefix batches = c.in_ok-inputs.ensures.upto in
+    rw (sym c.self.view_is)
+    (elim c.if-upto-self.branch [
+      | then-upto-self+in_ok-fold w ↦
+          let are : map brought w.deref.result.now ≡ map Packed (rows_following prefix batches) = ap (map brought) w.deref.ensures.value
+          ∙ c.in_ok-inputs.ensures.inputs in
+          let some = w.if-upto-self.true in
+          rw (w.disk-is, w.work-is)
+          (ran_weaker g.D.TapeDisk g.H.KeyHash.hash_of c.args.query.now c.args.means.now (IsCounted (map brought w.deref.result.now))
+          counts Done c.args.disk.now c.args.work.now w.fold.new.disk w.fold.new.work
+          (λ counted. some_counted prefix batches _ _ _ _ _ _ (omega (arith, some, upto)) (rw (sym are) counted)) w.in_ok-fold.ensures.ran)
+      | else-upto-self w ↦
+          let none = w.if-upto-self.false in
+          rw (w.disk-is, w.work-is)
+          (ran_still g.D.TapeDisk g.H.KeyHash.hash_of c.args.query.now c.args.means.now counts c.args.disk.now c.args.work.now
+          (λ honest. none_counted prefix batches _ _ _ _ (omega (arith, none, upto))))
+    ])
 
 pub returns-clause-drained : goal.returns-clause-drained
 returns-clause-drained g c =
@@ -54,8 +94,7 @@ returns-clause-drained g c =
             let some = w.if-upto-self.true in
             rw w.self-inside-is (folds_some honest q c.self.inside.run w.fold.new.run (prefix * MAX_ROWS) prefix batches
             (omega (arith, some, upto))
-            (rw (sym are, sym w.most_rows.ensures) w.in_ok-fold.ensures.run)
-            (λ so. rw (sym are, sym w.most_rows.ensures) (w.in_ok-fold.ensures.folded so)))
+            (rw (sym are, sym w.most_rows.ensures) w.in_ok-fold.ensures.folded))
         | else-upto-self w ↦
             let none = w.if-upto-self.false in
             let same : following prefix batches ≡ 0 = omega (arith, none, upto) in

@@ -1,6 +1,11 @@
+use Rattle.std.specs.Prelude.{Some}
 use Rattle.std.proofs.Common.{sym, subst}
 use Rattle.having_filter.specs.Meaning.{meaning}
 use Rattle.hash_agg.specs.Counting.{AreCounted, setting_by}
+use Rattle.hash_agg.specs.Lemmas.RanLaws.{ran_as, ran_weaker, refused_by, refused_other}
+use Rattle.hash_agg.specs.Ran.{Done, Refused, ended}
+use Rattle.origin_prefix.specs.Joins.{UniteIsCounted}
+use Rattle.origin_prefix.proofs.CountLaws.{no_memory_ran}
 use Rattle.origin_prefix.specs.Parts.{Part, IsOpen, Drains, aggregations_behind}
 use Rattle.origin_prefix.proofs.PartLaws.{drained_part}
 use Rattle.origin_prefix.proofs.JoinLaws.{united_open, united_batches}
@@ -36,21 +41,49 @@ returns-clause-joins g c =
           c.copy_above-2.new.into.entries c.drain.new.self) c.self.view_is drained,
     )
 
-pub returns-clause-counted : goal.returns-clause-counted
-returns-clause-counted g c = λ honest.
+pub returns-clause-ran : goal.returns-clause-ran
+returns-clause-ran g c =
     let a : Part = record { prefix = c.self.inside.prefix; run = c.self.inside.run; early = c.self.inside.early.entries } in
-    let b : Part = record { prefix = c.shorter.inside.prefix; run = c.shorter.inside.run; early = c.shorter.inside.early.entries } in (
-      c.copy_above-2.new.into.entries,
-      united_batches c.args.query.now a b c.args.self.now c.args.shorter.now c.new-early.result.entries c.copy_above.new.into.entries
-          c.copy_above-2.new.into.entries c.self.view_is c.shorter.view_is
-          c.new-early.ensures.empty c.requires.part c.requires.other c.in_ok-copy_above.ensures.rows c.in_ok-copy_above-2.ensures.rows
-          c.in_ok-copy_above.ensures.behind c.in_ok-copy_above-2.ensures.behind
-          c.in_ok-copy_above-2.ensures.rising,
-      subst (λ (p : Part). AreCounted (meaning c.args.query.now) (setting_by g.H.KeyHash.hash_of (meaning c.args.query.now)
-          c.args.means.now) (aggregations_behind p.prefix c.copy_above-2.new.into.entries) c.args.work.now
-          (g.D.TapeDisk.writes c.args.disk.now) c.drain.new.work (g.D.TapeDisk.writes c.drain.new.disk)) c.self.view_is
-          (c.in_ok-drain.ensures.counted honest),
-    )
+    let b : Part = record { prefix = c.shorter.inside.prefix; run = c.shorter.inside.run; early = c.shorter.inside.early.entries } in
+    let both = c.copy_above-2.new.into.entries in
+    let united = united_batches c.args.query.now a b c.args.self.now c.args.shorter.now c.new-early.result.entries
+    c.copy_above.new.into.entries both c.self.view_is c.shorter.view_is c.new-early.ensures.empty c.requires.part c.requires.other
+    c.in_ok-copy_above.ensures.rows c.in_ok-copy_above-2.ensures.rows c.in_ok-copy_above.ensures.behind c.in_ok-copy_above-2.ensures.behind
+    c.in_ok-copy_above-2.ensures.rising in
+    ran_weaker g.D.TapeDisk g.H.KeyHash.hash_of c.args.query.now c.args.means.now (AreCounted (aggregations_behind a.prefix both))
+    (UniteIsCounted c.args.self.now c.args.shorter.now) Done c.args.disk.now c.args.work.now c.drain.new.disk c.drain.new.work
+    (λ counted. record {
+      behind = both;
+      united = united;
+      counted = subst (λ (p : Part). AreCounted (aggregations_behind p.prefix both) (meaning c.args.query.now)
+          (setting_by g.H.KeyHash.hash_of (meaning c.args.query.now) c.args.means.now) c.args.work.now
+          (g.D.TapeDisk.writes c.args.disk.now) c.drain.new.work (g.D.TapeDisk.writes c.drain.new.disk)) c.self.view_is counted;
+    }) c.in_ok-drain.ensures.ran
+
+pub returns-in_err-copy_above-clause-ran : goal.returns-in_err-copy_above-clause-ran
+returns-in_err-copy_above-clause-ran g c = no_memory_ran g.D.TapeDisk g.H.KeyHash.hash_of c.args.query.now c.args.means.now
+    (UniteIsCounted c.args.self.now c.args.shorter.now) c.from_residual.result c.args.disk.now c.args.work.now c.from_residual.ensures.1
+
+pub returns-in_err-copy_above-2-clause-ran : goal.returns-in_err-copy_above-2-clause-ran
+returns-in_err-copy_above-2-clause-ran g c = no_memory_ran g.D.TapeDisk g.H.KeyHash.hash_of c.args.query.now c.args.means.now
+    (UniteIsCounted c.args.self.now c.args.shorter.now) c.from_residual-in_err-copy_above-2.result c.args.disk.now c.args.work.now
+    c.from_residual-in_err-copy_above-2.ensures.1
+
+pub returns-in_err-try_clone-clause-ran : goal.returns-in_err-try_clone-clause-ran
+returns-in_err-try_clone-clause-ran g c = no_memory_ran g.D.TapeDisk g.H.KeyHash.hash_of c.args.query.now c.args.means.now
+    (UniteIsCounted c.args.self.now c.args.shorter.now) c.from_residual-in_err-try_clone.result c.args.disk.now c.args.work.now
+    c.from_residual-in_err-try_clone.ensures.1
+
+pub returns-in_err-drain-clause-ran : goal.returns-in_err-drain-clause-ran
+returns-in_err-drain-clause-ran g c =
+    let result = c.from_residual-in_err-drain.result in
+    let error = c.in_err-drain.field-0.0 in
+    ran_as g.D.TapeDisk g.H.KeyHash.hash_of c.args.query.now c.args.means.now (UniteIsCounted c.args.self.now c.args.shorter.now)
+    (Refused (Some error)) (ended result) c.args.disk.now c.args.work.now c.drain.new.disk c.drain.new.work
+    (sym (refused_by Some result error c.from_residual-in_err-drain.ensures.1))
+    (refused_other g.D.TapeDisk g.H.KeyHash.hash_of c.args.query.now c.args.means.now _
+    (UniteIsCounted c.args.self.now c.args.shorter.now) (Some error) c.args.disk.now c.args.work.now c.drain.new.disk c.drain.new.work
+    c.in_err-drain.ensures.ran)
 
 pub returns-clause-part : goal.returns-clause-part
 returns-clause-part g c =

@@ -1,7 +1,7 @@
 use Rattle.std.specs.Prelude.{◌≡◌, ◌++◌, ◌∷◌, ◌&&◌, [], ℕ, List}
 use Rattle.std.proofs.Common.{sym, ◌∙◌, ap}
 use Rattle.hash_agg.proofs.Words.{is_empty, fits, packed_keys, entries_of, setting_of}
-use Rattle.hash_agg.proofs.pass.Pass.room_for.Goals as goal
+use Rattle.hash_agg.proofs.pass.Pass.need_to_insert.Goals as goal
 
 pub returns-clause-exact : goal.returns-clause-exact
 returns-clause-exact g c = λ hash.
