@@ -41,6 +41,13 @@ idle g request owned old new disk reply steps tells faultless works = record {
   limit = λ honest. works;
 }
 
+-- the same of a store that is the one before it
+pub turns_executes : {D : Type 0} {g : Ghosts D} {request : Request} {owned : List Record} {before after : D} {reply : Reply}
+    {old now new : Store} → old ≡ now → Executes g request owned old before reply new after
+    → Executes g request owned now before reply new after
+turns_executes {g = g} {request = request} {owned = owned} {before = before} {after = after} {reply = reply} {new = new} same is =
+    subst (λ s. Executes g request owned s before reply new after) same is
+
 -- why a feed is no batch
 no_batch : (held : Held) (origin number : List ℕ) (told : ℕ) (owned : List Record) (error : BatchError)
     → BuildFault (kinds held.query.columns) origin number told owned error

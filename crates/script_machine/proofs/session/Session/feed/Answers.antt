@@ -1,16 +1,16 @@
-use Rattle.std.specs.Prelude.{take, refl}
+use Rattle.std.specs.Prelude.{◌≡◌, take, refl, Some}
 use Rattle.std.proofs.Common.{◌∙◌, ap, sym, subst}
 use Rattle.std.proofs.lemmas.Result.{IfErr-at_err}
 use Rattle.std.specs.Option.{is_some}
 use Rattle.query_checks.specs.Checks.{Checked}
 use Rattle.batch_reader.specs.Refusal.{BuildFault}
-use Rattle.replica_merge.specs.DeliveryLaws.{delivery_refused}
 use Rattle.replies.specs.BatchLaws.{read_are_packed}
 use Rattle.script_commands.specs.Commands as ask
-use Rattle.script_machine.proofs.Words.{Executes, Held, Store, Updates, kinds}
+use Rattle.script_machine.proofs.Words.{BatchError, Executes, Held, IsRead, Store, Updates, kinds}
+use Rattle.replies.specs.declared.refusal.Refusal.{Refusal}
 use Rattle.replies.specs.declared.refusal.Refusal.TheVariants as why
 use Rattle.replies.specs.declared.reply.Reply.TheVariants as says
-use Rattle.script_machine.proofs.ExecuteLaws.{feed_taken, feed_unread, feed_untaken, idle}
+use Rattle.script_machine.proofs.ExecuteLaws.{feed_taken, feed_unread, feed_untaken, idle, turns_executes}
 use Rattle.script_machine.proofs.FeedLaws.{read_of_feed}
 use Rattle.script_machine.proofs.StoreLaws.{feed_nowhere, store_replaced, updated}
 use Rattle.script_machine.proofs.session.Session.feed.Goals as goal
@@ -18,8 +18,8 @@ use Rattle.script_machine.proofs.session.Session.feed.Goals as goal
 pub deliver-requires-clause-rows : goal.deliver-requires-clause-rows
 deliver-requires-clause-rows g c =
     let batch = c.in_ok-batch.ensures in
-    read_are_packed _ _ _ _ _ _
-    (read_of_feed _ _ c.args.origin.now c.args.number.now c.args.told (take c.args.told c.args.records.now) _ c.in-Ok.batch
+    let owned = take c.args.told c.args.records.now in
+    read_are_packed _ _ _ _ _ _ (read_of_feed _ _ c.args.origin.now c.args.number.now c.args.told owned _ c.in-Ok.batch
     (c.schema-schema.ensures.columns ∙ ap (λ (q : Checked). q.columns) c.query.ensures) c.in-Ok.is batch.origin batch.number batch.few
     batch.told batch.rows)
 
@@ -35,14 +35,7 @@ returns-in_default-clause-executes g c =
       saved = c.self.inside.saved.entries;
       limit = c.self.inside.means.limit;
     } in
-    subst (λ (s : Store). Executes g.D.TapeDisk request owned s disk (says.Refused why.NoSuchName)
-    (record {
-      columns = c.self.inside.columns;
-      query = c.self.inside.query;
-      replicas = c.get_mut.follows.lender-at-none.entries;
-      saved = c.self.inside.saved.entries;
-      limit = c.self.inside.means.limit;
-    }) disk) c.self.view_is
+    turns_executes c.self.view_is
     (subst (λ m. Executes g.D.TapeDisk request owned old disk (says.Refused why.NoSuchName)
     (record {
       columns = c.self.inside.columns;
@@ -53,3 +46,126 @@ returns-in_default-clause-executes g c =
     }) disk) (sym c.get_mut.follows.holds-at-none)
     (idle g.D.TapeDisk request owned old old disk (says.Refused why.NoSuchName)
     (feed_nowhere old c.args.name.now c.args.origin.now c.args.number.now c.args.told owned (sym c.in_default.ensures.value)) tt refl tt))
+
+pub invariant_of-self-in_err-batch : goal.invariant_of-self-in_err-batch
+invariant_of-self-in_err-batch g c =
+    let there = sym c.in-Some.ensures.value in
+    store_replaced c.self.inside.means.limit c.self.inside.columns c.self.inside.query c.self.inside.saved.entries c.args.name.now
+    c.in-Some.replica.now c.in-Some.replica.now c.self.inside.replicas (c.get_mut.follows.lender c.in-Some.replica.now)
+    c.self.invariant there refl ((c.get_mut.follows.holds c.in-Some.replica.now).3 (ap is_some there))
+
+pub invariant_of-self-in-Err : goal.invariant_of-self-in-Err
+invariant_of-self-in-Err g c =
+    let there = sym c.in-Some.ensures.value in
+    store_replaced c.self.inside.means.limit c.self.inside.columns c.self.inside.query c.self.inside.saved.entries c.args.name.now
+    c.in-Some.replica.now c.in-Some.replica.now c.self.inside.replicas (c.get_mut.follows.lender c.in-Some.replica.now)
+    c.self.invariant there refl ((c.get_mut.follows.holds c.in-Some.replica.now).3 (ap is_some there))
+
+pub invariant_of-self : goal.invariant_of-self
+invariant_of-self g c =
+    let there = sym c.in-Some.ensures.value in
+    store_replaced c.self.inside.means.limit c.self.inside.columns c.self.inside.query c.self.inside.saved.entries c.args.name.now
+    c.in-Some.replica.now c.deliver.new.self c.self.inside.replicas (c.get_mut.follows.lender c.deliver.new.self)
+    c.self.invariant there c.deliver.ensures.delivers.asked ((c.get_mut.follows.holds c.deliver.new.self).3 (ap is_some there))
+
+pub returns-in-Err-clause-executes : goal.returns-in-Err-clause-executes
+returns-in-Err-clause-executes g c =
+    let there = sym c.in-Some.ensures.value in
+    let owned = take c.args.told c.args.records.now in
+    let disk = c.args.disk.now in
+    let held = c.in-Some.replica.now in
+    let old : Store = record {
+      columns = c.self.inside.columns;
+      query = c.self.inside.query;
+      replicas = c.self.inside.replicas.entries;
+      saved = c.self.inside.saved.entries;
+      limit = c.self.inside.means.limit;
+    } in
+    let new : Store = record {
+      columns = c.self.inside.columns;
+      query = c.self.inside.query;
+      replicas = (c.get_mut.follows.lender c.in-Some.replica.now).entries;
+      saved = c.self.inside.saved.entries;
+      limit = c.self.inside.means.limit;
+    } in
+    let u : Updates old new c.args.name.now held =
+    updated c.self.inside.means.limit c.self.inside.columns c.self.inside.query c.self.inside.saved.entries c.args.name.now
+    c.in-Some.replica.now c.self.inside.replicas (c.get_mut.follows.lender c.in-Some.replica.now)
+    ((c.get_mut.follows.holds c.in-Some.replica.now).3 (ap is_some there)) in
+    let fault = IfErr-at_err (BuildFault (kinds _) c.args.origin.now c.args.number.now c.args.told owned) c.in-Err.is
+    c.in_ok-batch.ensures.refused in
+    turns_executes c.self.view_is
+    (subst (λ (w : Refusal). Executes g.D.TapeDisk (ask.Feed c.args.name.now c.args.origin.now c.args.number.now c.args.told) owned old disk
+    (says.Refused w) new disk) (sym c.from.ensures)
+    (feed_unread g.D.TapeDisk old new c.args.name.now c.args.origin.now c.args.number.now c.args.told owned held c.self.invariant there disk
+    c.in-Err.why u
+    (subst (λ cs. BuildFault (kinds cs) c.args.origin.now c.args.number.now c.args.told owned c.in-Err.why)
+    (c.schema-schema.ensures.columns ∙ ap (λ (q : Checked). q.columns) c.query.ensures) fault)))
+
+pub returns-in-Ok-clause-executes : goal.returns-in-Ok-clause-executes
+returns-in-Ok-clause-executes g c =
+    let there = sym c.in-Some.ensures.value in
+    let batch = c.in_ok-batch.ensures in
+    let owned = take c.args.told c.args.records.now in
+    let held = c.in-Some.replica.now in
+    let later = c.deliver.new.self in
+    let old : Store = record {
+      columns = c.self.inside.columns;
+      query = c.self.inside.query;
+      replicas = c.self.inside.replicas.entries;
+      saved = c.self.inside.saved.entries;
+      limit = c.self.inside.means.limit;
+    } in
+    let new : Store = record {
+      columns = c.self.inside.columns;
+      query = c.self.inside.query;
+      replicas = (c.get_mut.follows.lender c.deliver.new.self).entries;
+      saved = c.self.inside.saved.entries;
+      limit = c.self.inside.means.limit;
+    } in
+    let u : Updates old new c.args.name.now later =
+    updated c.self.inside.means.limit c.self.inside.columns c.self.inside.query c.self.inside.saved.entries c.args.name.now
+    c.deliver.new.self c.self.inside.replicas (c.get_mut.follows.lender c.deliver.new.self)
+    ((c.get_mut.follows.holds c.deliver.new.self).3 (ap is_some there)) in
+    let read = read_of_feed _ _ c.args.origin.now c.args.number.now c.args.told owned _ c.in-Ok.batch
+    (c.schema-schema.ensures.columns ∙ ap (λ (q : Checked). q.columns) c.query.ensures) c.in-Ok.is batch.origin batch.number batch.few
+    batch.told batch.rows in
+    turns_executes c.self.view_is
+    (feed_taken g.D.TapeDisk old new c.args.name.now c.args.origin.now c.args.number.now c.args.told owned held c.self.invariant there later
+    c.in-Ok.batch u read c.args.disk.now c.deliver.new.disk c.none.result c.deliver.new.work c.in-Ok-deliver.delivered
+    c.in-Ok-deliver.ensures.delivers c.in-Ok-deliver.ensures.ran.disk c.none.ensures c.in-Ok-deliver.ensures.ran.counted)
+
+pub returns-in-Err-deliver-clause-executes : goal.returns-in-Err-deliver-clause-executes
+returns-in-Err-deliver-clause-executes g c =
+    let there = sym c.in-Some.ensures.value in
+    let batch = c.in_ok-batch.ensures in
+    let owned = take c.args.told c.args.records.now in
+    let held = c.in-Some.replica.now in
+    let later = c.deliver.new.self in
+    let old : Store = record {
+      columns = c.self.inside.columns;
+      query = c.self.inside.query;
+      replicas = c.self.inside.replicas.entries;
+      saved = c.self.inside.saved.entries;
+      limit = c.self.inside.means.limit;
+    } in
+    let new : Store = record {
+      columns = c.self.inside.columns;
+      query = c.self.inside.query;
+      replicas = (c.get_mut.follows.lender c.deliver.new.self).entries;
+      saved = c.self.inside.saved.entries;
+      limit = c.self.inside.means.limit;
+    } in
+    let u : Updates old new c.args.name.now later =
+    updated c.self.inside.means.limit c.self.inside.columns c.self.inside.query c.self.inside.saved.entries c.args.name.now
+    c.deliver.new.self c.self.inside.replicas (c.get_mut.follows.lender c.deliver.new.self)
+    ((c.get_mut.follows.holds c.deliver.new.self).3 (ap is_some there)) in
+    let read = read_of_feed _ _ c.args.origin.now c.args.number.now c.args.told owned _ c.in-Ok.batch
+    (c.schema-schema.ensures.columns ∙ ap (λ (q : Checked). q.columns) c.query.ensures) c.in-Ok.is batch.origin batch.number batch.few
+    batch.told batch.rows in
+    turns_executes c.self.view_is
+    (subst (λ (w : Refusal). Executes g.D.TapeDisk (ask.Feed c.args.name.now c.args.origin.now c.args.number.now c.args.told) owned old
+    c.args.disk.now (says.Refused w) new c.deliver.new.disk) (sym c.from-2.ensures)
+    (feed_untaken g.D.TapeDisk old new c.args.name.now c.args.origin.now c.args.number.now c.args.told owned held c.self.invariant there later
+    c.in-Ok.batch u read c.args.disk.now c.deliver.new.disk c.none.result c.deliver.new.work c.in-Err-deliver.refused
+    c.in-Err-deliver.ensures.delivers c.in-Err-deliver.ensures.ran.disk c.in-Err-deliver.ensures.ran.undamaged))
