@@ -1,15 +1,14 @@
 -- What is answered of inputs, and what is counted, once all passes over them were made.
-use Rattle.std.specs.Prelude.{◌≡◌, ◌≢◌, refl, ℕ, ◌+◌, ◌≤◌, min, max, List, [], ◌∷◌, map, length, Some, Result, IsErrAnd, IsTrue}
+use Rattle.std.specs.Prelude.{◌≡◌, ◌≢◌, refl, ℕ, ◌+◌, ◌≤◌, min, max, List, [], map, length, Some, Result, IsErrAnd, IsTrue}
 use Rattle.std.specs.List.{AllByRecursion}
 use Rattle.std.proofs.Common.{sym, ◌∙◌, ap, subst, arith}
-use Rattle.std.proofs.lemmas.List.Sums.{sum_by-cons}
 use Rattle.std.proofs.lemmas.Result.{err_from_is_err_and}
 use Rattle.agg_protocol.specs.States.{most_rows}
 use Rattle.aggregation_cost.specs.Lemmas.BoundLaws.{spilled_few}
 use Rattle.hash_agg.proofs.Words.{cost, Setting, Cost, Query, meaning, Entry, Rises, AreGroups, AreInputs, query_of, states_width}
 use Rattle.hash_agg.proofs.Words.{setting_in, concatenated, Brought, all_rows, all_groups, IsInput, IsAggregate, IsRunOver, Given, AllGive}
 use Rattle.hash_agg.proofs.Words.{AreSafe, CountUpTo, IsPlan, Stands, setting_for, records_of, all_pieces, AddsUp, Pass, Plan, Work}
-use Rattle.hash_agg.proofs.Words.{Counted, rows_in, DiskFrame, Ghosts, spill_faults, TapeDamaged}
+use Rattle.hash_agg.proofs.Words.{DiskFrame, Ghosts, spill_faults, TapeDamaged}
 use Rattle.query_checks.specs.Checks.{Checked}
 use Rattle.spill_partitions.specs.declared.error.SpillError.{SpillError}
 use Rattle.hash_agg.specs.Counting.{HasFewPasses, IsCounted, Took, cost_given, no_work, told_work, setting_by}
@@ -190,11 +189,6 @@ module _ {H D : Type 0} (hash_of : H → List ℕ → ℕ) (g : Ghosts D) (query
       }
 
 -- ---- a run that more is folded into
-
--- the rows of a run and of inputs behind it
-pub rows_behind : (run : List Entry) (rows : ℕ) (inputs : List Brought) → all_rows (Counted run rows ∷ inputs) ≤ most_rows
-    → rows + all_rows inputs ≤ most_rows
-rows_behind run rows inputs few = let both = sum_by-cons rows_in (Counted run rows) inputs in omega (arith, few, both)
 
 adds_told : (old told new : Work) (c : Cost) → AddsUp no_work c told → new.passes ≡ min (old.passes + told.passes) 18446744073709551615
     → new.spilled ≡ min (old.spilled + told.spilled) 340282366920938463463374607431768211455

@@ -1,6 +1,7 @@
 //! The aggregation of inputs.
 
 ghost use Rattle.std.specs.Prelude.{◌≡◌, ◌≢◌, ◌≤◌, map, IfOk, IfErr};
+ghost use Rattle.std.specs.List.{AllByRecursion};
 ghost use Rattle.tape_disks.specs.Calls.{failed};
 ghost use Rattle.tape_disks.specs.Disk.{DiskFrame};
 ghost use Rattle.spill_partitions.specs.Errors.{spill_faults};
@@ -9,7 +10,7 @@ ghost use Rattle.agg_protocol.specs.States.{most_rows};
 ghost use Rattle.having_filter.specs.Meaning.{meaning};
 ghost use Rattle.hash_agg.specs.Added.{Continues, IsFirst, IsOver, IsSafeRun, MadeFirst, MadeLater, query_of};
 ghost use Rattle.hash_agg.specs.Counting.{Took, no_work, told_work};
-ghost use Rattle.hash_agg.specs.Inputs.{brought, all_rows, AreInputs, Aggregation};
+ghost use Rattle.hash_agg.specs.Inputs.{brought, all_rows, AreInputs, Aggregation, IsInput};
 ghost use Rattle.hash_agg.specs.Ran.{Ran, ended};
 
 use crate::input::Input;
@@ -52,7 +53,8 @@ pub fn aggregate<H: KeyHash + Copy, D: TapeDisk>(
     means: &Means<H>,
     disk: &mut D,
 ) -> Result<(Run, Work), SpillError>
-    requires inputs { AreInputs (meaning query.now) most_rows (map brought inputs.now) }
+    requires inputs { AllByRecursion (IsInput (meaning query.now)) (map brought inputs.now) }
+    requires few { all_rows (map brought inputs.now) ≤ most_rows }
     ensures aggregated { IfOk result (Aggregation (D.honest disk.old) (meaning query.now) (map brought inputs.now)) }
     ensures ran { Ran D.TapeDisk H.hash_of query.now means.now (Took (map brought inputs.now)) (ended result) disk.old no_work
         disk.new (told_work result) }

@@ -1,10 +1,12 @@
 //! More inputs for a run.
 
-ghost use Rattle.std.specs.Prelude.{◌≡◌, ◌∷◌, map, OnOk, OnErr};
+ghost use Rattle.std.specs.Prelude.{◌≡◌, ◌+◌, ◌≤◌, ◌∷◌, map, OnOk, OnErr};
+ghost use Rattle.std.specs.List.{AllByRecursion};
 ghost use Rattle.agg_protocol.specs.States.{most_rows};
 ghost use Rattle.having_filter.specs.Meaning.{meaning};
 ghost use Rattle.hash_agg.specs.Counting.{IsCounted};
-ghost use Rattle.hash_agg.specs.Inputs.{Counted, brought, AreInputs, Aggregated};
+ghost use Rattle.group_runs.specs.Standing.{IsRun};
+ghost use Rattle.hash_agg.specs.Inputs.{Counted, brought, all_rows, Aggregated, IsInput};
 ghost use Rattle.hash_agg.specs.Ran.{Ran, ended};
 
 use crate::aggregation::aggregate;
@@ -36,7 +38,9 @@ pub fn fold<H: KeyHash + Copy, D: TapeDisk>(
     disk: &mut D,
     work: &mut Work,
 ) -> Result<(), SpillError>
-    requires inputs { AreInputs (meaning query.now) most_rows (Counted run.old rows ∷ map brought more.now) }
+    requires run { IsRun (meaning query.now) rows run.old }
+    requires inputs { AllByRecursion (IsInput (meaning query.now)) (map brought more.now) }
+    requires few { rows + all_rows (map brought more.now) ≤ most_rows }
     ensures folded { OnOk result (Aggregated (D.honest disk.old) (meaning query.now) (Counted run.old rows ∷ map brought more.now)
         run.new) }
     ensures same { OnErr result (run.new ≡ run.old) }

@@ -140,7 +140,7 @@ module _ {D H : Type 0} (g : Ghosts D) (hash_of : H → List ℕ → ℕ) (query
       → (IsTrue (g.honest middle) → reason ≢ Some TapeDamaged)
       → Ran g hash_of query means Counts (Refused reason) before work after work
   refused_later Counts reason before middle after work first second undamaged = record {
-    disk = leaves_twice g first second;
+    disk = leaves_twice g (faults_of (Refused reason)) before middle after first second;
     undamaged = λ honest same. undamaged (subst IsTrue (sym first.honesty) honest) (reason_is same);
     counted = tt;
     uncounted = refl;

@@ -3,7 +3,8 @@ use Rattle.std.specs.List.{AllByRecursion}
 use Rattle.std.proofs.Common.{sym, ◌∙◌, ap, subst, arith}
 use Rattle.tape_disks.specs.DiskLaws.{leaves_twice}
 use Rattle.hash_agg.proofs.Words.{NoMemory, spill_faults, Query, meaning, IsSafeRun, query_of, Brought, brought, all_rows, IsInput}
-use Rattle.hash_agg.proofs.Words.{CountUpTo, all_pieces, Plan}
+use Rattle.hash_agg.proofs.Words.{AreInputs, CountUpTo, all_pieces, Plan}
+use Rattle.agg_protocol.specs.States.{most_rows}
 use Rattle.query_checks.specs.Checks.{Checked}
 use Rattle.hash_agg.specs.Counting.{Took, no_work}
 use Rattle.hash_agg.proofs.AnswerLaws.{plan_counts, refused_ran, aggregation_is, aggregation_ran}
@@ -21,7 +22,7 @@ first_pass-requires-clause-inputs g c =
     ∙ c.rows_of_all.ensures in
     record {
       are = subst (λ (query : Checked). AllByRecursion (IsInput (meaning query)) inputs) (sym (ap (λ (plan : Plan). plan.query.now) by.0
-          ∙ c.in_ok-plan.ensures.query)) c.requires.inputs.are;
+          ∙ c.in_ok-plan.ensures.query)) c.requires.inputs;
       few = omega (arith, most);
     }
 
@@ -67,7 +68,7 @@ returns-in_err-run g c =
     let most : pass.plan.most ≡ all_rows inputs = ap (λ (plan : Plan). plan.most) by.0 ∙ c.in_ok-plan.ensures.most
     ∙ c.rows_of_all.ensures in
     let are : AllByRecursion (IsInput q) inputs = subst (λ (query : Checked). AllByRecursion (IsInput (meaning query)) inputs) (sym queried)
-    c.requires.inputs.are in
+    c.requires.inputs in
     let first = c.in_ok-first.ensures.made in
     let honesty = c.in_ok-first.ensures.disk.honesty in
     let given = all_given q inputs are in
@@ -100,18 +101,19 @@ returns g c =
     ∙ c.limit.ensures.limit in
     let hashed = by.1 ∙ c.hash.ensures in
     let first = c.in_ok-first.ensures.made in
-    let made : MadeAll g.H.KeyHash.hash_of g.D.TapeDisk inputs pass c.args.disk.now no_work c.in_ok-run.run c.later_passes.new.disk
+    let given : AreInputs (meaning c.args.query.now) most_rows inputs = record { are = c.requires.inputs; few = c.requires.few } in
+    let made : MadeAll g.H.KeyHash.hash_of g.D.TapeDisk inputs pass c.args.disk.now no_work c.in_ok-run.run' c.later_passes.new.disk
     c.later_passes.new.work =
-    subst (λ none. MadeAll g.H.KeyHash.hash_of g.D.TapeDisk inputs pass c.args.disk.now none c.in_ok-run.run c.later_passes.new.disk
+    subst (λ none. MadeAll g.H.KeyHash.hash_of g.D.TapeDisk inputs pass c.args.disk.now none c.in_ok-run.run' c.later_passes.new.disk
     c.later_passes.new.work) c.none-work.ensures
     (made_all g.H.KeyHash.hash_of g.D.TapeDisk inputs pass c.args.disk.now c.none-work.result c.in_ok-first.first c.first_pass.new.pass
-    c.first_pass.new.disk c.first_pass.new.work first c.in_ok-run.run c.later_passes.new.disk c.later_passes.new.work
+    c.first_pass.new.disk c.first_pass.new.work first c.in_ok-run.run' c.later_passes.new.disk c.later_passes.new.work
     c.in_ok-first.ensures.disk.honesty c.in_ok-run.ensures.made) in
     record {
       aggregated = aggregation_is g.H.KeyHash.hash_of g.D.TapeDisk c.args.query.now c.args.means.now inputs pass c.args.disk.now plan
-          queried most limited hashed c.requires.inputs c.in_ok-run.run c.later_passes.new.disk c.later_passes.new.work made;
+          queried most limited hashed given c.in_ok-run.run' c.later_passes.new.disk c.later_passes.new.work made;
       ran = aggregation_ran g.H.KeyHash.hash_of g.D.TapeDisk c.args.query.now c.args.means.now inputs pass c.args.disk.now plan
-          queried most limited hashed c.requires.inputs c.in_ok-run.run c.later_passes.new.disk c.later_passes.new.work made
+          queried most limited hashed given c.in_ok-run.run' c.later_passes.new.disk c.later_passes.new.work made
           (leaves_twice g.D.TapeDisk 0 c.args.disk.now c.first_pass.new.disk c.later_passes.new.disk c.in_ok-first.ensures.disk
           c.in_ok-run.ensures.disk);
     }

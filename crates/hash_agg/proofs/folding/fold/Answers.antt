@@ -1,23 +1,19 @@
-use Rattle.std.specs.Prelude.{map, Some}
+use Rattle.std.specs.Prelude.{◌+◌, ◌≤◌, map, Some}
 use Rattle.std.proofs.Common.{sym, arith}
 use Rattle.tape_disks.specs.DiskLaws.{leaves_none}
+use Rattle.agg_protocol.specs.States.{most_rows}
 use Rattle.hash_agg.specs.Counting.{IsCounted, Took, no_work}
 use Rattle.hash_agg.specs.Lemmas.RanLaws.{ran_as, refused_alike, refused_by, refused_later}
 use Rattle.hash_agg.specs.Ran.{Refused, ended}
 use Rattle.hash_agg.proofs.Words.{NoMemory, meaning, brought, all_rows}
 use Rattle.hash_agg.proofs.FoldLaws.{folded, folded_over}
-use Rattle.hash_agg.proofs.AnswerLaws.{rows_behind, fold_ran}
+use Rattle.hash_agg.proofs.AnswerLaws.{fold_ran}
 use Rattle.hash_agg.proofs.folding.fold.Goals as goal
-
-pub aggregate-requires : goal.aggregate-requires
-aggregate-requires g c =
-    let few = rows_behind c.args.run.now c.args.rows (map brought c.args.more.now) c.requires.inputs.few in
-    record { inputs = record { are = c.requires.inputs.are.1; few = omega (arith, few) } }
 
 pub merge_from-requires : goal.merge_from-requires
 merge_from-requires g c =
-    let few = rows_behind c.args.run.now c.args.rows (map brought c.args.more.now) c.requires.inputs.few in
-    let run = c.requires.inputs.are.0 in
+    let few : c.args.rows + all_rows (map brought c.args.more.now) ≤ most_rows = c.requires.few in
+    let run = c.requires.run in
     let more = c.in_ok-more.ensures.aggregated.aggregated.run_over.is_run in (
       c.args.rows,
       all_rows (map brought c.args.more.now),
@@ -26,20 +22,20 @@ merge_from-requires g c =
       run.are,
       more.are,
       more.rises,
-      few,
+      omega (arith, few),
     )
 
 pub returns-clause-folded : goal.returns-clause-folded
 returns-clause-folded g c =
-    let few = rows_behind c.args.run.now c.args.rows (map brought c.args.more.now) c.requires.inputs.few in
-    let run = c.requires.inputs.are.0 in
+    let few : c.args.rows + all_rows (map brought c.args.more.now) ≤ most_rows = c.requires.few in
+    let run = c.requires.run in
     let more = c.in_ok-more.ensures.aggregated.aggregated in
     record {
       aggregate = λ honest.
           folded (meaning c.args.query.now) c.args.rows c.args.run.now c.in_ok-more.more c.merge_from.new.self (map brought c.args.more.now)
-          few run (more.aggregate honest) c.in_ok-merge_from.ensures.added c.schema-schema.ensures.query.well_formed.keys;
+          (omega (arith, few)) run (more.aggregate honest) c.in_ok-merge_from.ensures.added c.schema-schema.ensures.query.well_formed.keys;
       run_over = folded_over (meaning c.args.query.now) c.args.rows c.args.run.now c.in_ok-more.more c.merge_from.new.self
-          (map brought c.args.more.now) few run more.run_over c.in_ok-merge_from.ensures.added;
+          (map brought c.args.more.now) (omega (arith, few)) run more.run_over c.in_ok-merge_from.ensures.added;
     }
 
 pub returns-clause-ran : goal.returns-clause-ran

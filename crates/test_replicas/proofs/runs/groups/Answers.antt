@@ -10,4 +10,4 @@ returns c =
     let counted : all_rows (Packed c.in_ok-rows.rows ∷ []) ≡ c.args.told =
     let told = c.in_ok-rows.ensures.2 in
     omega (arith, told) in
-    subst (λ most. IsRun (meaning c.args.query.now) most c.in_ok-run.run') counted c.in_ok-run.ensures.run.is_run
+    subst (λ most. IsRun (meaning c.args.query.now) most c.in_ok-run.run') counted c.in_ok-run.ensures.aggregated.aggregated.run_over.is_run

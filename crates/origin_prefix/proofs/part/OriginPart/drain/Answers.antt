@@ -1,12 +1,12 @@
 use Rattle.std.specs.Prelude.{refl, ℕ, List, take, ◌≡◌, ◌+◌, ◌*◌, ◌≤◌, map, Some}
 use Rattle.std.proofs.Common.{rules, ◌∙◌, sym, ap, subst, arith}
-use Rattle.std.proofs.lemmas.List.Sums.{sum_by-cons}
+use Rattle.std.specs.List.{AllByRecursion}
 use Rattle.std.specs.Option.{option_copied}
 use Rattle.grouping_model.specs.declared.limits.TheConstants.{LAST_NUMBER, MAX_ROWS}
 use Rattle.grouping_model.specs.Query.{Query}
 use Rattle.having_filter.specs.Meaning.{meaning}
 use Rattle.hash_agg.specs.Counting.{AreCounted, IsCounted}
-use Rattle.hash_agg.specs.Inputs.{Packed, Counted, brought, all_rows, rows_in}
+use Rattle.hash_agg.specs.Inputs.{Packed, brought, all_rows, IsInput}
 use Rattle.hash_agg.specs.Lemmas.RanLaws.{ran_as, ran_still, ran_weaker, refused_by, refused_other}
 use Rattle.hash_agg.specs.Ran.{Done, Refused, ended}
 use Rattle.origin_prefix.specs.Parts.{Batches, Part, IsOpen, Folds, behind, following, rows_following, aggregations_behind}
@@ -29,13 +29,12 @@ fold-requires g c =
     few_following c.args.query.now prefix batches may.above in
     let upto : c.in_ok-inputs.upto ≡ prefix + following prefix batches = c.in_ok-inputs.ensures.upto in
     let limit : c.in_ok-inputs.upto ≤ LAST_NUMBER = c.in_ok-inputs.ensures.limit in
-    let both = sum_by-cons rows_in (Counted c.self.inside.run (prefix * MAX_ROWS)) (map Packed (rows_following prefix batches)) in
+    let same : all_rows (map brought c.deref.result.now) ≡ all_rows (map Packed (rows_following prefix batches)) = ap all_rows are in
+    let rows : c.most_rows.result ≡ prefix * MAX_ROWS = c.most_rows.ensures in
     record {
-      inputs = rw (are, c.most_rows.ensures)
-          (record {
-            are = (may.is_run, following_inputs c.args.query.now prefix batches may.above);
-            few = omega (arith, few, upto, limit, both);
-          });
+      run = rw rows may.is_run;
+      inputs = subst (AllByRecursion (IsInput q)) (sym are) (following_inputs c.args.query.now prefix batches may.above);
+      few = omega (arith, few, same, upto, limit, rows);
     }
 
 pub returns-in_err-inputs-clause-ran : goal.returns-in_err-inputs-clause-ran
