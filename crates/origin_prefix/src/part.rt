@@ -263,7 +263,9 @@ impl OriginPart {
             return self.keep_early(batch);
         }
         match self.drain(query, Some(&batch.rows), means, disk, work) {
-            Ok(()) => Ok(Delivered::Folded { upto: self.prefix }),
+            Ok(()) => Ok(Delivered::Folded {
+                upto: self.prefix(),
+            }),
             Err(error) => {
                 let why = JoinError::from(error);
                 Err(RefusedBatch { batch, why })

@@ -124,7 +124,7 @@ returns-clause-delivery g c =
     c.drain.ensures.drained c.drain.ensures.same in
     elim c.match-drain.branch [
       | in-Ok w ↦ rw w.result-is (record {
-        delivers = (omega (arith, above, next, prefix), ap (λ (p : Part). p.prefix) w.self.view_is, w.in-Ok.ensures.drained);
+        delivers = (omega (arith, above, next, prefix), w.prefix.ensures, w.in-Ok.ensures.drained);
         refuses = tt;
         part = is_part;
       })

@@ -42,8 +42,8 @@ returns-in_err-inputs-clause-ran g c = no_memory_ran g.D.TapeDisk g.H.KeyHash.ha
     (AreCounted (aggregations_with c.args.self.now (option_copied c.args.next))) c.from_residual.result c.args.disk.now c.args.work.now
     c.from_residual.ensures.1
 
-pub returns-then-upto-self-in_err-fold-clause-ran : goal.returns-then-upto-self-in_err-fold-clause-ran
-returns-then-upto-self-in_err-fold-clause-ran g c =
+pub returns-in_err-fold-clause-ran : goal.returns-in_err-fold-clause-ran
+returns-in_err-fold-clause-ran g c =
     let counts = AreCounted (aggregations_with c.args.self.now (option_copied c.args.next)) in
     let result = c.from_residual-in_err-fold.result in
     let error = c.in_err-fold.field-0.0 in

@@ -56,14 +56,14 @@ returns-in_err-agree-clause-ran g c =
     disagree_ran g.D.TapeDisk g.H.KeyHash.hash_of c.args.query.now c.args.means.now (JoinIsCounted c.args.self.now c.args.other.now)
     c.from_residual.result c.in_err-agree.field-0.0 apart.0 c.args.disk.now c.args.work.now apart.1 c.from_residual.ensures.1
 
-pub returns-then-self-other-in_err-united-clause-joining : goal.returns-then-self-other-in_err-united-clause-joining
-returns-then-self-other-in_err-united-clause-joining g c =
+pub returns-in_err-united-clause-joining : goal.returns-in_err-united-clause-joining
+returns-in_err-united-clause-joining g c =
     refused_joining (g.D.TapeDisk.honest c.args.disk.now) c.args.query.now c.args.self.now c.args.other.now
     c.from_residual-in_err-united.result (Spill c.in_err-united.field-0.0) c.from_residual-in_err-united.ensures.1
     c.in_ok-agree.ensures.agree
 
-pub returns-then-self-other-in_err-united-clause-ran : goal.returns-then-self-other-in_err-united-clause-ran
-returns-then-self-other-in_err-united-clause-ran g c =
+pub returns-in_err-united-clause-ran : goal.returns-in_err-united-clause-ran
+returns-in_err-united-clause-ran g c =
     spill_ran g.D.TapeDisk g.H.KeyHash.hash_of c.args.query.now c.args.means.now (UniteIsCounted c.args.other.now c.args.self.now)
     (JoinIsCounted c.args.self.now c.args.other.now) c.from_residual-in_err-united.result c.in_err-united.field-0.0 c.args.disk.now
     c.args.work.now c.united.new.disk c.united.new.work c.from_residual-in_err-united.ensures.1 c.in_err-united.ensures.ran
