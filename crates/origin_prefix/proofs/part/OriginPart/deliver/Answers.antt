@@ -8,12 +8,11 @@ use Rattle.hash_agg.specs.Counting.{AreCounted}
 use Rattle.hash_agg.specs.Lemmas.RanLaws.{ran_as, ran_still}
 use Rattle.hash_agg.specs.Ran.{Refused}
 use Rattle.origin_prefix.specs.Errors.{join_reason}
-use Rattle.origin_prefix.specs.Parts.{Part, rows_at, behind, aggregations_on, aggregations_with}
+use Rattle.origin_prefix.specs.Parts.{Part, rows_at, IsPartOf, behind, aggregations_on, aggregations_with}
 use Rattle.origin_prefix.proofs.CountLaws.{apart_counted, early_apart, next_counted, batch_still, disagrees_faultless, no_memory_faultless}
 use Rattle.origin_prefix.proofs.DeliverLaws.{known_within, reply_early, refused_early, unknown, kept_delivers, part_kept, kept_refuses}
 use Rattle.origin_prefix.proofs.DeliverLaws.{part_drained, behind_gap, next_open}
 use Rattle.origin_prefix.proofs.part.OriginPart.deliver.Goals as goal
-use Rattle.origin_prefix.proofs.part.OriginPart.deliver.Goals.{in-Ok, in-Err}
 
 -- ---- a number within the prefix
 
@@ -107,51 +106,56 @@ drain-requires g c =
           c.requires.rows;
     }
 
-pub returns-clause-delivery : goal.returns-clause-delivery
-returns-clause-delivery g c =
+pub returns-in-Ok-clause-delivery : goal.returns-in-Ok-clause-delivery
+returns-in-Ok-clause-delivery g c =
     let part : Part = c.args.self.now in
     let above = c.if-batch-self.false in
     let next = c.if-batch-self-2.false in
     let prefix : c.self.inside.prefix ≡ part.prefix = ap (λ (p : Part). p.prefix) c.self.view_is in
     let high : c.args.batch.number ≤ LAST_NUMBER = c.requires.number.1 in
+    record {
+      delivers = (omega (arith, above, next, prefix), c.prefix.ensures, c.in-Ok.ensures.drained);
+      refuses = tt;
+      part = part_drained c.drain.result (g.D.TapeDisk.honest c.args.disk.now) c.args.query.now part c.drain.new.self
+          (behind part.prefix part.early (Some c.args.batch.rows)) c.requires.part
+          (next_open c.args.query.now part c.args.batch.rows c.requires.part (omega (arith, above, next, prefix, high)) c.requires.rows)
+          c.drain.ensures.drained c.drain.ensures.same;
+    }
+
+pub returns-in-Err-clause-delivery : goal.returns-in-Err-clause-delivery
+returns-in-Err-clause-delivery g c =
+    let part : Part = c.args.self.now in
+    let above = c.if-batch-self.false in
+    let prefix : c.self.inside.prefix ≡ part.prefix = ap (λ (p : Part). p.prefix) c.self.view_is in
     let over : part.prefix < c.args.batch.number = omega (arith, above, prefix) in
     let none : rows_at part.early c.args.batch.number ≡ None =
     subst (λ (p : Part). rows_at p.early c.args.batch.number ≡ None) c.self.view_is (sym c.get.ensures.value
     ∙ ap option_copied c.in_default.is) in
-    let is_part = part_drained c.drain.result (g.D.TapeDisk.honest c.args.disk.now) c.args.query.now part c.drain.new.self
-    (behind part.prefix part.early (Some c.args.batch.rows)) c.requires.part
-    (next_open c.args.query.now part c.args.batch.rows c.requires.part (omega (arith, above, next, prefix, high)) c.requires.rows)
-    c.drain.ensures.drained c.drain.ensures.same in
-    elim c.match-drain.branch [
-      | in-Ok w ↦ rw w.result-is (record {
-        delivers = (omega (arith, above, next, prefix), w.prefix.ensures, w.in-Ok.ensures.drained);
-        refuses = tt;
-        part = is_part;
-      })
-      | in-Err w ↦ rw w.result-is (record {
-        delivers = tt;
-        refuses = record {
-          back = refl;
-          same = w.in-Err.ensures.same;
-          tells = rw w.from-why.ensures (unknown part c.args.batch.number over none);
-        };
-        part = is_part;
-      })
-    ]
+    record {
+      delivers = tt;
+      refuses = record {
+        back = refl;
+        same = c.in-Err.ensures.same;
+        tells = rw c.from-why.ensures (unknown part c.args.batch.number over none);
+      };
+      part = subst (IsPartOf c.args.query.now) (sym c.in-Err.ensures.same) c.requires.part;
+    }
 
-pub returns-clause-ran : goal.returns-clause-ran
-returns-clause-ran g c =
+pub returns-in-Ok-clause-ran : goal.returns-in-Ok-clause-ran
+returns-in-Ok-clause-ran g c =
     let part : Part = c.args.self.now in
     let above = c.if-batch-self.false in
     let next = c.if-batch-self-2.false in
     let prefix : c.self.inside.prefix ≡ part.prefix = ap (λ (p : Part). p.prefix) c.self.view_is in
-    let these = next_counted part c.args.batch.number c.args.batch.rows (omega (arith, above, next, prefix)) in
-    let counts = AreCounted (aggregations_with part (Some c.args.batch.rows)) in
-    rw these
-    (elim c.match-drain.branch [
-      | in-Ok w ↦ rw w.result-is w.in-Ok.ensures.ran
-      | in-Err w ↦ rw w.result-is
-          (ran_as g.D.TapeDisk g.H.KeyHash.hash_of c.args.query.now c.args.means.now counts (Refused (Some w.in-Err.error)) _
-          c.args.disk.now c.args.work.now c.drain.new.disk c.drain.new.work (ap (λ why. Refused (join_reason why)) (sym w.from-why.ensures))
-          w.in-Err.ensures.ran)
-    ])
+    rw (next_counted part c.args.batch.number c.args.batch.rows (omega (arith, above, next, prefix))) c.in-Ok.ensures.ran
+
+pub returns-in-Err-clause-ran : goal.returns-in-Err-clause-ran
+returns-in-Err-clause-ran g c =
+    let part : Part = c.args.self.now in
+    let above = c.if-batch-self.false in
+    let next = c.if-batch-self-2.false in
+    let prefix : c.self.inside.prefix ≡ part.prefix = ap (λ (p : Part). p.prefix) c.self.view_is in
+    rw (next_counted part c.args.batch.number c.args.batch.rows (omega (arith, above, next, prefix)))
+    (ran_as g.D.TapeDisk g.H.KeyHash.hash_of c.args.query.now c.args.means.now
+    (AreCounted (aggregations_with part (Some c.args.batch.rows))) (Refused (Some c.in-Err.error)) _ c.args.disk.now c.args.work.now
+    c.drain.new.disk c.drain.new.work (ap (λ why. Refused (join_reason why)) (sym c.from-why.ensures)) c.in-Err.ensures.ran)
