@@ -13,7 +13,8 @@ use Rattle.grouping_model.specs.EarlyLaws.{early_are, origins_are}
 use Rattle.grouping_model.specs.KnowledgeLaws.{same_knowledge}
 use Rattle.grouping_model.specs.MemberLaws.{from_contains, to_contains, among_member}
 use Rattle.replica_merge.specs.Lemmas.Words.{Query, World, IsWorld, Knowledge, knows, origins, prefix, early, batch_rows, kinds, packings}
-use Rattle.replica_merge.specs.Lemmas.Words.{Checked, meaning, FitsOrigin, Part, empty, rows_at, tells, IsSummaryIn, IsSummary, IsSaved, Second}
+use Rattle.replica_merge.specs.Lemmas.Words.{Checked, meaning, FitsOrigin, Part, empty, rows_at, tells, IsSummaryIn, IsSummary, IsSaved}
+use Rattle.replica_merge.specs.Lemmas.Words.{Second}
 use Rattle.replica_merge.specs.Lemmas.Words.{world_part, world_file, Parts, part_at, part_of, Held, told, Fits, AreHeldParts}
 use Rattle.grouping_model.specs.Rising.{is_among}
 use Rattle.grouping_model.specs.Lemmas.PrefixLaws.{prefix_unbroken}

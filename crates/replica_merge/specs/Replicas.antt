@@ -62,7 +62,8 @@ JoinsAt honest query own old None new = new ≡ old
 JoinsAt honest query own old (Some theirs) new = (part : Part) × (new ≡ Some part) × Joins honest (meaning query) own theirs part
 
 abbrev pub MergesParts : (honest : Bool) → Checked → Parts → Parts → Parts → Type 0
-MergesParts honest query old other new = (origin : ℕ) → JoinsAt honest query (part_of old origin) (part_at old origin) (part_at other origin)
+MergesParts honest query old other new = (origin : ℕ) → JoinsAt honest query (part_of old origin) (part_at old origin) (part_at other
+    origin)
     (part_at new origin)
 
 -- replicas of a query that fit a world, and what becomes of the first where it takes the second, over an honest disk

@@ -66,19 +66,23 @@ module _ {D : Type 0} (g : Ghosts D) (old new : Store) (name origin number : Lis
       → BuildFault (kinds held.query.columns) origin number told owned error
       → Executes g (ask.Feed name origin number told) owned old before (says.Refused (batch_refusal error)) new before
   feed_unread before error u fault = record {
-    answers = feed_refused old new name origin number told owned held (batch_refusal error) is there (same_updated old new name held u there)
+    answers = feed_refused old new name origin number told owned held (batch_refusal error) is there (same_updated old new name held u
+        there)
         (batch_never_disagrees error) (λ right same. batch_undamaged error (ap refusal_reason same))
         (no_batch held origin number told owned error fault);
-    tells = feed_tells old name origin number told owned (batch_refusal error) (λ of at same. absurd (batch_never_disagrees error of at same));
+    tells = feed_tells old name origin number told owned (batch_refusal error) (λ of at same. absurd (batch_never_disagrees error of at
+        same));
     disk = subst (λ n. DiskFrame g n before before) (sym (batch_tells error)) (leaves_none g before);
     limit = λ right. tt;
   }
 
-  module _ (later : Held) (batch : Batch) (u : Updates old new name later) (read : IsRead (kinds held.query.columns) origin number told owned
+  module _ (later : Held) (batch : Batch) (u : Updates old new name later) (read : IsRead (kinds held.query.columns) origin number told
+      owned
       batch) (before after : D) (begun done : Work) where
     -- the batch was taken
     pub feed_taken : (delivered : Delivered) → DeliversBatch (g.honest before) held batch later (Ok delivered) → DiskFrame g 0 before after
-        → begun ≡ no_work → (IsTrue (g.honest before) → AreCounted (aggregations_on (part_of held.parts batch.origin) batch.number batch.rows)
+        → begun ≡ no_work → (IsTrue (g.honest before) → AreCounted (aggregations_on (part_of held.parts batch.origin) batch.number
+        batch.rows)
         (meaning held.query) (setting_at old.limit (meaning held.query)) begun (g.writes before) done (g.writes after))
         → Executes g (ask.Feed name origin number told) owned old before (says.Delivered delivered) new after
     feed_taken delivered d disk none counted = record {
@@ -107,7 +111,8 @@ module _ {D : Type 0} (g : Ghosts D) (old new : Store) (name origin number : Lis
       tells = feed_tells old name origin number told owned (refused_batch refused) (λ of at same. (
         held,
         there,
-        feed_apart held origin number told owned batch of at read (refused_disagrees (g.honest before) held batch later refused d of at same),
+        feed_apart held origin number told owned batch of at read (refused_disagrees (g.honest before) held batch later refused d of at
+            same),
       ));
       disk = subst (λ n. DiskFrame g n before after) (ap (λ r. faults_of (Refused r)) (sym reasons) ∙ reason_faults (refused_batch refused))
           disk;

@@ -156,7 +156,8 @@ no_faults [] = refl
 no_faults (c ∷ cs) = faults_append (Refused NoMemory ∷ []) (refusals cs) ∙ (λ i. fault_one (Refused NoMemory) i + no_faults cs i)
 
 -- the commands before, their replies and the texts of these, what was written, and the commands that are left
-pub record RunSoFar (disk : Disk) (commands : List Command) (old new : Option (List ℕ)) (refused : ℕ) (left : List Command) (store : Store) :
+pub record RunSoFar (disk : Disk) (commands : List Command) (old new : Option (List ℕ)) (refused : ℕ) (left : List Command) (store :
+    Store) :
     Type 0 where
   pub before : List Command
   pub replies : List Reply

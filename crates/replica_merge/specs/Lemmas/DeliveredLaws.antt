@@ -12,7 +12,8 @@ use Rattle.std.specs.BTreeMap.{BTreeMap, insert_entry, is_at, WritesThrough}
 use Rattle.std.specs.Ordering.{eq_by_cmp, nat_cmp, is_eq, match_ordering}
 use Rattle.std.specs.declared.cmp.Ordering.TheVariants.{Less, Equal, Greater}
 use Rattle.std.proofs.lemmas.Result.{IfOk-weaker, IfErr-weaker}
-use Rattle.replica_merge.specs.Lemmas.Words.{LAST_ORIGIN, Row, InLimits, reply_of, World, IsWorld, knows, learn, prefix, kinds, packings, Checked}
+use Rattle.replica_merge.specs.Lemmas.Words.{LAST_ORIGIN, Row, InLimits, reply_of, World, IsWorld, knows, learn, prefix, kinds, packings}
+use Rattle.replica_merge.specs.Lemmas.Words.{Checked}
 use Rattle.replica_merge.specs.Lemmas.Words.{meaning, Part, empty, rows_at, tells, IsEarly, IsPartOf, Delivers, Disagrees, BatchTells}
 use Rattle.replica_merge.specs.Lemmas.Words.{OriginDisagrees, Spill, FitsOrigin, Parts, part_at, part_of, told, Held, Fits, IsHeldPart}
 use Rattle.replica_merge.specs.Lemmas.Words.{AreHeldParts, DeliversAt, RefusesAt, Delivery, IsPlace, taken_back}
@@ -194,7 +195,8 @@ some_if_tells p n known =
     within false b one two e = absurd (true≢false (sym e))
 
 -- a batch that is taken isn't there already with other rows
-pub taken_agrees : (honest : Bool) (query : Checked) (old new : Part) (n : ℕ) (rows : List (List ℕ)) (reply : Delivered) → IsPartOf query old
+pub taken_agrees : (honest : Bool) (query : Checked) (old new : Part) (n : ℕ) (rows : List (List ℕ)) (reply : Delivered) → IsPartOf query
+    old
     → Delivers honest (meaning query) old n rows new reply → ¬ (Disagrees old n rows)
 taken_agrees honest query old new n rows Known is d there = there.other (d.1 there.kept there.there)
 taken_agrees honest query old new n rows Early is d there = absurd (true≢false (sym (ap is_some there.there)

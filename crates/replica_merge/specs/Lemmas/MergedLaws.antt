@@ -8,9 +8,12 @@ use Rattle.std.specs.Option.{is_some}
 use Rattle.std.specs.List.Sorted.{IsStrictlySortedBy}
 use Rattle.std.specs.BTreeMap.{BTreeMap, insert_entry, WritesThrough}
 use Rattle.std.specs.Ordering.{eq_by_cmp, nat_cmp}
-use Rattle.replica_merge.specs.Lemmas.Words.{World, IsWorld, union, Query, kinds, Checked, meaning, Part, empty, tells, is_nothing, IsPartOf}
-use Rattle.replica_merge.specs.Lemmas.Words.{either, Joins, PartsDisagree, DisagreeAt, JoinTells, JoinIsCounted, OriginDisagrees, FitsOrigin}
-use Rattle.replica_merge.specs.Lemmas.Words.{Parts, part_at, part_of, told, Fits, IsHeldPart, AreHeldParts, AsideAt, JoinedAside, JoinsAt, MergesParts}
+use Rattle.replica_merge.specs.Lemmas.Words.{World, IsWorld, union, Query, kinds, Checked, meaning, Part, empty, tells, is_nothing}
+use Rattle.replica_merge.specs.Lemmas.Words.{IsPartOf}
+use Rattle.replica_merge.specs.Lemmas.Words.{either, Joins, PartsDisagree, DisagreeAt, JoinTells, JoinIsCounted, OriginDisagrees}
+use Rattle.replica_merge.specs.Lemmas.Words.{FitsOrigin}
+use Rattle.replica_merge.specs.Lemmas.Words.{Parts, part_at, part_of, told, Fits, IsHeldPart, AreHeldParts, AsideAt, JoinedAside, JoinsAt}
+use Rattle.replica_merge.specs.Lemmas.Words.{MergesParts}
 use Rattle.replica_merge.specs.Lemmas.Words.{DisagreeSomewhere, IsFirstRefused, filled, MergeIsCounted}
 use Rattle.grouping_model.specs.KnowledgeLaws.{same_knowledge, knows_union}
 use Rattle.aggregation_cost.specs.Space.{Setting}

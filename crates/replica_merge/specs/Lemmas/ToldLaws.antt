@@ -15,7 +15,8 @@ use Rattle.std.specs.Cmp.{nat_cmp_total}
 use Rattle.std.specs.FinMap.{nat_cmp-IsAntisymmetric}
 use Rattle.grouping_model.specs.Rising.{is_among}
 use Rattle.grouping_model.specs.Rising.Facts.{among-append, same_members}
-use Rattle.replica_merge.specs.Lemmas.Words.{of_origin, known_list, batch_cmp, knows, prefix, early, origins, count_up, kinds, Checked, each_both}
+use Rattle.replica_merge.specs.Lemmas.Words.{of_origin, known_list, batch_cmp, knows, prefix, early, origins, count_up, kinds, Checked}
+use Rattle.replica_merge.specs.Lemmas.Words.{each_both}
 use Rattle.replica_merge.specs.Lemmas.Words.{Part, empty, rows_at, tells, IsEarly, IsPartOf, Parts, part_at, part_of, batches_of, told}
 use Rattle.replica_merge.specs.Lemmas.Words.{IsHeldPart, AreHeldParts, known_part}
 use Rattle.grouping_model.specs.MemberLaws.{Member, from_contains, to_contains, among_member}

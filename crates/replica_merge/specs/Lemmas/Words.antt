@@ -13,7 +13,8 @@ pub use Rattle.having_filter.specs.Meaning.{meaning}
 pub use Rattle.list_laws.specs.Each.{each_behind, each_both, each_front, each_weaker}
 pub use Rattle.origin_prefix.specs.Fitting.{FitsOrigin}
 pub use Rattle.origin_prefix.specs.Joins.{DisagreeAt, JoinIsCounted, JoinTells, Joining, Joins, PartsDisagree, either}
-pub use Rattle.origin_prefix.specs.Parts.{BatchTells, Delivers, Delivery, Disagrees, IsEarly, IsPartOf, Part, aggregations_on, empty, is_nothing}
+pub use Rattle.origin_prefix.specs.Parts.{BatchTells, Delivers, Delivery, Disagrees, IsEarly, IsPartOf, Part, aggregations_on, empty}
+pub use Rattle.origin_prefix.specs.Parts.{is_nothing}
 pub use Rattle.origin_prefix.specs.Parts.{rows_at, tells}
 pub use Rattle.origin_prefix.specs.declared.error.JoinError.TheVariants.{OriginDisagrees, Spill}
 pub use Rattle.packed_rows.specs.Columns.{kinds}

@@ -166,6 +166,7 @@ returns-in-Err-deliver-clause-executes g c =
     turns_executes c.self.view_is
     (subst (λ (w : Refusal). Executes g.D.TapeDisk (ask.Feed c.args.name.now c.args.origin.now c.args.number.now c.args.told) owned old
     c.args.disk.now (says.Refused w) new c.deliver.new.disk) (sym c.from-2.ensures)
-    (feed_untaken g.D.TapeDisk old new c.args.name.now c.args.origin.now c.args.number.now c.args.told owned held c.self.invariant there later
+    (feed_untaken g.D.TapeDisk old new c.args.name.now c.args.origin.now c.args.number.now c.args.told owned held c.self.invariant there
+    later
     c.in-Ok.batch u read c.args.disk.now c.deliver.new.disk c.none.result c.deliver.new.work c.in-Err-deliver.refused
     c.in-Err-deliver.ensures.delivers c.in-Err-deliver.ensures.ran.disk c.in-Err-deliver.ensures.ran.undamaged))
