@@ -1,12 +1,12 @@
 -- What the program's commands make of files. A batch file means what a feed of its batch means in a script, and a summary file what
 -- the replica means that it is of. All of this is our own.
-use Rattle.std.specs.Prelude.{Bool, false, IsTrue, ℕ, ◌≡◌, ◌<◌, ◌≤◌, ◌⊎◌, List, [], length, Option, Some, None, IsSomeAnd}
+use Rattle.std.specs.Prelude.{Bool, false, ℕ, ◌≡◌, ◌<◌, ◌≤◌, ◌⊎◌, List, [], length, Option, Some, None, IsSomeAnd}
 use Rattle.grouping_model.specs.Datum.{Kind}
-use Rattle.grouping_model.specs.World.{World, IsWorld, knows, union}
+use Rattle.grouping_model.specs.Query.{Query}
+use Rattle.grouping_model.specs.World.{knows}
 use Rattle.grouping_model.specs.declared.delivered.Delivered.{Delivered}
 use Rattle.grouping_model.specs.declared.limits.TheConstants.{MAX_INPUT_LEN}
 use Rattle.packed_rows.specs.Columns.{Column, kinds, IsSchemaText}
-use Rattle.having_filter.specs.Meaning.{meaning}
 use Rattle.aggregation_cost.specs.Space.{Setting}
 use Rattle.hash_agg.specs.Counting.{AreCounted}
 use Rattle.hash_agg.specs.declared.work.Work.{Work}
@@ -14,12 +14,13 @@ use Rattle.origin_prefix.specs.Parts.{Disagrees, aggregations_on}
 use Rattle.group_parser.specs.Parsing.{Accepts}
 use Rattle.batch_reader.specs.File.{BatchFile}
 use Rattle.batch_reader.specs.Rows.{packings}
+use Rattle.batch_reader.specs.declared.batch.Batch as packed
 use Rattle.batch_reader.specs.declared.error.BatchError.TheVariants as batch
 use Rattle.summary_codec.specs.Reading.{IsSummary, IsSaved, HasFault}
-use Rattle.replica_merge.specs.Replicas.{Held, part_of, told, Fits, DeliversAt, DisagreeSomewhere, Merges}
+use Rattle.replica_merge.specs.Replicas.{Held, part_of, told, DeliversAt}
 use Rattle.replica_merge.specs.Counting.{MergeIsCounted}
-use Rattle.replies.specs.Batches.{Fed, IsBatch, IsNoQuery, IsNoBatch, Takes, IsOtherBatch}
-use Rattle.replies.specs.Joining.{IsApart}
+use Rattle.replies.specs.Batches.{Fed, IsBatch, IsRead, IsNoQuery, IsNoBatch, Takes, IsOtherBatch}
+use Rattle.replies.specs.Refusals.{IsApart}
 use Rattle.replies.specs.declared.error.RunError.TheVariants.{InputTooLong}
 use Rattle.replies.specs.declared.refusal.Refusal.{Refusal}
 use Rattle.replies.specs.declared.refusal.Refusal.TheVariants.{NoMemory, BadSchema, Batch, Summary, Run}
@@ -34,6 +35,10 @@ pub record IsNew (columns query : List ℕ) (held : Held) : Type 0 where
 abbrev pub IsNotNew : (columns query : List ℕ) → Refusal → Type 0
 IsNotNew columns query BadSchema = (found : List Column) → ¬ (IsSchemaText columns found)
 IsNotNew columns query why = (found : List Column) × IsSchemaText columns found × IsNoQuery found query why
+
+-- the batch of a batch file was read of its fields and records
+abbrev pub IsReadOf : List Kind → Option BatchFile → packed.Batch → Type 0
+IsReadOf kinds file batch = IsSomeAnd file (λ read. IsRead kinds read.head.origin read.head.number read.head.told read.records batch)
 
 -- a replica takes the batch of a batch file, over a disk of tapes that may be honest
 abbrev pub TakesFile : (honest : Bool) → Option BatchFile → (old new : Held) → Delivered → Type 0
@@ -59,10 +64,9 @@ abbrev pub IsNewFile : Option BatchFile → Held → Type 0
 IsNewFile file held = OfBatchFile held file (λ origin number packed. knows (told held.parts) (origin, number) ≡ false)
 
 -- what feeding a batch file takes was counted: the aggregation of its batch and of the early ones that follow it
-abbrev pub FeedIsCounted : Setting → Option BatchFile → Held → Work → ℕ → Work → ℕ → Type 0
-FeedIsCounted setting file held old writes new written =
-    OfBatchFile held file (λ origin number packed. AreCounted (meaning held.query) setting
-    (aggregations_on (part_of held.parts origin) number packed) old writes new written)
+abbrev pub FeedIsCounted : Option BatchFile → Held → Query → Setting → Work → ℕ → Work → ℕ → Type 0
+FeedIsCounted file held query setting old writes new written = OfBatchFile held file (λ origin number packed.
+    AreCounted (aggregations_on (part_of held.parts origin) number packed) query setting old writes new written)
 
 -- the batch of a file, which is of this origin and number, and the early one of its number have different rows; they have not
 abbrev pub FileDisagrees : Option BatchFile → Held → ℕ → Option ℕ → Type 0
@@ -87,25 +91,10 @@ IsNoSummary file NoMemory = Unit {0}
 IsNoSummary file (Summary error) = HasFault file error
 IsNoSummary file why = ⊥
 
--- a replica takes in another: the parts of both are joined, afterwards it knows the union, and over an honest disk of tapes it fits each
--- world that both fitted
-pub record MergesHeld (honest : Bool) (old other new : Held) : Type 0 where
-  pub same : other.query ≡ old.query
-  pub asked : new.query ≡ old.query
-  pub agree : ¬ (DisagreeSomewhere old.parts other.parts)
-  pub merges : Merges honest old.query old.parts other.parts new.parts
-  pub knows : told new.parts ≡ union (told old.parts) (told other.parts)
-  pub fits : IsTrue honest → (world : World) → IsWorld (kinds old.query.columns) world → Fits world old → Fits world other → Fits world new
-
--- the same for the replica that a summary file is of
-abbrev pub MergesFile : (honest : Bool) → List ℕ → (old new : Held) → Type 0
-MergesFile honest file old new = (other : Held) × IsSummary file other.query other.parts × MergesHeld honest old other new
-
 -- what merging the replica of a summary file takes was counted
-abbrev pub FileMergeIsCounted : Setting → List ℕ → Held → Work → ℕ → Work → ℕ → Type 0
-FileMergeIsCounted setting file held old writes new written =
-    (other : Held) × IsSummary file other.query other.parts × MergeIsCounted (meaning held.query) setting held.parts other.parts old writes
-    new written
+abbrev pub FileMergeIsCounted : List ℕ → Held → Query → Setting → Work → ℕ → Work → ℕ → Type 0
+FileMergeIsCounted file held query setting old writes new written = (other : Held) × IsSummary file other.query other.parts
+    × MergeIsCounted held.parts other.parts query setting old writes new written
 
 -- why a file is not merged into a replica: it is no summary file, or its replica is not merged
 abbrev pub IsNotMerged : List ℕ → Held → Refusal → Type 0

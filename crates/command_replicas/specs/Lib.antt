@@ -1,2 +1,4 @@
 pub mod Commands
+pub mod Results
+pub mod ResultLaws
 pub mod Lemmas

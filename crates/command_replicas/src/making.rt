@@ -5,14 +5,14 @@ ghost use Rattle.grouping_model.specs.World.{World};
 ghost use Rattle.grouping_model.specs.declared.limits.TheConstants.{MAX_INPUT_LEN};
 ghost use Rattle.summary_codec.specs.Reading.{IsSaved};
 ghost use Rattle.summary_codec.specs.WorldFile.{world_file};
-ghost use Rattle.replica_merge.specs.Replicas.{IsLoaded, told, Fits};
+ghost use Rattle.replica_merge.specs.Replicas.{told, Fits};
 ghost use Rattle.replies.specs.declared.refusal.Refusal.TheVariants.{NoMemory};
-ghost use Rattle.command_replicas.specs.Commands.{IsNew, IsNotNew, IsNoSummary, IsTooLong};
+ghost use Rattle.command_replicas.specs.Commands.{IsNew, IsNotNew, IsTooLong};
+ghost use Rattle.command_replicas.specs.Results.{LoadsFile};
 
 use crate::summary::SummaryFile;
 use group_parser::parse;
 use grouping_model::limits::MAX_INPUT_LEN;
-use having_filter::Query;
 use packed_rows::Schema;
 use replica_merge::Replica;
 use replies::{Refusal, RunError};
@@ -36,22 +36,9 @@ pub fn create(alloc: Global, columns: &str, query: &str) -> Result<Replica, Refu
 /// The replica that a summary file of either version is of: what a replica saved is that replica. Any bytes are read: those that are no
 /// summary file are refused by their first fault. Want of memory is `NoMemory`.
 pub fn load(alloc: Global, file: &[u8]) -> Result<Replica, Refusal>
-    ensures loaded { IfOk result (IsLoaded file.now) }
-    ensures why { IfErr result (IsNoSummary file.now) }
+    ensures loads { LoadsFile file.now result }
 {
-    load_sharing(alloc, None, file)
-}
-
-/// What [`load`] gives. Where a query is told that the file is of, the replica shares that.
-pub(crate) fn load_sharing(
-    alloc: Global,
-    known: Option<&Query>,
-    file: &[u8],
-) -> Result<Replica, Refusal>
-    ensures loaded { IfOk result (IsLoaded file.now) }
-    ensures why { IfErr result (IsNoSummary file.now) }
-{
-    Ok(Replica::load_sharing(alloc, known, file)?)
+    Ok(Replica::load(alloc, file)?)
 }
 
 /// The summary file of a replica: the one spelling of its query and of what it knows, in the second version. A file that would be longer

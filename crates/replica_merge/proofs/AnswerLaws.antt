@@ -10,9 +10,11 @@ use Rattle.std.specs.List.{AllByRecursion}
 use Rattle.std.specs.List.Sorted.{IsStrictlySortedBy}
 use Rattle.std.proofs.lemmas.List.Sorted.{All-permutation}
 use Rattle.std.specs.Ordering.{nat_cmp}
-use Rattle.replica_merge.proofs.Words.{each_weaker, each_both, LAST_ORIGIN, LAST_NUMBER, MAX_ROWS, Row, Query, Group, part, World}
-use Rattle.replica_merge.proofs.Words.{origin_rows, known_rows, rows_upto, Checked, meaning, AreGroups, Part, FitsOrigin, Parts, part_at}
-use Rattle.replica_merge.proofs.Words.{part_of, told, Held, Fits, IsHeldPart, AreHeldParts, counted_part, brought_by, IsRunAlone, IsUnion}
+use Rattle.replica_merge.specs.Lemmas.Words.{each_weaker, each_both, LAST_ORIGIN, LAST_NUMBER, MAX_ROWS, Row, Query, Group, part, World}
+use Rattle.replica_merge.specs.Lemmas.Words.{origin_rows, known_rows, rows_upto, Checked, meaning, AreGroups, Part, FitsOrigin, Parts}
+use Rattle.replica_merge.specs.Lemmas.Words.{part_at}
+use Rattle.replica_merge.specs.Lemmas.Words.{part_of, told, Held, Fits, IsHeldPart, AreHeldParts, counted_part, brought_by, IsRunAlone}
+use Rattle.replica_merge.specs.Lemmas.Words.{IsUnion}
 use Rattle.grouping_model.specs.Sorting.{sorted_moves}
 use Rattle.grouping_model.specs.Aggregates.{Outcome}
 use Rattle.grouping_model.specs.Condition.{is_met}
@@ -23,7 +25,7 @@ use Rattle.group_runs.specs.Runs.{Entry}
 use Rattle.packed_rows.specs.ConcatenatedRows.{concatenated}
 use Rattle.hash_agg.specs.Inputs.{Brought, IsInput, AreInputsOf, all_rows, rows_in}
 use Rattle.origin_prefix.specs.Lemmas.ByNumber.{numbers, above_first, rising_rest}
-use Rattle.replica_merge.proofs.ToldLaws.{HasGap, part_gap, prefix_told, origins_told, each_at, part_here}
+use Rattle.replica_merge.specs.Lemmas.ToldLaws.{HasGap, part_gap, prefix_told, origins_told, each_at, part_here}
 use Rattle.replica_merge.proofs.UnionLaws.{one_part}
 
 -- ---- inputs

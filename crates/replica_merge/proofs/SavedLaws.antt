@@ -2,16 +2,16 @@
 use Rattle.std.specs.Prelude.{◌≡◌, ℕ, List, [], ◌*◌, map, Some, unwrap_or}
 use Rattle.std.proofs.lemmas.List.{map-id}
 use Rattle.std.proofs.Common.{◌∙◌, sym, ap, subst}
-use Rattle.replica_merge.proofs.Words.{each_both, World, origins, prefix, early, batch_rows, origin_rows, rows_upto, part, MAX_ROWS}
-use Rattle.replica_merge.proofs.Words.{packings, Checked, meaning, run_bytes, Part, FitsOrigin, IsSummary, world_part, world_file_in}
-use Rattle.replica_merge.proofs.Words.{world_file, Second, Held, part_at, part_of, told, Fits, IsHeldPart, AreHeldParts}
+use Rattle.replica_merge.specs.Lemmas.Words.{each_both, World, origins, prefix, early, batch_rows, origin_rows, rows_upto, part, MAX_ROWS}
+use Rattle.replica_merge.specs.Lemmas.Words.{packings, Checked, meaning, run_bytes, Part, FitsOrigin, IsSummary, world_part, world_file_in}
+use Rattle.replica_merge.specs.Lemmas.Words.{world_file, Second, Held, part_at, part_of, told, Fits, IsHeldPart, AreHeldParts}
 use Rattle.group_runs.specs.StandingLaws.{stands_spelled}
 use Rattle.origin_prefix.specs.Lemmas.ByNumber.{at, numbers}
 use Rattle.summary_codec.specs.File.{file_in, file_bytes}
 use Rattle.summary_codec.specs.declared.version.Version.{Version}
 use Rattle.summary_codec.specs.Lemmas.OneReading.{one_reading}
 use Rattle.replica_merge.proofs.AnswerLaws.{fit_each}
-use Rattle.replica_merge.proofs.ToldLaws.{origins_told, early_told, prefix_told, map_same, each_at, part_here, HasGap, part_gap}
+use Rattle.replica_merge.specs.Lemmas.ToldLaws.{origins_told, early_told, prefix_told, map_same, each_at, part_here, HasGap, part_gap}
 
 -- the early batches of a part that fits are the world's
 early_are : (query : Checked) (world : World) (o : ℕ) (p : Part) → IsHeldPart query (o, p) → FitsOrigin (meaning query) world o p

@@ -7,8 +7,8 @@ use Rattle.std.proofs.Common.{sym, ◌∙◌, ap, subst, arith, append-nil}
 use Rattle.std.proofs.lemmas.List.{map-append}
 use Rattle.std.proofs.lemmas.List.Sums.{sum_by-cons, sum_by-append}
 use Rattle.std.proofs.lemmas.Grind.{flat_map-append}
-use Rattle.replica_merge.proofs.Words.{each_front, each_behind, MAX_ROWS, Row, row_cmp, Query, part, AreGroups, IsRun, Part, counted}
-use Rattle.replica_merge.proofs.Words.{brought_by, IsRunAlone, IsUnion}
+use Rattle.replica_merge.specs.Lemmas.Words.{each_front, each_behind, MAX_ROWS, Row, row_cmp, Query, part, AreGroups, IsRun, Part, counted}
+use Rattle.replica_merge.specs.Lemmas.Words.{brought_by, IsRunAlone, IsUnion}
 use Rattle.grouping_model.specs.Parts.{keys_of}
 use Rattle.agg_protocol.specs.States.{most_rows}
 use Rattle.packed_rows.specs.ConcatenatedRows.{concatenated}

@@ -12,9 +12,10 @@ use Rattle.std.specs.FinMap.{nat_cmp-IsAntisymmetric}
 use Rattle.grouping_model.specs.EarlyLaws.{early_are, origins_are}
 use Rattle.grouping_model.specs.KnowledgeLaws.{same_knowledge}
 use Rattle.grouping_model.specs.MemberLaws.{from_contains, to_contains, among_member}
-use Rattle.replica_merge.proofs.Words.{Query, World, IsWorld, Knowledge, knows, origins, prefix, early, batch_rows, kinds, packings}
-use Rattle.replica_merge.proofs.Words.{Checked, meaning, FitsOrigin, Part, empty, rows_at, tells, IsSummaryIn, IsSummary, IsSaved, Second}
-use Rattle.replica_merge.proofs.Words.{world_part, world_file, Parts, part_at, part_of, Held, told, Fits, AreHeldParts}
+use Rattle.replica_merge.specs.Lemmas.Words.{Query, World, IsWorld, Knowledge, knows, origins, prefix, early, batch_rows, kinds, packings}
+use Rattle.replica_merge.specs.Lemmas.Words.{Checked, meaning, FitsOrigin, Part, empty, rows_at, tells, IsSummaryIn, IsSummary, IsSaved}
+use Rattle.replica_merge.specs.Lemmas.Words.{Second}
+use Rattle.replica_merge.specs.Lemmas.Words.{world_part, world_file, Parts, part_at, part_of, Held, told, Fits, AreHeldParts}
 use Rattle.grouping_model.specs.Rising.{is_among}
 use Rattle.grouping_model.specs.Lemmas.PrefixLaws.{prefix_unbroken}
 use Rattle.query_checks.specs.Spelling.{spelling}
@@ -30,7 +31,7 @@ use Rattle.summary_codec.specs.Lemmas.SpelledRead.{spelled}
 use Rattle.summary_codec.specs.Lemmas.VersionLaws.{one_body}
 use Rattle.summary_codec.specs.Lemmas.WorldLaws.{are_held, known_from_one, numbers_back, part_fits, second_keeps, world_read}
 use Rattle.replica_merge.proofs.SavedLaws.{one_held, saved_in}
-use Rattle.replica_merge.proofs.ToldLaws.{alike, empty_tells, told_is}
+use Rattle.replica_merge.specs.Lemmas.ToldLaws.{alike, empty_tells, told_is}
 
 -- ---- truth values
 

@@ -1,4 +1,7 @@
 pub mod Replicas
+pub mod Results
+pub mod DeliveryLaws
+pub mod MergeLaws
 pub mod Coding
 pub mod Counting
 pub mod Errors

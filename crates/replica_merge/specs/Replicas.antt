@@ -1,8 +1,9 @@
 -- What a replica holds and tells, and when it fits a world. All of this is our own.
 use Rattle.std.specs.Prelude.{◌≡◌, ◌≢◌, ℕ, ◌*◌, ◌<◌, List, ◌++◌, map, flat_map, Option, Some, None, option_map, unwrap_or, Bool}
-use Rattle.std.specs.Prelude.{if◌then◌else◌, Result, true, IsTrue, OnOk, OnErr, IfOk, IfErr}
+use Rattle.std.specs.Prelude.{if◌then◌else◌, true, false, IsSome}
+use Rattle.std.specs.BTreeMap.{insert_entry, is_at}
 use Rattle.std.specs.List.Sorted.{IsStrictlySortedBy}
-use Rattle.std.specs.Map.{lookup}
+use Rattle.std.specs.Map.{lookup, remove_entry}
 use Rattle.std.specs.Ordering.{eq_by_cmp, nat_cmp}
 use Rattle.grouping_model.specs.declared.limits.TheConstants.{MAX_ROWS}
 use Rattle.grouping_model.specs.declared.delivered.Delivered.{Delivered}
@@ -15,21 +16,11 @@ use Rattle.query_checks.specs.Checks.{Checked}
 use Rattle.having_filter.specs.Meaning.{meaning}
 use Rattle.query_checks.specs.Spelling.{spelling}
 use Rattle.batch_reader.specs.declared.batch.Batch as packed
-use Rattle.origin_prefix.specs.Parts.{Part, empty, is_nothing, IsPartOf, Delivers, BatchTells, aggregations_on}
-use Rattle.aggregation_cost.specs.Space.{Setting}
-use Rattle.tape_disks.specs.Calls.{failed}
-use Rattle.tape_disks.specs.Disk.{DiskFrame}
-use Rattle.tape_disks.specs.declared.disk.TapeDisk.{Ghosts}
-use Rattle.spill_partitions.specs.declared.error.SpillError.TheVariants.{TapeDamaged}
-use Rattle.hash_agg.specs.Counting.{AreCounted}
-use Rattle.hash_agg.specs.declared.work.Work.{Work}
-use Rattle.origin_prefix.specs.Errors.{batch_faults}
+use Rattle.origin_prefix.specs.Parts.{Part, empty, is_nothing, IsPartOf, Delivers, BatchTells}
 use Rattle.origin_prefix.specs.declared.error.JoinError.{JoinError}
-use Rattle.origin_prefix.specs.declared.error.JoinError.TheVariants.{Spill}
 use Rattle.origin_prefix.specs.declared.error.RefusedBatch.{RefusedBatch}
 use Rattle.origin_prefix.specs.Joins.{Joins, PartsDisagree, JoinTells}
 use Rattle.origin_prefix.specs.Fitting.{FitsOrigin}
-use Rattle.summary_codec.specs.Reading.{IsSummary}
 pub use Rattle.origin_prefix.specs.Held.{Parts, IsHeldPart, AreHeldParts}
 use Rattle.replica_merge.specs.declared.known_origin.KnownOrigin as code
 use Rattle.replica_merge.specs.declared.error.MergeError.{MergeError}
@@ -57,11 +48,6 @@ pub record Held : Type 0 where
   pub query : Checked
   pub parts : Parts
 
--- bytes are a summary file of what a replica holds, and of nothing else: so what a replica saved is that replica
-pub record IsLoaded (bytes : List ℕ) (held : Held) : Type 0 where
-  pub summary : IsSummary bytes held.query held.parts
-  pub only : (other : Held) → IsSummary bytes other.query other.parts → held ≡ other
-
 -- a replica fits a world: what it holds of each origin does
 abbrev pub Fits : World → Held → Type 0
 Fits world held = (origin : ℕ) → FitsOrigin (meaning held.query) world origin (part_of held.parts origin)
@@ -75,8 +61,9 @@ abbrev pub JoinsAt : (honest : Bool) → Checked → Part → Option Part → Op
 JoinsAt honest query own old None new = new ≡ old
 JoinsAt honest query own old (Some theirs) new = (part : Part) × (new ≡ Some part) × Joins honest (meaning query) own theirs part
 
-abbrev pub Merges : (honest : Bool) → Checked → Parts → Parts → Parts → Type 0
-Merges honest query old other new = (origin : ℕ) → JoinsAt honest query (part_of old origin) (part_at old origin) (part_at other origin)
+abbrev pub MergesParts : (honest : Bool) → Checked → Parts → Parts → Parts → Type 0
+MergesParts honest query old other new = (origin : ℕ) → JoinsAt honest query (part_of old origin) (part_at old origin) (part_at other
+    origin)
     (part_at new origin)
 
 -- replicas of a query that fit a world, and what becomes of the first where it takes the second, over an honest disk
@@ -87,7 +74,7 @@ pub record MergesIn (world : World) (query : Checked) (own theirs new : Parts) :
   pub new_held : AreHeldParts query new
   pub own_fits : Fits world (record { query = query; parts = own })
   pub their_fits : Fits world (record { query = query; parts = theirs })
-  pub merges : Merges true query own theirs new
+  pub merges : MergesParts true query own theirs new
 
 -- what stands aside of an origin while two replicas are merged: the parts of both, joined, or where the other has none, a place for
 -- the own one
@@ -143,20 +130,15 @@ pub record RefusesAt (old : Parts) (batch : packed.Batch) (new : Parts) (refused
   pub same : new ≡ old
   pub tells : BatchTells refused.why (part_of old batch.origin) batch.number batch.rows
 
--- a batch is delivered to the parts of a query, over a disk of tapes, by a limit and a hash function: the part of its origin takes it, or
--- it is
--- refused; what the aggregation of the batches that are folded takes is counted, and nothing where it is refused; and what that leaves of
--- the disk
-pub record IsDelivery {D : Type 0} (g : Ghosts D) (query : Checked) (setting : Setting) (batch : packed.Batch) (old : Parts) (before : D)
-    (begun : Work) (new : Parts) (after : D) (done : Work) (result : Result Delivered RefusedBatch) : Type 0 where
-  pub taken : IfOk result (DeliversAt (g.honest before) query old batch.origin batch.number batch.rows new)
-  pub refused : IfErr result (RefusesAt old batch new)
-  pub counted : OnOk result (IsTrue (g.honest before)
-      → AreCounted (meaning query) setting (aggregations_on (part_of old batch.origin) batch.number batch.rows) begun (g.writes before) done
-      (g.writes after))
-  pub uncounted : OnErr result (done ≡ begun)
-  pub undamaged : IfErr result (λ refused. IsTrue (g.honest before) → refused.why ≢ Spill TapeDamaged)
-  pub disk : DiskFrame g (failed batch_faults result) before after
+-- the part of an origin has a place, which was made where there was none
+abbrev pub IsPlace : (old : Parts) (origin : ℕ) (new : Parts) → Bool → Type 0
+IsPlace old origin new true = (part_at old origin ≡ None) × (new ≡ insert_entry nat_cmp old origin empty)
+IsPlace old origin new false = IsSome (part_at old origin) × (new ≡ old)
+
+-- the parts without the one of an origin, if its place was made
+abbrev pub taken_back : (origin : ℕ) → Parts → Bool → Parts
+taken_back origin parts true = remove_entry (is_at (nat_cmp origin)) parts
+taken_back origin parts false = parts
 
 -- what a part of an origin says of it
 abbrev pub known_part : ℕ × Part → KnownOrigin

@@ -11,21 +11,21 @@ ghost use Rattle.summary_codec.specs.Worlds.{IsWorldFile};
 ghost use Rattle.summary_codec.specs.declared.version.Version.{Version};
 ghost use Rattle.query_checks.specs.Checks.{Checked};
 ghost use Rattle.query_checks.specs.Spelling.{spelling};
-ghost use Rattle.replica_merge.specs.Replicas.{Parts, Held, told, Fits, AreHeldParts, Merges, MergesIn, counted_part};
+ghost use Rattle.replica_merge.specs.Replicas.{Parts, Held, told, Fits, AreHeldParts, MergesParts, MergesIn, counted_part};
 
 /// In what is told, merging depends neither on which replica takes the other, nor on how several are grouped, and once more
 /// gives nothing new.
 pub fn merged_knowledge()
     ensures commutative { (h i : Bool) (query : Checked) (a b ab ba : Parts) → AreHeldParts query a →
         AreHeldParts query b → AreHeldParts query ab → AreHeldParts query ba →
-        Merges h query a b ab → Merges i query b a ba → told ab ≡ told ba }
+        MergesParts h query a b ab → MergesParts i query b a ba → told ab ≡ told ba }
     ensures associative { (h i j k : Bool) (query : Checked) (a b c ab bc left right : Parts) →
         AreHeldParts query a → AreHeldParts query b → AreHeldParts query c →
         AreHeldParts query ab → AreHeldParts query bc → AreHeldParts query left →
-        AreHeldParts query right → Merges h query a b ab → Merges i query ab c left →
-        Merges j query b c bc → Merges k query a bc right → told left ≡ told right }
+        AreHeldParts query right → MergesParts h query a b ab → MergesParts i query ab c left →
+        MergesParts j query b c bc → MergesParts k query a bc right → told left ≡ told right }
     ensures idempotent { (honest : Bool) (query : Checked) (a aa : Parts) → AreHeldParts query a →
-        AreHeldParts query aa → Merges honest query a a aa → told aa ≡ told a }
+        AreHeldParts query aa → MergesParts honest query a a aa → told aa ≡ told a }
 {}
 
 /// Replicas that fit one world and tell the same batches save the same bytes. So in saved bytes, too, merging depends neither on which

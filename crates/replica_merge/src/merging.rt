@@ -1,25 +1,12 @@
 //! Merging two replicas: the parts of both are joined aside, and then moved in without taking memory.
 
-ghost use Rattle.std.specs.Prelude.{◌≡◌, ◌≢◌, ℕ, Bool, Option, IsTrue, map, cond, option_map, unwrap_or, Some, IfOk, IfErr, OnOk, OnErr};
+ghost use Rattle.std.specs.Prelude.{◌≡◌, ℕ, Bool, map, cond, option_map, unwrap_or, Some, IfOk};
 ghost use Rattle.std.specs.List.Sorted.{IsStrictlySortedBy};
-ghost use Rattle.std.specs.Option.{option_copied};
 ghost use Rattle.std.specs.Ordering.{eq_by_cmp, nat_cmp};
-ghost use Rattle.grouping_model.specs.World.{World, IsWorld, union};
-ghost use Rattle.packed_rows.specs.Columns.{kinds};
-ghost use Rattle.having_filter.specs.Meaning.{meaning};
-ghost use Rattle.hash_agg.specs.Counting.{setting_by};
-ghost use Rattle.origin_prefix.specs.Parts.{Part, empty, IsPartOf};
-ghost use Rattle.origin_prefix.specs.Joins.{Joins, PartsDisagree, JoinTells, JoinIsCounted};
-ghost use Rattle.origin_prefix.specs.declared.error.JoinError.{JoinError};
-ghost use Rattle.origin_prefix.specs.declared.error.JoinError.TheVariants.{OriginDisagrees, Spill};
-ghost use Rattle.replica_merge.specs.Counting.{MergeIsCounted, JoinsInOrder};
-ghost use Rattle.replica_merge.specs.Replicas.{Parts, part_at, part_of, told, Fits, AreHeldParts, JoinedAside, Merges, DisagreeSomewhere};
-ghost use Rattle.replica_merge.specs.Replicas.{MergeTells, filled};
-ghost use Rattle.spill_partitions.specs.declared.error.SpillError.TheVariants.{TapeDamaged};
-ghost use Rattle.tape_disks.specs.Calls.{failed};
-ghost use Rattle.tape_disks.specs.Disk.{DiskFrame};
-ghost use Rattle.replica_merge.specs.Errors.{merge_faults};
-ghost use Rattle.replica_merge.specs.declared.error.MergeError.TheVariants.{Join};
+ghost use Rattle.origin_prefix.specs.Parts.{Part, empty};
+ghost use Rattle.replica_merge.specs.Counting.{MergeRan};
+ghost use Rattle.replica_merge.specs.Replicas.{Held, part_at, AreHeldParts, filled};
+ghost use Rattle.replica_merge.specs.Results.{JoinsHeld, JoinsReplicas, MergesHeld, MergesReplicas};
 
 use crate::error::MergeError;
 use crate::replica::Replica;
@@ -68,41 +55,17 @@ fn places(
     Ok(places)
 }
 
-/// The own part of an origin, if there is one, joined with another.
-fn join_part<H: KeyHash + Copy, D: TapeDisk>(
-    alloc: Global,
-    query: &Query,
+/// The part of an origin, or this where there is none.
+fn part_or<'a>(
+    parts: &'a BTreeMap<u16, OriginPart>,
     origin: u16,
-    own: Option<&OriginPart>,
-    theirs: &OriginPart,
-    means: &Means<H>,
-    disk: &mut D,
-    work: &mut Work,
-) -> Result<OriginPart, MergeError>
-    requires own { IsPartOf query.now (unwrap_or (option_copied own) empty) }
-    requires theirs { IsPartOf query.now theirs.now }
-    ensures joins { IfOk result
-        (Joins (D.honest disk.old) (meaning query.now)
-        (unwrap_or (option_copied own.entry) empty) theirs.now) }
-    ensures counted { OnOk result (IsTrue (D.honest disk.old) →
-        JoinIsCounted (meaning query.now) (setting_by H.hash_of (meaning query.now) means.now)
-        (unwrap_or (option_copied own.entry) empty) theirs.now
-        work.old (D.writes disk.old) work.new (D.writes disk.new)) }
-    ensures part { IfOk result (IsPartOf query.now) }
-    ensures agree { IfOk result (λ _. ¬ (PartsDisagree (unwrap_or (option_copied own.entry) empty)
-        theirs.now)) }
-    ensures tells { IfErr result (λ e. (why : JoinError) × (e ≡ Join origin why)
-        × JoinTells why (unwrap_or (option_copied own.entry) empty) theirs.now) }
-    ensures undamaged { IfErr result (λ e. IsTrue (D.honest disk.old) → (at : ℕ) → e ≢ Join at (Spill TapeDamaged)) }
-    ensures disk { DiskFrame D.TapeDisk (failed merge_faults result) disk.old disk.new }
+    nothing: &'a OriginPart,
+) -> &'a OriginPart
+    ensures { result.now ≡ unwrap_or (part_at parts.now.entries origin) nothing.now }
 {
-    let joined = match own {
-        Some(own) => own.join(theirs, query, means, disk, work),
-        None => OriginPart::empty(alloc).join(theirs, query, means, disk, work),
-    };
-    match joined {
-        Ok(part) => Ok(part),
-        Err(why) => Err(MergeError::Join { origin, why }),
+    match parts.get(&origin) {
+        Some(part) => part,
+        None => nothing,
     }
 }
 
@@ -115,42 +78,34 @@ fn join_all<H: KeyHash + Copy, D: TapeDisk>(
     means: &Means<H>,
     disk: &mut D,
     work: &mut Work,
-) -> Result<BTreeMap<u16, OriginPart>, MergeError>
+) -> Result<Joined, MergeError>
     requires own { AreHeldParts query.now own.now.entries }
     requires theirs { AreHeldParts query.now theirs.now.entries }
-    ensures joined { IfOk result (λ joined.
-        JoinedAside (D.honest disk.old) query.now own.now.entries theirs.now.entries joined.entries) }
-    ensures counted { OnOk result (IsTrue (D.honest disk.old) →
-        MergeIsCounted (meaning query.now) (setting_by H.hash_of (meaning query.now) means.now)
-        own.now.entries theirs.now.entries
-        work.old (D.writes disk.old) work.new (D.writes disk.new)) }
-    ensures tells { IfErr result (λ e. MergeTells e
-        (record { query = query.now; parts = own.now.entries })
-        (record { query = query.now; parts = theirs.now.entries })) }
-    ensures order { IfErr result (λ e. IsTrue (D.honest disk.old) →
-        JoinsInOrder (meaning query.now) (setting_by H.hash_of (meaning query.now) means.now)
-        own.now.entries theirs.now.entries
-        work.old (D.writes disk.old) e (D.writes disk.new)) }
-    ensures undamaged { IfErr result (λ e. IsTrue (D.honest disk.old) → (at : ℕ) → e ≢ Join at (Spill TapeDamaged)) }
-    ensures disk { DiskFrame D.TapeDisk (failed merge_faults result) disk.old disk.new }
+    ensures joins { JoinsReplicas (D.honest disk.old) (record { query = query.now; parts = own.now.entries })
+        (record { query = query.now; parts = theirs.now.entries }) result }
+    ensures ran { MergeRan D.TapeDisk H.hash_of (record { query = query.now; parts = own.now.entries })
+        (record { query = query.now; parts = theirs.now.entries }) means.now result disk.old work.old disk.new work.new }
 {
-    let mut joined = places(alloc, own)?;
+    let nothing = OriginPart::empty(alloc);
+    let Ok(mut joined) = places(alloc, own) else {
+        return Err(MergeError::NoMemory);
+    };
+    let mut counted = *work;
     for (origin, part) in theirs {
-        let part = join_part(
-            alloc,
-            query,
-            *origin,
-            own.get(origin),
-            part,
-            means,
-            disk,
-            work,
-        )?;
+        let own = part_or(own, *origin, &nothing);
+        let part = match own.join(part, query, means, disk, &mut counted) {
+            Ok(part) => part,
+            Err(why) => {
+                let origin = *origin;
+                return Err(MergeError::Join { origin, why });
+            }
+        };
         if joined.insert(*origin, part).is_err() {
             return Err(MergeError::NoMemory);
         }
     }
-    Ok(joined)
+    *work = counted;
+    Ok(Joined { parts: joined })
 }
 
 /// Puts a part back to its place, if nothing else came there.
@@ -189,7 +144,7 @@ impl Replica {
     ///
     /// `DifferentQuery`, and then by rising origin `OriginDisagrees` where its parts disagree, with the first number where they do, and
     /// want of memory or the error of the disk of tapes over which its batches are aggregated. The parts of all lower origins were joined
-    /// before, by construction; `order` has what a clause can say of it.
+    /// before, by construction; `order` of `MergeRan` has what a clause can say of it.
     pub fn join<H: KeyHash + Copy, D: TapeDisk>(
         &self,
         other: &Replica,
@@ -197,64 +152,29 @@ impl Replica {
         disk: &mut D,
         work: &mut Work,
     ) -> Result<Joined, MergeError>
-        ensures joined { IfOk result
-            (JoinedAside (D.honest disk.old) self.now.query self.now.parts other.now.parts) }
-        ensures counted { OnOk result (IsTrue (D.honest disk.old) →
-            MergeIsCounted (meaning self.now.query) (setting_by H.hash_of (meaning self.now.query) means.now)
-            self.now.parts other.now.parts
-            work.old (D.writes disk.old) work.new (D.writes disk.new)) }
-        ensures uncounted { OnErr result (work.new ≡ work.old) }
-        ensures held { IfOk result (λ _. AreHeldParts self.now.query other.now.parts) }
-        ensures query { IfOk result (λ _. other.now.query ≡ self.now.query) }
-        ensures agreed { OnOk result (¬ (DisagreeSomewhere self.now.parts other.now.parts)) }
-        ensures tells { IfErr result (λ e. MergeTells e self.now other.now) }
-        // Replicas that fit one world never disagree.
-        ensures agree { IfErr result (λ e. (origin : ℕ) (number : Option ℕ) →
-            e ≡ Join origin (OriginDisagrees number) → (world : World) →
-            Fits world self.now → Fits world other.now → ⊥) }
-        // Over an honest disk, at least the pages are written that joining the parts of all lower origins takes.
-        ensures order { IfErr result (λ e. IsTrue (D.honest disk.old) →
-            JoinsInOrder (meaning self.now.query) (setting_by H.hash_of (meaning self.now.query) means.now)
-            self.now.parts other.now.parts
-            work.old (D.writes disk.old) e (D.writes disk.new)) }
-        ensures undamaged { IfErr result (λ e. IsTrue (D.honest disk.old) → (at : ℕ) → e ≢ Join at (Spill TapeDamaged)) }
-        ensures disk { DiskFrame D.TapeDisk (failed merge_faults result) disk.old disk.new }
+        ensures joins { JoinsReplicas (D.honest disk.old) self.now other.now result }
+        ensures ran { MergeRan D.TapeDisk H.hash_of self.now other.now means.now result disk.old work.old disk.new work.new }
     {
         if !self.query.same_query(&other.query) {
             return Err(MergeError::DifferentQuery);
         }
         let _own = self.query.schema();
         let _theirs = other.query.schema();
-        let mut counted = *work;
-        let parts = join_all(
+        join_all(
             self.alloc,
             &self.query,
             &self.parts,
             &other.parts,
             means,
             disk,
-            &mut counted,
-        )?;
-        *work = counted;
-        Ok(Joined { parts })
+            work,
+        )
     }
 
     /// Takes what this replica and another hold together in the place of what it held. It takes no memory.
     pub fn commit(&mut self, joined: Joined)
-        requires { (honest : Bool) × (other : Parts) × AreHeldParts self.old.query other
-            × JoinedAside honest self.old.query self.old.parts other joined }
-        ensures query { self.new.query ≡ self.old.query }
-        ensures merges { (honest : Bool) (other : Parts) → AreHeldParts self.old.query other →
-            JoinedAside honest self.old.query self.old.parts other joined →
-            Merges honest self.old.query self.old.parts other self.new.parts }
-        ensures told { (honest : Bool) (other : Parts) → AreHeldParts self.old.query other →
-            JoinedAside honest self.old.query self.old.parts other joined →
-            told self.new.parts ≡ union (told self.old.parts) (told other) }
-        ensures fits { (honest : Bool) → IsTrue honest → (other : Parts) → AreHeldParts self.old.query other →
-            JoinedAside honest self.old.query self.old.parts other joined → (world : World) →
-            IsWorld (kinds self.old.query.columns) world → Fits world self.old →
-            Fits world (record { query = self.old.query; parts = other }) →
-            Fits world self.new }
+        requires { (honest : Bool) × (other : Held) × JoinsHeld honest self.old other joined }
+        ensures { (honest : Bool) (other : Held) → JoinsHeld honest self.old other joined → MergesHeld honest self.old other self.new }
     {
         let Joined { parts } = joined;
         let old = replace(&mut self.parts, parts);
@@ -275,32 +195,8 @@ impl Replica {
         disk: &mut D,
         work: &mut Work,
     ) -> Result<(), MergeError>
-        ensures query { self.new.query ≡ self.old.query }
-        ensures merges { OnOk result
-            (Merges (D.honest disk.old) self.old.query self.old.parts other.now.parts self.new.parts) }
-        ensures counted { OnOk result (IsTrue (D.honest disk.old) →
-            MergeIsCounted (meaning self.old.query) (setting_by H.hash_of (meaning self.old.query) means.now)
-            self.old.parts other.now.parts
-            work.old (D.writes disk.old) work.new (D.writes disk.new)) }
-        ensures uncounted { OnErr result (work.new ≡ work.old) }
-        ensures told { OnOk result (told self.new.parts
-            ≡ union (told self.old.parts) (told other.now.parts)) }
-        ensures fits { OnOk result (IsTrue (D.honest disk.old) → (world : World) → IsWorld (kinds self.old.query.columns) world →
-            Fits world self.old → Fits world other.now → Fits world self.new) }
-        ensures refused { OnErr result (self.new ≡ self.old) }
-        ensures same { OnOk result (other.now.query ≡ self.old.query) }
-        ensures agreed { OnOk result (¬ (DisagreeSomewhere self.old.parts other.now.parts)) }
-        ensures tells { IfErr result (λ e. MergeTells e self.old other.now) }
-        ensures agree { IfErr result (λ e. (origin : ℕ) (number : Option ℕ) →
-            e ≡ Join origin (OriginDisagrees number) → (world : World) →
-            Fits world self.old → Fits world other.now → ⊥) }
-        // Over an honest disk, at least the pages are written that joining the parts of all lower origins takes.
-        ensures order { IfErr result (λ e. IsTrue (D.honest disk.old) →
-            JoinsInOrder (meaning self.old.query) (setting_by H.hash_of (meaning self.old.query) means.now)
-            self.old.parts other.now.parts
-            work.old (D.writes disk.old) e (D.writes disk.new)) }
-        ensures undamaged { IfErr result (λ e. IsTrue (D.honest disk.old) → (at : ℕ) → e ≢ Join at (Spill TapeDamaged)) }
-        ensures disk { DiskFrame D.TapeDisk (failed merge_faults result) disk.old disk.new }
+        ensures merges { MergesReplicas (D.honest disk.old) self.old other.now self.new result }
+        ensures ran { MergeRan D.TapeDisk H.hash_of self.old other.now means.now result disk.old work.old disk.new work.new }
     {
         let joined = self.join(other, means, disk, work)?;
         self.commit(joined);

@@ -1,30 +1,25 @@
 //! What a replica holds, and what it tells of it.
 
-ghost use Rattle.std.specs.Prelude.{◌≡◌, ◌≢◌, ◌+◌, ◌≤◌, ℕ, List, Option, None, All, [], map, length, Some, IsSome, IsTrue, false, IfOk};
-ghost use Rattle.std.specs.Prelude.{IfErr, OnOk, OnErr};
-ghost use Rattle.grouping_model.specs.declared.limits.TheConstants.{LAST_NUMBER};
+ghost use Rattle.std.specs.Prelude.{◌≡◌, ℕ, List, None, All, [], map, length, IfOk, OnErr};
 ghost use Rattle.grouping_model.specs.Answer.{answer};
-ghost use Rattle.grouping_model.specs.Datum.{Row};
-ghost use Rattle.grouping_model.specs.Replies.{InLimits, reply_of, known_list};
-ghost use Rattle.grouping_model.specs.World.{World, IsWorld, knows, learn};
+ghost use Rattle.grouping_model.specs.Replies.{InLimits, known_list};
+ghost use Rattle.grouping_model.specs.World.{World, IsWorld};
 ghost use Rattle.packed_rows.specs.Columns.{kinds};
-ghost use Rattle.batch_reader.specs.Rows.{ArePackedRows, packings};
+ghost use Rattle.batch_reader.specs.Rows.{ArePackedRows};
 ghost use Rattle.having_filter.specs.Meaning.{meaning};
-ghost use Rattle.hash_agg.specs.Counting.{AreCounted, setting_by};
-ghost use Rattle.origin_prefix.specs.Parts.{IsPartOf, Disagrees, BatchTells, aggregations_on};
-ghost use Rattle.origin_prefix.specs.Errors.{batch_faults};
-ghost use Rattle.origin_prefix.specs.declared.error.JoinError.TheVariants.{OriginDisagrees, Spill};
-ghost use Rattle.tape_disks.specs.Calls.{failed};
-ghost use Rattle.tape_disks.specs.Disk.{DiskFrame};
-ghost use Rattle.spill_partitions.specs.declared.error.SpillError.{SpillError};
-ghost use Rattle.spill_partitions.specs.declared.error.SpillError.TheVariants.{TapeDamaged};
-ghost use Rattle.replica_merge.specs.Replicas.{part_at, part_of, told, Fits, AreHeldParts, DeliversAt, IsDelivery, known_of, known_part};
+ghost use Rattle.hash_agg.specs.Counting.{AreCounted};
+ghost use Rattle.hash_agg.specs.Ran.{Ran};
+ghost use Rattle.origin_prefix.specs.Parts.{aggregations_on};
+ghost use Rattle.origin_prefix.specs.Errors.{batch_ended};
+ghost use Rattle.replica_merge.specs.Replicas.{IsPlace, taken_back, part_at, part_of, told, Fits, known_of};
+ghost use Rattle.replica_merge.specs.Replicas.{known_part};
+ghost use Rattle.replica_merge.specs.Results.{DeliversBatch};
 
 use crate::known_origin::KnownOrigin;
 use crate::uniting::{listed, run_alone, united};
 use batch_reader::{Batch, PackedRows};
 use group_answers::finalize_and_project;
-use hash_agg::{KeyHash, Means, SpillError, TapeDisk, Work};
+use hash_agg::{KeyHash, Means, TapeDisk, Work};
 use having_filter::{Answer, Query};
 use origin_prefix::{Delivered, JoinError, OriginPart, RefusedBatch};
 use std::alloc::{AllocError, Global};
@@ -83,59 +78,30 @@ fn known_parts(
     Ok(list)
 }
 
-/// Takes a batch of an origin of which there is a part. A refused batch is handed back and changes nothing.
-fn deliver_to<H: KeyHash + Copy, D: TapeDisk>(
-    query: &Query,
+/// A place for the part of an origin, which is made where there is none yet, and whether it was.
+fn place_of(
+    alloc: Global,
     parts: &mut BTreeMap<u16, OriginPart>,
-    batch: Batch,
-    means: &Means<H>,
-    disk: &mut D,
-    work: &mut Work,
-) -> Result<Delivered, RefusedBatch>
-    requires there { IsSome (part_at parts.old.entries batch.origin) }
-    requires part { IsPartOf query.now (part_of parts.old.entries batch.origin) }
-    requires number { (1 ≤ batch.number) × (batch.number ≤ LAST_NUMBER) }
-    requires rows { ArePackedRows (kinds query.now.columns) batch.rows }
-    ensures { IsDelivery D.TapeDisk query.now (setting_by H.hash_of (meaning query.now) means.now) batch
-        parts.old.entries disk.old work.old parts.new.entries disk.new work.new result }
+    origin: u16,
+) -> Result<bool, AllocError>
+    ensures place { IfOk result (IsPlace parts.old.entries origin parts.new.entries) }
+    ensures none { OnErr result ((part_at parts.old.entries origin ≡ None) × (parts.new.entries ≡ parts.old.entries)) }
 {
-    match parts.get_mut(&batch.origin) {
-        Some(part) => part.deliver(query, batch, means, disk, work),
-        None => unreachable!(),
+    if parts.contains_key(&origin) {
+        return Ok(false);
     }
+    if parts.insert(origin, OriginPart::empty(alloc)).is_err() {
+        return Err(AllocError);
+    }
+    Ok(true)
 }
 
-/// Takes a batch to the part of its origin, which is made where there is none yet.
-fn deliver_in<H: KeyHash + Copy, D: TapeDisk>(
-    alloc: Global,
-    query: &Query,
-    parts: &mut BTreeMap<u16, OriginPart>,
-    batch: Batch,
-    means: &Means<H>,
-    disk: &mut D,
-    work: &mut Work,
-) -> Result<Delivered, RefusedBatch>
-    requires held { AreHeldParts query.now parts.old.entries }
-    requires number { (1 ≤ batch.number) × (batch.number ≤ LAST_NUMBER) }
-    requires rows { ArePackedRows (kinds query.now.columns) batch.rows }
-    ensures { IsDelivery D.TapeDisk query.now (setting_by H.hash_of (meaning query.now) means.now) batch
-        parts.old.entries disk.old work.old parts.new.entries disk.new work.new result }
+/// Takes the place of an origin away again, if it was made.
+fn take_back(parts: &mut BTreeMap<u16, OriginPart>, origin: u16, is_new: bool)
+    ensures { parts.new.entries ≡ taken_back origin parts.old.entries is_new }
 {
-    let origin = batch.origin;
-    if parts.contains_key(&origin) {
-        return deliver_to(query, parts, batch, means, disk, work);
-    }
-    // The part has its place before the batch is taken, so that a batch is never lost.
-    if parts.insert(origin, OriginPart::empty(alloc)).is_err() {
-        let why = JoinError::from(AllocError);
-        return Err(RefusedBatch { batch, why });
-    }
-    match deliver_to(query, parts, batch, means, disk, work) {
-        Ok(delivered) => Ok(delivered),
-        Err(refused) => {
-            parts.remove(&origin);
-            Err(refused)
-        }
+    if is_new {
+        parts.remove(&origin);
     }
 }
 
@@ -179,50 +145,27 @@ impl Replica {
     ) -> Result<Delivered, RefusedBatch>
         requires limits { InLimits (batch.origin, batch.number) }
         requires rows { ArePackedRows (kinds self.old.query.columns) batch.rows }
-        ensures query { self.new.query ≡ self.old.query }
-        ensures reply { IfOk result (λ reply. reply
-            ≡ reply_of (told self.old.parts) (batch.origin, batch.number)) }
-        ensures told { OnOk result (told self.new.parts
-            ≡ learn (told self.old.parts) (batch.origin, batch.number)) }
-        // What becomes of the part of the batch's origin; the others stay.
-        ensures delivers { IfOk result (DeliversAt (D.honest disk.old) self.old.query self.old.parts
-            batch.origin batch.number batch.rows self.new.parts) }
-        // Over an honest disk, a replica that fits a world whose batch this is fits it still.
-        ensures fits { OnOk result (IsTrue (D.honest disk.old) → (world : World) (those : List Row) →
-            IsWorld (kinds self.old.query.columns) world → Fits world self.old →
-            world batch.origin batch.number ≡ Some those → batch.rows ≡ packings those →
-            Fits world self.new) }
-        // What the aggregation of the batches that were folded took was added to the work.
-        ensures counted { OnOk result (IsTrue (D.honest disk.old) →
-            AreCounted (meaning self.old.query) (setting_by H.hash_of (meaning self.old.query) means.now)
-            (aggregations_on (part_of self.old.parts batch.origin) batch.number batch.rows)
-            work.old (D.writes disk.old) work.new (D.writes disk.new)) }
-        ensures uncounted { OnErr result (work.new ≡ work.old) }
-        ensures refused { IfErr result (λ e. (e.batch ≡ batch) × (self.new ≡ self.old)) }
-        ensures tells { IfErr result (λ e.
-            BatchTells e.why (part_of self.old.parts batch.origin) batch.number batch.rows) }
-        // Disagreement is told wherever there is one.
-        ensures agreed { IfOk result (λ _.
-            ¬ (Disagrees (part_of self.old.parts batch.origin) batch.number batch.rows)) }
-        // Nothing but disagreement is told of a number that is known already.
-        ensures unknown { IfErr result (λ e. (error : SpillError) → e.why ≡ Spill error →
-            knows (told self.old.parts) (batch.origin, batch.number) ≡ false) }
-        // Such a world's batch never disagrees.
-        ensures agrees { IfErr result (λ e. (told : Option ℕ) → e.why ≡ OriginDisagrees told →
-            (world : World) (those : List Row) → Fits world self.old →
-            world batch.origin batch.number ≡ Some those → batch.rows ≢ packings those) }
-        ensures undamaged { IfErr result (λ e. IsTrue (D.honest disk.old) → e.why ≢ Spill TapeDamaged) }
-        ensures disk { DiskFrame D.TapeDisk (failed batch_faults result) disk.old disk.new }
+        ensures delivers { DeliversBatch (D.honest disk.old) self.old batch self.new result }
+        ensures ran { Ran D.TapeDisk H.hash_of self.old.query means.now
+            (AreCounted (aggregations_on (part_of self.old.parts batch.origin) batch.number batch.rows)) (batch_ended result)
+            disk.old work.old disk.new work.new }
     {
-        deliver_in(
-            self.alloc,
-            &self.query,
-            &mut self.parts,
-            batch,
-            means,
-            disk,
-            work,
-        )
+        // The part has its place before the batch is taken, so that a batch is never lost.
+        let origin = batch.origin;
+        let Ok(is_new) = place_of(self.alloc, &mut self.parts, origin) else {
+            let why = JoinError::from(AllocError);
+            return Err(RefusedBatch { batch, why });
+        };
+        let Some(part) = self.parts.get_mut(&origin) else {
+            unreachable!();
+        };
+        match part.deliver(&self.query, batch, means, disk, work) {
+            Ok(delivered) => Ok(delivered),
+            Err(refused) => {
+                take_back(&mut self.parts, origin, is_new);
+                Err(refused)
+            }
+        }
     }
 
     /// The answer of the query over the rows of the unbroken prefixes, by the terms of ORDER BY in their order, and else in the order of

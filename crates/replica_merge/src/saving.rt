@@ -1,11 +1,11 @@
 //! Replicas as summary files.
 
-ghost use Rattle.std.specs.Prelude.{◌≡◌, ◌≢◌, IfOk, IfErr};
+ghost use Rattle.std.specs.Prelude.{◌≡◌, IfOk};
 ghost use Rattle.grouping_model.specs.World.{World};
-ghost use Rattle.summary_codec.specs.Reading.{IsSaved, HasFault};
+ghost use Rattle.summary_codec.specs.Reading.{IsSaved};
 ghost use Rattle.summary_codec.specs.WorldFile.{world_file};
-ghost use Rattle.summary_codec.specs.declared.error.SummaryError.TheVariants.{NoMemory};
-ghost use Rattle.replica_merge.specs.Replicas.{IsLoaded, told, Fits};
+ghost use Rattle.replica_merge.specs.Replicas.{told, Fits};
+ghost use Rattle.replica_merge.specs.Results.{LoadsReplica};
 
 use crate::replica::Replica;
 use having_filter::Query;
@@ -27,8 +27,7 @@ impl Replica {
     /// The replica that a summary file is of, of either version. Any bytes are read: those that are no such file are refused, by the first
     /// fault.
     pub fn load(alloc: Global, bytes: &[u8]) -> Result<Replica, SummaryError>
-        ensures loaded { IfOk result (IsLoaded bytes.now) }
-        ensures fault { IfErr result (λ e. e ≢ NoMemory → HasFault bytes.now e) }
+        ensures { LoadsReplica bytes.now result }
     {
         Replica::load_sharing(alloc, None, bytes)
     }
@@ -40,8 +39,7 @@ impl Replica {
         known: Option<&Query>,
         bytes: &[u8],
     ) -> Result<Replica, SummaryError>
-        ensures loaded { IfOk result (IsLoaded bytes.now) }
-        ensures fault { IfErr result (λ e. e ≢ NoMemory → HasFault bytes.now e) }
+        ensures { LoadsReplica bytes.now result }
     {
         let (query, parts) = decode_sharing(alloc, known, bytes)?;
         Ok(Replica {

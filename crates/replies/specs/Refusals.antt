@@ -1,5 +1,6 @@
 -- What lower crates refuse, as replies name it: their own errors, but for want of memory. All of this is our own.
-use Rattle.std.specs.Prelude.{ℕ, Bool, true, false, if◌then◌else◌}
+use Rattle.std.specs.Prelude.{◌≡◌, ℕ, Bool, true, false, Option, Some, None, Result, if◌then◌else◌}
+use Rattle.hash_agg.specs.Ran.{Ended, ended_by}
 use Rattle.packed_rows.specs.declared.error.RowError.{RowError}
 use Rattle.packed_rows.specs.declared.error.RowError.TheVariants as row
 use Rattle.batch_reader.specs.declared.error.BatchError.{BatchError}
@@ -13,6 +14,8 @@ use Rattle.spill_partitions.specs.declared.error.SpillError.{SpillError}
 use Rattle.spill_partitions.specs.declared.error.SpillError.TheVariants as spill
 use Rattle.origin_prefix.specs.declared.error.JoinError.{JoinError}
 use Rattle.origin_prefix.specs.declared.error.JoinError.TheVariants as join
+use Rattle.origin_prefix.specs.declared.error.RefusedBatch.{RefusedBatch}
+use Rattle.replica_merge.specs.Replicas.{Held, MergeTells}
 use Rattle.replica_merge.specs.declared.error.MergeError.{MergeError}
 use Rattle.replica_merge.specs.declared.error.MergeError.TheVariants as merge
 use Rattle.script_io.specs.declared.input.InputError.{InputError}
@@ -35,6 +38,17 @@ tells_fault refusal = false
 -- how often it failed in a call that is refused so
 abbrev pub refusal_faults : Refusal → ℕ
 refusal_faults why = if tells_fault why then 1 else 0
+
+-- the error of spilling that a refusal names, if it names one
+abbrev pub refusal_reason : Refusal → Option SpillError
+refusal_reason NoMemory = Some spill.NoMemory
+refusal_reason TapeFault = Some spill.TapeFault
+refusal_reason TapeDamaged = Some spill.TapeDamaged
+refusal_reason why = None
+
+-- how a call ended that may be refused
+abbrev pub refusal_ended : {T : Type 0} → Result T Refusal → Ended
+refusal_ended result = ended_by refusal_reason result
 
 -- the refusal of columns
 abbrev pub columns_refusal : RowError → Refusal
@@ -67,11 +81,19 @@ abbrev pub join_refusal : (origin : ℕ) → JoinError → Refusal
 join_refusal origin (join.OriginDisagrees number) = OriginDisagrees origin number
 join_refusal origin (join.Spill error) = spill_refusal error
 
+-- the refusal of a batch that is handed back
+abbrev pub refused_batch : RefusedBatch → Refusal
+refused_batch refused = join_refusal refused.batch.origin refused.why
+
 -- the refusal of a replica that another does not take in
 abbrev pub merge_refusal : MergeError → Refusal
 merge_refusal merge.DifferentQuery = DifferentQuery
 merge_refusal merge.NoMemory = NoMemory
 merge_refusal (merge.Join origin why) = join_refusal origin why
+
+-- why a replica is not joined with another
+abbrev pub IsApart : (own theirs : Held) → Refusal → Type 0
+IsApart own theirs why = (error : MergeError) × (why ≡ merge_refusal error) × MergeTells error own theirs
 
 -- why a run stops that could not read its script
 abbrev pub run_error : InputError → RunError

@@ -2,7 +2,7 @@
 
 ghost use Rattle.std.specs.Prelude.{◌≡◌};
 ghost use Rattle.replies.specs.Refusals.{columns_refusal, batch_refusal, query_refusal, summary_refusal, spill_refusal, join_refusal};
-ghost use Rattle.replies.specs.Refusals.{merge_refusal};
+ghost use Rattle.replies.specs.Refusals.{merge_refusal, refused_batch};
 ghost use Rattle.replies.specs.Text.{refusal_name};
 ghost use Rattle.replies.specs.declared.refusal.Refusal.TheVariants.{NoMemory, Limit};
 
@@ -12,7 +12,7 @@ use group_parser::ParseError;
 use hash_agg::{LimitOutOfRange, SpillError};
 use having_filter::QueryError;
 use packed_rows::RowError;
-use replica_merge::{JoinError, MergeError, SummaryError};
+use replica_merge::{JoinError, MergeError, RefusedBatch, SummaryError};
 use std::alloc::AllocError;
 use thiserror::Error;
 
@@ -132,6 +132,14 @@ impl From<SpillError> for Refusal {
             SpillError::TapeFault => Refusal::TapeFault,
             SpillError::TapeDamaged => Refusal::TapeDamaged,
         }
+    }
+}
+
+impl From<RefusedBatch> for Refusal {
+    ghost from_gives = { λ refused refusal. refusal ≡ refused_batch refused };
+
+    fn from(refused: RefusedBatch) -> Refusal {
+        Refusal::of_origin(refused.batch.origin, refused.why)
     }
 }
 

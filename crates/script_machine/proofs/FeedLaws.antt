@@ -35,8 +35,8 @@ read_of_feed asked columns origin number told owned result read same is reads_or
 pub feed_worked : (held : Held) (limit : ℕ) (origin number : List ℕ) (told : ℕ) (owned : List Record) (read : Batch) (begun done : Work)
     (writes written : ℕ)
     → IsRead (kinds held.query.columns) origin number told owned read → begun ≡ no_work
-    → AreCounted (meaning held.query) (setting_at limit (meaning held.query)) (aggregations_on (part_of held.parts read.origin) read.number
-    read.rows) begun writes done written
+    → AreCounted (aggregations_on (part_of held.parts read.origin) read.number read.rows) (meaning held.query)
+    (setting_at limit (meaning held.query)) begun writes done written
     → FeedWorked held limit origin number told owned writes written
 feed_worked held limit origin number told owned read begun done writes written is none counted =
     let query = meaning held.query in
@@ -47,8 +47,8 @@ feed_worked held limit origin number told owned read begun done writes written i
       is_batch = read_is_fed (kinds held.query.columns) origin number told owned read is;
       worked = (
         done,
-        subst (λ packed. AreCounted query setting (aggregations_on part read.number packed) no_work writes done written) is.packed
-            (subst (λ old. AreCounted query setting (aggregations_on part read.number read.rows) old writes done written) none counted),
+        subst (λ packed. AreCounted (aggregations_on part read.number packed) query setting no_work writes done written) is.packed
+            (subst (λ old. AreCounted (aggregations_on part read.number read.rows) query setting old writes done written) none counted),
       );
     }
 

@@ -1,6 +1,7 @@
 pub mod Words
 pub mod FeedLaws
 pub mod StoreLaws
+pub mod ExecuteLaws
 pub mod RunLaws
 pub mod ReplyLaws
 pub mod SomeReply

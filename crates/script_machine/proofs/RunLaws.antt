@@ -156,7 +156,8 @@ no_faults [] = refl
 no_faults (c ∷ cs) = faults_append (Refused NoMemory ∷ []) (refusals cs) ∙ (λ i. fault_one (Refused NoMemory) i + no_faults cs i)
 
 -- the commands before, their replies and the texts of these, what was written, and the commands that are left
-pub record Ran (disk : Disk) (commands : List Command) (old new : Option (List ℕ)) (refused : ℕ) (left : List Command) (store : Store) :
+pub record RunSoFar (disk : Disk) (commands : List Command) (old new : Option (List ℕ)) (refused : ℕ) (left : List Command) (store :
+    Store) :
     Type 0 where
   pub before : List Command
   pub replies : List Reply
@@ -169,9 +170,9 @@ pub record Ran (disk : Disk) (commands : List Command) (old new : Option (List �
   pub writes : Appends old new (joined texts)
 
 pub ran_start : (disk : Disk) → disk.failed ≡ disk.failed_now → (commands : List Command) (known : Option (List ℕ)) (store : Store) → store
-    ≡ empty → Ran disk commands known known 0 commands store
+    ≡ empty → RunSoFar disk commands known known 0 commands store
 ran_start disk same commands known store is =
-    subst (Ran disk commands known known 0 commands) (sym is)
+    subst (RunSoFar disk commands known known 0 commands) (sym is)
     (record {
       before = [];
       replies = [];
@@ -194,7 +195,7 @@ ran_start disk same commands known store is =
 -- an output with one reply more, and others that are refused
 module _ {disk : Disk} {later : ℕ} {commands left : List Command} {old mid : Option (List ℕ)} {refused : ℕ} {store next : Store}
     {c : Command} {reply : code.Reply}
-    (ran : Ran disk commands old mid refused (c ∷ left) store) (step : Steps disk.honest (request_of c.head) c.owned store reply next)
+    (ran : RunSoFar disk commands old mid refused (c ∷ left) store) (step : Steps disk.honest (request_of c.head) c.owned store reply next)
     (failing : disk.failed_now + faults_in reply ≡ later) where
   abbrev answers : Answers disk.honest (state_after start ran.replies) (request_of c.head) c.owned store reply next
   answers = step.steps (state_after start ran.replies) ran.represents
@@ -248,7 +249,7 @@ module _ {disk : Disk} {later : ℕ} {commands left : List Command} {old mid : O
 
   -- it goes on
   pub ran_more : (new : Option (List ℕ)) (more : ℕ) → Appends mid new (said_text reply) → more ≡ refused
-      + (if is_refusal reply then 1 else 0) → Ran (record disk { failed_now = later }) commands old new more left next
+      + (if is_refusal reply then 1 else 0) → RunSoFar (record disk { failed_now = later }) commands old new more left next
   ran_more new more wrote counts =
       record {
         before = ran.before ++ (c ∷ []);
@@ -300,7 +301,7 @@ honest_steps was is request owned store next reply same steps = subst (λ h. Ste
 
 -- it stops with commands left
 pub ran_stop : (disk : Disk) (later : ℕ) → disk.failed_now ≤ later → (commands left : List Command) (old new : Option (List ℕ))
-    (refused : ℕ) (store : Store) → Ran disk commands old new refused left store
+    (refused : ℕ) (store : Store) → RunSoFar disk commands old new refused left store
     → WritesBefore (record disk { failed_now = later }) commands old new
 ran_stop disk later low commands left old new refused store ran =
     record {

@@ -31,7 +31,8 @@ use Rattle.script_commands.specs.Commands as ask
 use Rattle.script_commands.specs.Commands.{Request}
 use Rattle.table_print.specs.Table.{table_text}
 use Rattle.script_machine.specs.Machine as machine
-use Rattle.replies.specs.Joining.{JoinsHeld, IsApart}
+use Rattle.replies.specs.FeedLaws.{apart_never_fit}
+use Rattle.replies.specs.Refusals.{IsApart}
 use Rattle.spill_partitions.specs.declared.error.SpillError.TheVariants as spill
 use Rattle.hash_agg.specs.declared.means.TheConstants.{MIN_LIMIT, MAX_LIMIT}
 use Rattle.packed_rows.specs.Refusal.{ParseFault}
@@ -372,18 +373,15 @@ one_query store into from own theirs is one two =
 pub same_texts : (a b : Checked) → a ≡ b → SameQuery a b
 same_texts a b same = (ap (λ (q : Checked). printed q.columns) same, ap (λ (q : Checked). spelling (by_names q)) same)
 
--- what two replicas hold together, or why they are not joined, by their names
-pub joins_names : (honest : Bool) (store : Store) (into from : List ℕ) (own theirs : Held) (result : Result Parts Refusal) → IsStore store
-    → replica_at store into ≡ Some own → replica_at store from ≡ Some theirs
-    → IfOk result (JoinsHeld honest own theirs) → IfErr result (IsApart own theirs)
-    → IfErr result (λ refusal. (of : ℕ) (at : Option ℕ) → refusal ≡ why.OriginDisagrees of at → (world : World) → Fits world own
-    → ¬ (Fits world theirs)) → JoinsNames honest store into from result
-joins_names honest store into from own theirs (Ok joined) is one two joins is_apart never = (own, theirs, one, two, joins)
-joins_names honest store into from own theirs (Err refusal) is one two joins is_apart never =
+-- why two replicas are not joined, by their names
+pub joins_names : (honest : Bool) (store : Store) (into from : List ℕ) (own theirs : Held) (refusal : Refusal) → IsStore store
+    → replica_at store into ≡ Some own → replica_at store from ≡ Some theirs → IsApart own theirs refusal
+    → JoinsNames honest store into from (Err refusal)
+joins_names honest store into from own theirs refusal is one two is_apart =
     subst (λ o. JoinRefused o (replica_at store from) refusal) (sym one)
     (subst (λ o. JoinRefused (Some own) o refusal) (sym two)
     (subst (JoinRefused (Some own) (Some theirs)) (sym is_apart.1)
-    (go is_apart.0 is_apart.2 (λ of at told. never of at (is_apart.1 ∙ told)))))
+    (go is_apart.0 is_apart.2 (λ of at told. apart_never_fit own theirs of at (subst (IsApart own theirs) (is_apart.1 ∙ told) is_apart)))))
   where
     go : (error : MergeError) → MergeTells error own theirs → ((of : ℕ) (at : Option ℕ) → merge_refusal error ≡ why.OriginDisagrees of at
         → (world : World) → Fits world own → ¬ (Fits world theirs))

@@ -21,7 +21,9 @@ pub use Rattle.tape_disks.specs.Disk.{DiskFrame}
 unfoldable pub use Rattle.script_machine.specs.Agreement.{AreAmong}
 pub use Rattle.script_machine.specs.Agreement.{ColumnsOf, FeedsAmong, IsOfColumns, KnowTheSame, OneBatchEach, after_all, world_of}
 pub use Rattle.script_machine.specs.Disagreements.{FeedAlike, FeedApart, IsHeldAt, TellsDisagreement}
-pub use Rattle.script_machine.specs.Limits.{FeedWorked, WorksAtLimit, no_work, setting_at}
+pub use Rattle.hash_agg.specs.Counting.{no_work}
+pub use Rattle.script_machine.specs.Executing.{Executes, JoinsNamed}
+pub use Rattle.script_machine.specs.Limits.{FeedWorked, WorksAtLimit, setting_at}
 unfoldable pub use Rattle.script_machine.specs.Machine.{Run, StrictRun}
 unfoldable pub use Rattle.script_machine.specs.Machine.{Agrees}
 pub use Rattle.script_machine.specs.Machine.{AgreesAt, AgreesWith, ColumnsReply, FeedAgrees, FeedReply, IsAccepted, IsNoSchema}

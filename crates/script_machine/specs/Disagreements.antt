@@ -7,7 +7,7 @@ use Rattle.replica_merge.specs.Replicas.{DisagreeSomewhere, Held, part_of}
 use Rattle.script_io.specs.Records.{Record}
 use Rattle.script_commands.specs.Commands.{Request, Feed, Merge}
 use Rattle.replies.specs.Batches.{Fed, IsBatch}
-use Rattle.replies.specs.Joining.{IsApart}
+use Rattle.replies.specs.Refusals.{IsApart}
 use Rattle.replies.specs.declared.refusal.Refusal.TheVariants.{OriginDisagrees}
 use Rattle.replies.specs.declared.reply.Reply.{Reply}
 use Rattle.replies.specs.declared.reply.Reply.TheVariants as says

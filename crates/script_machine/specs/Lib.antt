@@ -5,5 +5,6 @@ pub mod Heads
 pub mod Views
 pub mod Limits
 pub mod Disagreements
+pub mod Executing
 pub mod Agreement
 pub mod Coding

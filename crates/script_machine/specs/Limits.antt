@@ -6,7 +6,7 @@ use Rattle.packed_rows.specs.Columns.{kinds}
 use Rattle.having_filter.specs.Meaning.{meaning}
 use Rattle.aggregation_cost.specs.Space.{Setting}
 use Rattle.key_hashes.specs.Hashes.{fnv_1a}
-use Rattle.hash_agg.specs.Counting.{AreCounted}
+use Rattle.hash_agg.specs.Counting.{AreCounted, no_work}
 use Rattle.hash_agg.specs.Inputs.{Brought}
 use Rattle.hash_agg.specs.Passes.{setting_for}
 use Rattle.hash_agg.specs.declared.work.Work.{Work}
@@ -24,13 +24,9 @@ use Rattle.script_machine.specs.Views.{Store, replica_at}
 abbrev pub setting_at : ℕ → Query → Setting
 setting_at limit query = setting_for query limit fnv_1a
 
--- nothing was done yet
-abbrev pub no_work : Work
-no_work = record { passes = 0; spilled = 0; most_held = 0 }
-
 -- at this limit just these aggregations were made, one after the other, by the pages that were written
 abbrev pub Worked : Query → ℕ → List (List Brought) → (writes written : ℕ) → Type 0
-Worked query limit aggregations writes written = (work : Work) × AreCounted query (setting_at limit query) aggregations no_work writes work
+Worked query limit aggregations writes written = (work : Work) × AreCounted aggregations query (setting_at limit query) no_work writes work
     written
 
 -- those of a batch that a replica takes
@@ -44,7 +40,7 @@ pub record FeedWorked (held : Held) (limit : ℕ) (origin number : List ℕ) (to
 -- those of a replica that takes in another
 abbrev pub MergeWorked : Held → Held → ℕ → (writes written : ℕ) → Type 0
 MergeWorked own theirs limit writes written =
-    (work : Work) × MergeIsCounted (meaning own.query) (setting_at limit (meaning own.query)) own.parts theirs.parts no_work writes work
+    (work : Work) × MergeIsCounted own.parts theirs.parts (meaning own.query) (setting_at limit (meaning own.query)) no_work writes work
     written
 
 -- those of a command that is answered so, at the limit of what was there before it: a feed and a merge that aren't refused make just the

@@ -3,6 +3,7 @@ use Rattle.std.specs.Prelude.{ℕ, ◌≡◌, ◌≤◌, ◌<◌, ◌+◌, Bool,
 use Rattle.std.specs.Io.KnownBytes.{Appends, Keeps}
 use Rattle.grouping_model.specs.World.{World}
 use Rattle.grouping_model.specs.declared.limits.TheConstants.{MAX_INPUT_LEN}
+use Rattle.tape_disks.specs.declared.disk.TapeDisk.{Ghosts}
 use Rattle.script_io.specs.Output.{StopsShort}
 use Rattle.script_io.specs.Records.{records_of}
 use Rattle.script_commands.specs.Commands.{Command, commands_of}
@@ -20,6 +21,9 @@ pub record Disk : Type 0 where
   pub honest : Bool
   pub failed : ℕ
   pub failed_now : ℕ
+
+abbrev pub disk_over : {D : Type 0} → Ghosts D → (before after : D) → Disk
+disk_over g before after = record { honest = g.honest before; failed = g.failures before; failed_now = g.failures after }
 
 -- replies tell as often that the disk failed as it did, so that no call of it is tried again
 abbrev pub AreFaultsOf : Disk → List Reply → Type 0

@@ -9,10 +9,10 @@ use Rattle.grouping_model.specs.World.{World, IsWorld, Knowledge}
 use Rattle.packed_rows.specs.Columns.{Column, kinds}
 use Rattle.query_checks.specs.Checks.{Checked}
 use Rattle.replica_merge.specs.Replicas.{Parts, Held, told, Fits}
+use Rattle.replica_merge.specs.Results.{JoinsHeld}
 use Rattle.summary_codec.specs.Reading.{IsSaved}
 use Rattle.script_io.specs.Records.{Record}
 use Rattle.script_commands.specs.Commands.{Request}
-use Rattle.replies.specs.Joining.{JoinsHeld}
 use Rattle.replies.specs.Text.{said_text, is_refusal, is_tape_fault}
 use Rattle.replies.specs.declared.refusal.Refusal.{Refusal}
 use Rattle.replies.specs.declared.refusal.Refusal.TheVariants.{NoMemory, OriginDisagrees, TapeFault, TapeDamaged, NoSuchName}

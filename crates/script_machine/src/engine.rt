@@ -6,8 +6,8 @@ ghost use Rattle.script_io.specs.Fused.{FailsAsTold, has_failed, unread, written
 ghost use Rattle.script_io.specs.Input.{ConsumesAtMost};
 ghost use Rattle.script_commands.specs.Commands.{commands_of};
 ghost use Rattle.script_machine.specs.Views.{empty};
-ghost use Rattle.script_machine.specs.Output.{AnswersAll, AnswersSome, KeepsUnread, WritesAll, WritesSome, commands_in, tells_read_fault};
-ghost use Rattle.script_machine.specs.Output.{tells_write_fault};
+ghost use Rattle.script_machine.specs.Output.{AnswersAll, AnswersSome, KeepsUnread, WritesAll, WritesSome, commands_in, disk_over};
+ghost use Rattle.script_machine.specs.Output.{tells_read_fault, tells_write_fault};
 
 use crate::lines::Lines;
 use crate::session::Session;
@@ -59,9 +59,9 @@ fn answer_all<W: Write, O: Observer, D: TapeDisk>(
     requires few { length records.old ≤ MAX_INPUT_LEN + 1 }
     requires none { session.old ≡ empty }
     ensures writes { MatchResult result
-        (λ outcome. WritesAll (record { honest = D.honest disk.old; failed = D.failures disk.old; failed_now = D.failures disk.new }) (commands_of records.old) (written W.contents writer.old)
+        (λ outcome. WritesAll (disk_over D.TapeDisk disk.old disk.new) (commands_of records.old) (written W.contents writer.old)
         (written W.contents writer.new) outcome.refused)
-        (λ e. WritesSome (record { honest = D.honest disk.old; failed = D.failures disk.old; failed_now = D.failures disk.new }) (commands_of records.old) (written W.contents writer.old)
+        (λ e. WritesSome (disk_over D.TapeDisk disk.old disk.new) (commands_of records.old) (written W.contents writer.old)
         (written W.contents writer.new) e) }
     ensures write_fault { FailsAsTold writer.old writer.new (tells_write_fault result) }
     ensures disk { (faults : ℕ) × DiskFrame D.TapeDisk faults disk.old disk.new }
@@ -89,9 +89,9 @@ fn run_script<W: Write, O: Observer, D: TapeDisk>(
 ) -> Result<Outcome, RunError>
     requires { length script.now ≤ MAX_INPUT_LEN }
     ensures writes { MatchResult result
-        (λ outcome. WritesAll (record { honest = D.honest disk.old; failed = D.failures disk.old; failed_now = D.failures disk.new }) (commands_in script.now) (written W.contents writer.old)
+        (λ outcome. WritesAll (disk_over D.TapeDisk disk.old disk.new) (commands_in script.now) (written W.contents writer.old)
         (written W.contents writer.new) outcome.refused)
-        (λ e. WritesSome (record { honest = D.honest disk.old; failed = D.failures disk.old; failed_now = D.failures disk.new }) (commands_in script.now) (written W.contents writer.old)
+        (λ e. WritesSome (disk_over D.TapeDisk disk.old disk.new) (commands_in script.now) (written W.contents writer.old)
         (written W.contents writer.new) e) }
     ensures write_fault { FailsAsTold writer.old writer.new (tells_write_fault result) }
     ensures disk { (faults : ℕ) × DiskFrame D.TapeDisk faults disk.old disk.new }
@@ -127,12 +127,11 @@ pub fn run<R: Read, W: Write, D: TapeDisk>(
         (MAX_INPUT_LEN + 1) }
     // A script within the limit is answered as the machine does over such a disk, with so many refusals.
     ensures done { IfOk result
-        (λ outcome. AnswersAll (record { honest = D.honest disk.old; failed = D.failures disk.old; failed_now = D.failures disk.new })
-        (unread R.remaining reader.old)
+        (λ outcome. AnswersAll (disk_over D.TapeDisk disk.old disk.new) (unread R.remaining reader.old)
         (written W.contents writer.old) (written W.contents writer.new) outcome.refused) }
     // What was written where the run stopped.
     ensures stopped { IfErr result
-        (AnswersSome (record { honest = D.honest disk.old; failed = D.failures disk.old; failed_now = D.failures disk.new })
+        (AnswersSome (disk_over D.TapeDisk disk.old disk.new)
         (unread R.remaining reader.old) (written W.contents writer.old)
         (written W.contents writer.new)) }
     // Nothing was written where the script was not read.
@@ -161,11 +160,10 @@ pub fn run_observed<R: Read, W: Write, O: Observer, D: TapeDisk>(
     ensures reads { ConsumesAtMost (unread R.remaining reader.old) (unread R.remaining reader.new)
         (MAX_INPUT_LEN + 1) }
     ensures done { IfOk result
-        (λ outcome. AnswersAll (record { honest = D.honest disk.old; failed = D.failures disk.old; failed_now = D.failures disk.new })
-        (unread R.remaining reader.old)
+        (λ outcome. AnswersAll (disk_over D.TapeDisk disk.old disk.new) (unread R.remaining reader.old)
         (written W.contents writer.old) (written W.contents writer.new) outcome.refused) }
     ensures stopped { IfErr result
-        (AnswersSome (record { honest = D.honest disk.old; failed = D.failures disk.old; failed_now = D.failures disk.new })
+        (AnswersSome (disk_over D.TapeDisk disk.old disk.new)
         (unread R.remaining reader.old) (written W.contents writer.old)
         (written W.contents writer.new)) }
     ensures silent { IfErr result (KeepsUnread (written W.contents writer.old) (written W.contents writer.new)) }

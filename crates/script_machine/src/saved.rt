@@ -1,7 +1,7 @@
 //! Summary files as they are kept: what those of one query begin with is there once.
 
 ghost use Rattle.std.specs.Prelude.{◌≡◌, ◌++◌, IfOk, IfSome};
-ghost use Rattle.replica_merge.specs.Replicas.{IsLoaded};
+ghost use Rattle.replica_merge.specs.Results.{IsLoaded};
 
 use having_filter::Query;
 use replica_merge::Replica;

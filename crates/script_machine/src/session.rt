@@ -1,7 +1,6 @@
 //! What is there while a script runs, and how its commands are answered.
 
-ghost use Rattle.std.specs.Prelude.{◌≡◌, ◌≢◌, Bool, IsTrue, false, List, Option, Some, None, [], IfOk, IfErr, OnOk, OnErr, drop};
-ghost use Rattle.std.specs.Prelude.{string_bytes, take, ℕ};
+ghost use Rattle.std.specs.Prelude.{◌≡◌, ◌≢◌, Bool, false, List, Some, [], IfOk, IfErr, OnOk, OnErr, drop, string_bytes, take, ℕ};
 ghost use Rattle.std.specs.HashMap.{UpdatesBy};
 ghost use Rattle.std.specs.Str.{bytes_eq};
 ghost use Rattle.csv.specs.Records.{fields_of};
@@ -11,20 +10,17 @@ ghost use Rattle.having_filter.specs.Kept.{by_names};
 ghost use Rattle.group_parser.specs.Parsing.{Accepts};
 ghost use Rattle.summary_codec.specs.Reading.{IsSaved};
 ghost use Rattle.summary_codec.specs.WorldFile.{world_file};
-ghost use Rattle.replica_merge.specs.Replicas.{IsLoaded, told, Fits};
+ghost use Rattle.replica_merge.specs.Replicas.{told, Fits};
+ghost use Rattle.replica_merge.specs.Results.{IsLoaded};
 ghost use Rattle.script_io.specs.Records.{Record};
-ghost use Rattle.packed_rows.specs.Columns.{kinds};
 ghost use Rattle.script_commands.specs.Commands as ask;
 ghost use Rattle.script_commands.specs.Commands.{owned_by, request_of};
-ghost use Rattle.replies.specs.Batches.{IsNoBatch, IsNoQuery, IsOfBatch, IsOtherBatch, Takes};
-ghost use Rattle.replies.specs.Refusals.{refusal_faults};
-ghost use Rattle.replies.specs.Text.{faults_in, is_tape_fault};
+ghost use Rattle.replies.specs.Batches.{IsNoQuery};
+ghost use Rattle.replies.specs.Text.{is_tape_fault};
 ghost use Rattle.replies.specs.declared.reply.Reply.TheVariants as says;
-ghost use Rattle.replies.specs.declared.refusal.Refusal.TheVariants.{NoMemory, OriginDisagrees, TapeDamaged};
-ghost use Rattle.script_machine.specs.Disagreements.{FeedAlike, FeedApart, TellsDisagreement};
-ghost use Rattle.script_machine.specs.Limits.{FeedWorked, WorksAtLimit};
-ghost use Rattle.script_machine.specs.Views.{Store, IsStore, empty, Steps, JoinsNames};
-ghost use Rattle.tape_disks.specs.Calls.{failed};
+ghost use Rattle.replies.specs.declared.refusal.Refusal.TheVariants.{NoMemory};
+ghost use Rattle.script_machine.specs.Executing.{Executes, JoinsNamed};
+ghost use Rattle.script_machine.specs.Views.{empty, Steps};
 ghost use Rattle.tape_disks.specs.Disk.{DiskFrame};
 
 use crate::saved::{Head, SavedFile, head_of};
@@ -34,8 +30,8 @@ use hash_agg::{Fnv1a, Means, Seed, TapeDisk, Work};
 use having_filter::Query;
 use indexmap::IndexMap;
 use packed_rows::Schema;
-use replica_merge::{Delivered, Joined, Replica};
-use replies::{Format, Refusal, Reply, join, known_lines, table, take_batch};
+use replica_merge::{Joined, Replica};
+use replies::{Format, Refusal, Reply, known_lines, table};
 use script_commands::{Command, Request};
 use script_io::Records;
 use std::alloc::{AllocError, Global};
@@ -59,7 +55,6 @@ pub(crate) struct Session {
 impl Model for Session {
     ghost use Rattle.std.specs.Coded.{codes};
     ghost use Rattle.script_machine.specs.Coding.{coded_store};
-    ghost use Rattle.script_machine.specs.Limits.{Worked, FeedWorked, WorksAtLimit};
     ghost use Rattle.script_machine.specs.Views.{Store, IsStore};
 
     ghost Value = { Store };
@@ -83,48 +78,6 @@ impl Model for Session {
           saved = s.saved.entries;
           limit = s.means.limit;
         }) };
-}
-
-/// The batch of the next records, as many as told, delivered to a replica. These records are taken in any case. The only
-/// outer error is that memory ran out for a record.
-fn deliver<D: TapeDisk>(
-    alloc: Global,
-    replica: &mut Replica,
-    origin: &[u8],
-    number: &[u8],
-    told: u32,
-    records: &mut Records<'_>,
-    means: &Means<Fnv1a>,
-    disk: &mut D,
-) -> Result<Result<Delivered, Refusal>, AllocError>
-    ensures took { IfOk result (λ done. IfOk done (Takes (D.honest disk.old) origin.now number.now told (take told
-        records.old) replica.old replica.new)) }
-    ensures query { replica.new.query ≡ replica.old.query }
-    ensures same { IfOk result (λ done. OnErr done (replica.new ≡ replica.old)) }
-    ensures why { IfOk result (λ done. IfErr done (λ why. IsOfBatch why
-        → IsNoBatch (kinds replica.old.query.columns) origin.now number.now told (take told
-        records.old) why)) }
-    ensures other { IfOk result (λ done. IfErr done (λ why. (of : ℕ) (at : Option ℕ) → why ≡ OriginDisagrees of at →
-        IsOtherBatch origin.now number.now told (take told records.old) replica.old)) }
-    ensures apart { IfOk result (λ done. IfErr done (λ why. (of : ℕ) (at : Option ℕ) → why ≡ OriginDisagrees of at →
-        FeedApart replica.old origin.now number.now told (take told records.old) of at)) }
-    ensures alike { IfOk result (λ done. OnOk done
-        (FeedAlike replica.old origin.now number.now told (take told records.old))) }
-    ensures undamaged { IfOk result (λ done. IfErr done (λ why. IsTrue (D.honest disk.old)
-        → why ≢ TapeDamaged)) }
-    ensures limit { IfOk result (λ done. OnOk done (IsTrue (D.honest disk.old) →
-        FeedWorked replica.old means.now.limit origin.now number.now told (take told records.old)
-        (D.writes disk.old) (D.writes disk.new))) }
-    ensures left { OnOk result (records.new ≡ drop told records.old) }
-    ensures disk { IfOk result (λ done. DiskFrame D.TapeDisk (failed refusal_faults done) disk.old disk.new) }
-    ensures stopped { OnErr result (DiskFrame D.TapeDisk 0 disk.old disk.new) }
-{
-    let schema = replica.query().schema();
-    let batch = match read_rows(alloc, schema, origin, number, told, records)? {
-        Ok(batch) => batch,
-        Err(why) => return Ok(Err(Refusal::from(why))),
-    };
-    Ok(take_batch(replica, batch, means, disk, &mut Work::none()))
 }
 
 /// The query that a text says, and its canonical text.
@@ -300,26 +253,23 @@ impl Session {
         records: &mut Records<'_>,
         disk: &mut D,
     ) -> Result<Reply<'static>, AllocError>
-        ensures answers { IfOk result (λ reply. Steps (D.honest disk.old) (ask.Feed name.now origin.now number.now told)
-            (take told records.old) self.old reply self.new) }
-        ensures limit { IfOk result (λ reply. IsTrue (D.honest disk.old) →
-            WorksAtLimit self.old (ask.Feed name.now origin.now number.now told) (take told records.old) reply
-            (D.writes disk.old) (D.writes disk.new)) }
-        ensures tells { IfOk result (TellsDisagreement self.old (ask.Feed name.now origin.now number.now told) (take told records.old)) }
+        ensures executes { IfOk result (λ reply. Executes D.TapeDisk (ask.Feed name.now origin.now number.now told)
+            (take told records.old) self.old disk.old reply self.new disk.new) }
         ensures left { OnOk result (records.new ≡ drop told records.old) }
-        ensures disk { IfOk result (λ reply. DiskFrame D.TapeDisk (faults_in reply) disk.old disk.new) }
         ensures stopped { OnErr result (DiskFrame D.TapeDisk 0 disk.old disk.new) }
     {
         let Some(replica) = self.replicas.get_mut(name) else {
             records.skip(told as usize)?;
             return Ok(Reply::Refused(Refusal::NoSuchName));
         };
-        let means = &self.means;
-        match deliver(
-            self.alloc, replica, origin, number, told, records, means, disk,
-        )? {
+        let schema = replica.query().schema();
+        let batch = match read_rows(self.alloc, schema, origin, number, told, records)? {
+            Ok(batch) => batch,
+            Err(why) => return Ok(Reply::Refused(Refusal::from(why))),
+        };
+        match replica.deliver(batch, &self.means, disk, &mut Work::none()) {
             Ok(delivered) => Ok(Reply::Delivered(delivered)),
-            Err(why) => Ok(Reply::Refused(why)),
+            Err(refused) => Ok(Reply::Refused(Refusal::from(refused))),
         }
     }
 
@@ -353,15 +303,7 @@ impl Session {
 
     /// What two replicas hold together, aside from both.
     fn join<D: TapeDisk>(&self, into: &[u8], from: &[u8], disk: &mut D) -> Result<Joined, Refusal>
-        ensures joins { JoinsNames (D.honest disk.old) self.now into.now from.now result }
-        ensures limit { OnOk result (IsTrue (D.honest disk.old) → (owned : List Record) →
-            WorksAtLimit self.now (ask.Merge into.now from.now) owned says.Merged (D.writes disk.old) (D.writes disk.new)) }
-        ensures tells { IfErr result (λ why. (owned : List Record) →
-            TellsDisagreement self.now (ask.Merge into.now from.now) owned (says.Refused why)) }
-        ensures agreed { OnOk result ((owned : List Record) →
-            TellsDisagreement self.now (ask.Merge into.now from.now) owned says.Merged) }
-        ensures undamaged { IfErr result (λ why. IsTrue (D.honest disk.old) → why ≢ TapeDamaged) }
-        ensures disk { DiskFrame D.TapeDisk (failed refusal_faults result) disk.old disk.new }
+        ensures { JoinsNamed D.TapeDisk self.now into.now from.now disk.old result disk.new }
     {
         let Some(own) = self.replicas.get(into) else {
             return Err(Refusal::NoSuchName);
@@ -370,17 +312,14 @@ impl Session {
             return Err(Refusal::NoSuchName);
         };
         // Since all replicas have the query that was told, it is never `DifferentQuery`.
-        join(own, theirs, &self.means, disk, &mut Work::none())
+        let joined = own.join(theirs, &self.means, disk, &mut Work::none())?;
+        Ok(joined)
     }
 
     /// Answers `merge`.
     fn merge<D: TapeDisk>(&mut self, into: &[u8], from: &[u8], disk: &mut D) -> Reply<'static>
-        ensures answers { (owned : List Record) →
-            Steps (D.honest disk.old) (ask.Merge into.now from.now) owned self.old result self.new }
-        ensures limit { IsTrue (D.honest disk.old) → (owned : List Record) →
-            WorksAtLimit self.old (ask.Merge into.now from.now) owned result (D.writes disk.old) (D.writes disk.new) }
-        ensures tells { (owned : List Record) → TellsDisagreement self.old (ask.Merge into.now from.now) owned result }
-        ensures disk { DiskFrame D.TapeDisk (faults_in result) disk.old disk.new }
+        ensures { (owned : List Record) →
+            Executes D.TapeDisk (ask.Merge into.now from.now) owned self.old disk.old result self.new disk.new }
     {
         let joined = match self.join(into, from, disk) {
             Ok(joined) => joined,
@@ -443,19 +382,10 @@ impl Session {
         records: &mut Records<'_>,
         disk: &mut D,
     ) -> Result<Reply<'c>, AllocError>
-        ensures answers { IfOk result (λ reply. Steps (D.honest disk.old) (request_of (fields_of command.now.head))
-            (take (owned_by (fields_of command.now.head)) records.old) self.old reply self.new) }
-        // The limit that was told is the limit that works.
-        ensures limit { IfOk result (λ reply. IsTrue (D.honest disk.old) →
-            WorksAtLimit self.old (request_of (fields_of command.now.head))
-            (take (owned_by (fields_of command.now.head)) records.old) reply
-            (D.writes disk.old) (D.writes disk.new)) }
-        // What disagrees is never taken, and disagreement is told of nothing else.
-        ensures tells { IfOk result (TellsDisagreement self.old (request_of (fields_of command.now.head))
-            (take (owned_by (fields_of command.now.head)) records.old)) }
+        ensures executes { IfOk result (λ reply. Executes D.TapeDisk (request_of (fields_of command.now.head))
+            (take (owned_by (fields_of command.now.head)) records.old) self.old disk.old reply self.new disk.new) }
         ensures left { OnOk result (records.new
             ≡ drop (owned_by (fields_of command.now.head)) records.old) }
-        ensures disk { IfOk result (λ reply. DiskFrame D.TapeDisk (faults_in reply) disk.old disk.new) }
         ensures stopped { OnErr result ((faults : ℕ) × DiskFrame D.TapeDisk faults disk.old disk.new) }
     {
         let reply = match command.request() {

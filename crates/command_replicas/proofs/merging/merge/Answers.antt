@@ -1,46 +1,62 @@
-use Rattle.std.specs.Prelude.{◌≡◌, ℕ, Option}
-use Rattle.std.proofs.Common.{◌∙◌, ap, inr, sym, subst}
+use Rattle.std.specs.Prelude.{◌≡◌, refl}
+use Rattle.std.proofs.Common.{◌∙◌, ap, inl, inr, sym, subst}
 use Rattle.std.proofs.lemmas.Result.{err_from_is_err_and}
-use Rattle.tape_disks.specs.Disk.{DiskFrame}
-use Rattle.tape_disks.specs.DiskLaws.{leaves_none}
-use Rattle.replies.specs.Refusals.{refusal_faults}
-use Rattle.grouping_model.specs.World.{World}
-use Rattle.replica_merge.specs.Replicas.{Held, Fits}
-use Rattle.replies.specs.declared.refusal.Refusal.TheVariants.{OriginDisagrees}
-use Rattle.replies.specs.Joining.{IsApart}
-use Rattle.command_replicas.specs.Commands.{MergesHeld, MergesFile, FileMergeIsCounted, IsNotMerged}
-use Rattle.command_replicas.proofs.FileLaws.{if_err, on_ok, no_file_fault}
+use Rattle.hash_agg.specs.Lemmas.RanLaws.{ran_as, ran_weaker, refused_by, refused_still}
+use Rattle.hash_agg.specs.Ran.{Done, Refused}
+use Rattle.replica_merge.specs.Counting.{MergeIsCounted}
+use Rattle.replies.specs.RefusalLaws.{merge_reasons}
+use Rattle.replies.specs.Refusals.{refusal_reason, summary_refusal}
+use Rattle.command_replicas.specs.Commands.{FileMergeIsCounted}
+use Rattle.command_replicas.specs.Lemmas.FileLaws.{no_file_fault, no_file_damage}
+use Rattle.command_replicas.proofs.FileLaws.{no_summary}
 use Rattle.command_replicas.proofs.merging.merge.Goals as goal
 
-pub returns-clause-merged : goal.returns-clause-merged
-returns-clause-merged g c =
-    on_ok c.take_in.result (MergesHeld (g.D.TapeDisk.honest c.args.disk.now) c.args.replica.now c.in_ok-other.other c.take_in.new.replica)
-    (MergesFile (g.D.TapeDisk.honest c.args.disk.now) c.args.file.now c.args.replica.now c.take_in.new.replica)
-    (λ held. (c.in_ok-other.other, c.in_ok-other.ensures.loaded.summary, held)) c.take_in.ensures.merged
+pub returns-clause-merges : goal.returns-clause-merges
+returns-clause-merges g c = (c.in_ok-other.other, c.in_ok-other.ensures.loaded, c.in_ok-2.ensures.merges.merged)
 
-pub returns-clause-why : goal.returns-clause-why
-returns-clause-why g c =
-    if_err c.take_in.result (IsApart c.args.replica.now c.in_ok-other.other) (IsNotMerged c.args.file.now c.args.replica.now)
-    (λ why is. inr (c.in_ok-other.other, c.in_ok-other.ensures.loaded.summary, is)) c.take_in.ensures.why
+pub returns-clause-ran : goal.returns-clause-ran
+returns-clause-ran g c =
+    let old = c.args.replica.now in
+    let other = c.in_ok-other.other in
+    ran_weaker g.D.TapeDisk g.H.KeyHash.hash_of old.query c.args.means.now (MergeIsCounted old.parts other.parts)
+    (FileMergeIsCounted c.args.file.now old) Done c.args.disk.now c.args.work.now c.merge.new.disk c.merge.new.work
+    (λ counted. (other, c.in_ok-other.ensures.loaded.summary, counted)) c.in_ok-2.ensures.ran.ran
 
-pub returns-clause-agree : goal.returns-clause-agree
-returns-clause-agree g c =
-    if_err c.take_in.result (λ why. (of : ℕ) (at : Option ℕ) → why ≡ OriginDisagrees of at → (world : World) → Fits world c.args.replica.now
-    → ¬ (Fits world c.in_ok-other.other))
-    (λ why. (of : ℕ) (at : Option ℕ) → why ≡ OriginDisagrees of at → (world : World) → Fits world c.args.replica.now → (other : Held) → _
-    → ¬ (Fits world other))
-    (λ why agree of at is world own other is_file theirs. agree of at is world own
-    (subst (Fits world) (sym (c.in_ok-other.ensures.loaded.only other is_file)) theirs))
-    c.take_in.ensures.agree
-
-pub returns-clause-counted : goal.returns-clause-counted
-returns-clause-counted g c =
-    on_ok c.take_in.result _ (_ → FileMergeIsCounted _ c.args.file.now c.args.replica.now _ _ _ _)
-    (λ counted honest. (c.in_ok-other.other, c.in_ok-other.ensures.loaded.summary, counted honest)) c.take_in.ensures.counted
-
-pub returns-in_err-other-clause-disk : goal.returns-in_err-other-clause-disk
-returns-in_err-other-clause-disk g c =
+pub returns-in_err-other-clause-merges : goal.returns-in_err-other-clause-merges
+returns-in_err-other-clause-merges g c =
     let e = err_from_is_err_and c.from_residual.result c.from_residual.ensures.1 in
-    rw e.1 (subst (λ n. DiskFrame g.D.TapeDisk n c.args.disk.now c.args.disk.now)
-    (sym (ap refusal_faults e.2 ∙ no_file_fault c.args.file.now _ c.in_err-other.ensures.why))
-    (leaves_none g.D.TapeDisk c.args.disk.now))
+    rw e.1 (inl (refl, no_summary c.args.file.now c.in_err-other.field-0.0 _ e.2 c.in_err-other.ensures.fault))
+
+pub returns-in_err-other-clause-ran : goal.returns-in_err-other-clause-ran
+returns-in_err-other-clause-ran g c =
+    let error = c.in_err-other.field-0.0 in
+    let old = c.args.replica.now in
+    let none = no_summary c.args.file.now error (summary_refusal error) refl c.in_err-other.ensures.fault in
+    let Counts = FileMergeIsCounted c.args.file.now old in
+    ran_as g.D.TapeDisk g.H.KeyHash.hash_of old.query c.args.means.now Counts (Refused (refusal_reason (summary_refusal error))) _
+    c.args.disk.now c.args.work.now c.args.disk.now c.args.work.now
+    (sym (refused_by refusal_reason c.from_residual.result (summary_refusal error) c.from_residual.ensures.1))
+    (refused_still g.D.TapeDisk g.H.KeyHash.hash_of old.query c.args.means.now Counts (refusal_reason (summary_refusal error))
+    c.args.disk.now c.args.work.now (no_file_fault c.args.file.now (summary_refusal error) none)
+    (λ honest. no_file_damage c.args.file.now (summary_refusal error) none))
+
+pub returns-in_err-2-clause-merges : goal.returns-in_err-2-clause-merges
+returns-in_err-2-clause-merges g c =
+    let e = err_from_is_err_and c.from_residual-2.result c.from_residual-2.ensures.1 in
+    rw e.1 (inr (record {
+      other = c.in_ok-other.other;
+      loaded = c.in_ok-other.ensures.loaded;
+      apart = (c.in_err-2.field-0.0, e.2, c.in_err-2.ensures.merges.refused);
+      same = c.in_err-2.ensures.merges.same;
+    }))
+
+pub returns-in_err-2-clause-ran : goal.returns-in_err-2-clause-ran
+returns-in_err-2-clause-ran g c =
+    let error = c.in_err-2.field-0.0 in
+    let old = c.args.replica.now in
+    let ran = c.in_err-2.ensures.ran.ran in
+    let Counts = FileMergeIsCounted c.args.file.now old in
+    ran_as g.D.TapeDisk g.H.KeyHash.hash_of old.query c.args.means.now Counts _ _ c.args.disk.now c.args.work.now c.merge.new.disk
+    c.merge.new.work
+    (ap Refused (sym (merge_reasons error)) ∙ sym (refused_by refusal_reason c.from_residual-2.result _ c.from_residual-2.ensures.1))
+    (record { disk = ran.disk; undamaged = ran.undamaged; counted = tt; uncounted = ran.uncounted; held = ran.held })

@@ -1,9 +1,9 @@
 use Rattle.std.specs.Prelude.{◌≡◌, refl, true, ℕ, List}
 use Rattle.std.proofs.Common.{◌∙◌, ap, sym}
-use Rattle.replica_merge.proofs.Words.{World, union, Checked, IsSaved, Second, world_file, Parts, told, Fits, AreHeldParts, MergesIn}
+use Rattle.replica_merge.specs.Lemmas.Words.{World, union, Checked, IsSaved, Second, world_file, Parts, told, Fits, AreHeldParts, MergesIn}
 use Rattle.grouping_model.specs.KnowledgeLaws.{union_commutes, union_associates, union_itself}
 use Rattle.summary_codec.specs.Lemmas.SpelledRead.{spelled}
-use Rattle.replica_merge.proofs.MergedLaws.{merges_told, merges_fit}
+use Rattle.replica_merge.specs.Lemmas.MergedLaws.{merges_told, merges_fit}
 use Rattle.replica_merge.proofs.SavedLaws.{saved_world}
 use Rattle.replica_merge.proofs.laws.merged_files.Goals as goal
 

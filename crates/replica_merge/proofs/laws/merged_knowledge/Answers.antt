@@ -1,7 +1,7 @@
 use Rattle.std.proofs.Common.{◌∙◌, ap, sym}
-use Rattle.replica_merge.proofs.Words.{union, told}
+use Rattle.replica_merge.specs.Lemmas.Words.{union, told}
 use Rattle.grouping_model.specs.KnowledgeLaws.{union_commutes, union_associates, union_itself}
-use Rattle.replica_merge.proofs.MergedLaws.{merges_told}
+use Rattle.replica_merge.specs.Lemmas.MergedLaws.{merges_told}
 use Rattle.replica_merge.proofs.laws.merged_knowledge.Goals as goal
 
 pub returns : goal.returns

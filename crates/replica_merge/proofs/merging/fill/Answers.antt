@@ -3,7 +3,7 @@ use Rattle.std.specs.List.Sorted.{IsStrictlySortedBy}
 use Rattle.std.specs.Ordering.{nat_cmp}
 use Rattle.origin_prefix.specs.Lemmas.ByNumber.{numbers, rising_rest}
 use Rattle.replica_merge.specs.Replicas.{Parts, part_at, filled}
-use Rattle.replica_merge.proofs.MergedLaws.{back_at}
+use Rattle.replica_merge.specs.Lemmas.MergedLaws.{back_at}
 use Rattle.replica_merge.proofs.merging.fill.Goals as goal
 
 pub loop-origin-preserved : goal.loop-origin-preserved

@@ -1,7 +1,7 @@
 use Rattle.std.specs.Prelude.{◌≡◌, ℕ, map}
 use Rattle.std.specs.List.Sorted.{IsStrictlySortedBy}
 use Rattle.std.specs.Ordering.{nat_cmp}
-use Rattle.replica_merge.proofs.Words.{Part, part_at, filled}
+use Rattle.replica_merge.specs.Lemmas.Words.{Part, part_at, filled}
 use Rattle.replica_merge.proofs.merging.fill.Given as goal
 
 abbrev pub invariant-loop-origin : goal.invariant-loop-origin

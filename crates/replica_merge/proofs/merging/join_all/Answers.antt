@@ -1,49 +1,27 @@
-use Rattle.std.specs.Prelude.{◌≡◌, ◌≢◌, refl, ℕ, [], ◌∷◌, ◌++◌, unwrap_or, IfErr, IsTrue}
+use Rattle.std.specs.Prelude.{◌≡◌, refl, ℕ, [], ◌∷◌, ◌++◌, unwrap_or, Some, None, IsTrue}
 use Rattle.std.proofs.Common.{rules, ◌∙◌, sym, ap, subst}
 use Rattle.std.proofs.lemmas.List.{append_assoc, append-nil}
-use Rattle.std.proofs.lemmas.Result.{err_from_is_err_and}
 use Rattle.std.specs.List.{AllByRecursion}
 use Rattle.std.specs.List.Sorted.{IsStrictlySortedBy}
 use Rattle.std.specs.Ordering.{nat_cmp}
-use Rattle.replica_merge.proofs.Words.{meaning, Query, setting_by, Joins, PartsDisagree, JoinTells, JoinIsCounted, Spill, MergeIsCounted}
-use Rattle.replica_merge.proofs.Words.{JoinsInOrder, Part, empty, IsPartOf, Parts, part_at, part_of, IsHeldPart, IsFirstRefused, MergeTells}
+use Rattle.replica_merge.specs.Lemmas.Words.{meaning, Query, setting_by, Joins, PartsDisagree, JoinTells, JoinIsCounted, MergeIsCounted}
+use Rattle.replica_merge.specs.Lemmas.Words.{Part, empty, IsPartOf, Parts, part_at, part_of, IsHeldPart, IsFirstRefused, AsideAt}
 use Rattle.aggregation_cost.specs.Space.{Setting}
-use Rattle.spill_partitions.specs.declared.error.SpillError.TheVariants.{TapeDamaged}
-use Rattle.replica_merge.specs.declared.error.MergeError.TheVariants.{Join}
+use Rattle.hash_agg.specs.Lemmas.RanLaws.{refused_still, refused_later}
+use Rattle.hash_agg.specs.Ran.{Refused}
+use Rattle.origin_prefix.specs.Errors.{join_reason}
+use Rattle.spill_partitions.specs.declared.error.SpillError.TheVariants as spill
 use Rattle.origin_prefix.specs.Lemmas.ByNumber.{numbers, rising_rest}
-use Rattle.tape_disks.specs.Disk.{DiskFrame}
 use Rattle.tape_disks.specs.DiskLaws.{leaves_twice}
-use Rattle.replica_merge.specs.Errors.{merge_faults}
-use Rattle.replica_merge.proofs.DeliveredLaws.{part_is, when_fine}
-use Rattle.replica_merge.proofs.MergedLaws.{JoinedSoFar, joined_more, found_refused, counted_more}
+use Rattle.replica_merge.specs.Lemmas.DeliveredLaws.{part_is, when_fine}
+use Rattle.replica_merge.specs.Lemmas.MergedLaws.{JoinedSoFar, joined_more, found_refused, counted_more}
 use Rattle.replica_merge.proofs.merging.join_all.Goals as goal
 
-pub join_part-requires-clause-own : goal.join_part-requires-clause-own
-join_part-requires-clause-own g c =
-    subst (λ o. IsPartOf c.args.query.now (unwrap_or o empty)) (sym c.get.ensures.value)
-    (part_is c.args.query.now c.args.own.now.entries c.requires.own c.in-Some.origin.now)
-
-pub returns-in_err-part-clause-tells : goal.returns-in_err-part-clause-tells
-returns-in_err-part-clause-tells g c =
+pub join-requires-clause-part : goal.join-requires-clause-part
+join-requires-clause-part g c =
     let own : Parts = c.args.own.now.entries in
-    let all : Parts = c.into_iter-origin-iterator.result in
-    let n : ℕ = c.in-Some.origin.now in
-    let theirs : all ≡ c.args.theirs.now.entries = c.into_iter-origin-iterator.ensures.into_iter_gives.0 in
-    let p = err_from_is_err_and c.from_residual-in_err-part.result c.from_residual-in_err-part.ensures.1 in
-    let rising = subst (λ rest. IsStrictlySortedBy nat_cmp (numbers rest)) c.in-Some.ensures.steps c.loop-origin.invariant.rest in
-    let had = λ (o : ℕ). subst (λ rest. JoinedSoFar (g.D.TapeDisk.honest c.args.disk.now) c.args.query.now (part_of own o) (part_at own o)
-    (part_at all o) (part_at rest o) (part_at c.loop-origin.joined.entries o))
-    c.in-Some.ensures.steps (c.loop-origin.invariant.at o) in
-    let told = c.in_err-part.ensures.tells in
-    let first : IsFirstRefused own c.args.theirs.now.entries n told.0 =
-    subst (λ parts. IsFirstRefused own parts n told.0) theirs
-    (found_refused (g.D.TapeDisk.honest c.args.disk.now) c.args.query.now own all c.loop-origin.joined.entries n c.in-Some.part.now
-    c.next.new.self told.0 rising had
-    (subst (λ o. JoinTells told.0 (unwrap_or o empty) c.in-Some.part.now) c.get.ensures.value told.2)) in
-    subst (λ r. IfErr r (λ e. MergeTells e (record { query = c.args.query.now; parts = own })
-    (record { query = c.args.query.now; parts = c.args.theirs.now.entries }))) (sym p.1)
-    (subst (λ e. MergeTells e (record { query = c.args.query.now; parts = own })
-    (record { query = c.args.query.now; parts = c.args.theirs.now.entries })) (sym (p.2 ∙ told.1)) (refl, first))
+    let own_is = c.part_or-own.ensures ∙ ap (unwrap_or (part_at own c.in-Some.origin.now)) c.empty-nothing.ensures in
+    subst (IsPartOf c.args.query.now) (sym own_is) (part_is c.args.query.now own c.requires.own c.in-Some.origin.now)
 
 pub loop-origin-init : goal.loop-origin-init
 loop-origin-init g c =
@@ -53,6 +31,7 @@ loop-origin-init g c =
       held = search rules;
       rising = search rules;
       disk = search rules;
+      most = λ low. low;
       front = [];
       parts = refl;
       counted = λ so. (refl, refl);
@@ -69,47 +48,136 @@ loop-origin-preserved g c =
     let rest : Parts = c.next.new.self in
     let front : Parts = c.loop-origin.invariant.front in
     let rising = subst (λ rest. IsStrictlySortedBy nat_cmp (numbers rest)) c.in-Some.ensures.steps c.loop-origin.invariant.rest in
-    let new : Part = c.in_ok-part.part in
+    let new : Part = c.in-Ok.part in
+    let joining = c.in-Ok.ensures.joining in
+    let own_is = c.part_or-own.ensures ∙ ap (unwrap_or (part_at own n)) c.empty-nothing.ensures in
     let joins : Joins (g.D.TapeDisk.honest c.args.disk.now) (meaning c.args.query.now) (part_of own n) c.in-Some.part.now new =
     subst (λ honest. Joins honest (meaning c.args.query.now) (part_of own n) c.in-Some.part.now new)
     c.loop-origin.invariant.disk.honesty
-    (subst (λ o. Joins (g.D.TapeDisk.honest c.loop-origin.disk) (meaning c.args.query.now) (unwrap_or o empty) c.in-Some.part.now new)
-    c.get.ensures.value c.in_ok-part.ensures.joins) in
-    let agree : ¬ (PartsDisagree (part_of own n) c.in-Some.part.now) = subst (λ o. ¬ (PartsDisagree (unwrap_or o empty) c.in-Some.part.now))
-    c.get.ensures.value c.in_ok-part.ensures.agree in
+    (subst (λ (p : Part). Joins (g.D.TapeDisk.honest c.loop-origin.disk) (meaning c.args.query.now) p c.in-Some.part.now new)
+    own_is joining.joins) in
+    let agree : ¬ (PartsDisagree (part_of own n) c.in-Some.part.now) = subst (λ (p : Part). ¬ (PartsDisagree p c.in-Some.part.now))
+    own_is joining.agree in
     record {
       at = λ o.
           subst (λ ps. JoinedSoFar (g.D.TapeDisk.honest c.args.disk.now) c.args.query.now (part_of own o) (part_at own o) (part_at all o)
           (part_at rest o) (part_at ps o)) (sym (when_fine c.insert.result _ c.insert.ensures.entries (sym c.if-is_err.ensures.value)))
           (joined_more (g.D.TapeDisk.honest c.args.disk.now) c.args.query.now own own all old rest n c.in-Some.part.now new rising joins
-          c.in_ok-part.ensures.part agree o
+          joining.part agree o
           (subst (λ left. JoinedSoFar (g.D.TapeDisk.honest c.args.disk.now) c.args.query.now (part_of own o) (part_at own o) (part_at all o)
           (part_at left o) (part_at old o)) c.in-Some.ensures.steps (c.loop-origin.invariant.at o)));
       rest = rising_rest (n, c.in-Some.part.now) rest rising;
       held = (subst (AllByRecursion (IsHeldPart c.args.query.now)) c.in-Some.ensures.steps c.loop-origin.invariant.held).1;
       rising = c.insert.ensures.ordered;
-      disk = leaves_twice g.D.TapeDisk 0 c.args.disk.now c.loop-origin.disk c.join_part.new.disk c.loop-origin.invariant.disk
-          c.in_ok-part.ensures.disk;
+      disk = leaves_twice g.D.TapeDisk 0 c.args.disk.now c.loop-origin.disk c.join.new.disk c.loop-origin.invariant.disk
+          c.in-Ok.ensures.ran.disk;
+      most = λ low. c.in-Ok.ensures.ran.held (c.loop-origin.invariant.most low);
       front = front ++ ((n, c.in-Some.part.now) ∷ []);
       parts = c.loop-origin.invariant.parts ∙ ap (λ (left : Parts). front ++ left) c.in-Some.ensures.steps
           ∙ sym (append_assoc front ((n, c.in-Some.part.now) ∷ []) rest);
       counted = λ so.
           let q : Query = meaning c.args.query.now in
           let setting : Setting = setting_by g.H.KeyHash.hash_of q c.args.means.now in
-          let counted : JoinIsCounted q setting (part_of own n) c.in-Some.part.now c.loop-origin.work
-          (g.D.TapeDisk.writes c.loop-origin.disk) c.join_part.new.work (g.D.TapeDisk.writes c.join_part.new.disk) =
-          subst (λ o. JoinIsCounted q setting (unwrap_or o empty) c.in-Some.part.now c.loop-origin.work
-          (g.D.TapeDisk.writes c.loop-origin.disk) c.join_part.new.work (g.D.TapeDisk.writes c.join_part.new.disk)) c.get.ensures.value
-          (c.in_ok-part.ensures.counted (subst IsTrue (sym c.loop-origin.invariant.disk.honesty) so)) in
-          counted_more q setting own front (n, c.in-Some.part.now) c.args.work.now (g.D.TapeDisk.writes c.args.disk.now) c.loop-origin.work
-          (g.D.TapeDisk.writes c.loop-origin.disk) c.join_part.new.work (g.D.TapeDisk.writes c.join_part.new.disk)
+          let counted : JoinIsCounted (part_of own n) c.in-Some.part.now q setting c.loop-origin.counted
+          (g.D.TapeDisk.writes c.loop-origin.disk) c.join.new.work (g.D.TapeDisk.writes c.join.new.disk) =
+          subst (λ (p : Part). JoinIsCounted p c.in-Some.part.now q setting c.loop-origin.counted
+          (g.D.TapeDisk.writes c.loop-origin.disk) c.join.new.work (g.D.TapeDisk.writes c.join.new.disk)) own_is
+          (c.in-Ok.ensures.ran.counted (subst IsTrue (sym c.loop-origin.invariant.disk.honesty) so)) in
+          counted_more own front (n, c.in-Some.part.now) q setting c.args.work.now (g.D.TapeDisk.writes c.args.disk.now)
+          c.loop-origin.counted (g.D.TapeDisk.writes c.loop-origin.disk) c.join.new.work (g.D.TapeDisk.writes c.join.new.disk)
           (c.loop-origin.invariant.counted so) counted;
       can = tt;
       finite = tt;
     }
 
-pub returns-clause-counted : goal.returns-clause-counted
-returns-clause-counted g c = λ so.
+pub returns-in-Err-clause-joins : goal.returns-in-Err-clause-joins
+returns-in-Err-clause-joins g c =
+    let own : Parts = c.args.own.now.entries in
+    let all : Parts = c.into_iter-origin-iterator.result in
+    let n : ℕ = c.in-Some.origin.now in
+    let why = c.in-Err.why in
+    let theirs : all ≡ c.args.theirs.now.entries = c.into_iter-origin-iterator.ensures.into_iter_gives.0 in
+    let own_is = c.part_or-own.ensures ∙ ap (unwrap_or (part_at own n)) c.empty-nothing.ensures in
+    let rising = subst (λ rest. IsStrictlySortedBy nat_cmp (numbers rest)) c.in-Some.ensures.steps c.loop-origin.invariant.rest in
+    let had = λ (o : ℕ). subst (λ rest. JoinedSoFar (g.D.TapeDisk.honest c.args.disk.now) c.args.query.now (part_of own o) (part_at own o)
+    (part_at all o) (part_at rest o) (part_at c.loop-origin.joined.entries o))
+    c.in-Some.ensures.steps (c.loop-origin.invariant.at o) in
+    let first : IsFirstRefused own c.args.theirs.now.entries n why =
+    subst (λ parts. IsFirstRefused own parts n why) theirs
+    (found_refused (g.D.TapeDisk.honest c.args.disk.now) c.args.query.now own all c.loop-origin.joined.entries n c.in-Some.part.now
+    c.next.new.self why rising had
+    (subst (λ (p : Part). JoinTells why p c.in-Some.part.now) own_is c.in-Err.ensures.joining.tells)) in
+    record { joined = tt; refused = (refl, first) }
+
+pub returns-in-Err-clause-ran : goal.returns-in-Err-clause-ran
+returns-in-Err-clause-ran g c =
+    let q : Query = meaning c.args.query.now in
+    let setting : Setting = setting_by g.H.KeyHash.hash_of q c.args.means.now in
+    let own : Parts = c.args.own.now.entries in
+    let front : Parts = c.loop-origin.invariant.front in
+    let theirs : c.into_iter-origin-iterator.result ≡ c.args.theirs.now.entries = c.into_iter-origin-iterator.ensures.into_iter_gives.0 in
+    let ran = c.in-Err.ensures.ran in
+    record {
+      ran = refused_later g.D.TapeDisk g.H.KeyHash.hash_of c.args.query.now c.args.means.now (MergeIsCounted own c.args.theirs.now.entries)
+          (join_reason c.in-Err.why) c.args.disk.now c.loop-origin.disk c.join.new.disk c.args.work.now c.loop-origin.invariant.disk
+          ran.disk (λ honest same. ran.undamaged honest (ap Refused same));
+      order = λ so. record {
+        lower = front;
+        part = c.in-Some.part.now;
+        higher = c.next.new.self;
+        parts = sym theirs ∙ c.loop-origin.invariant.parts ∙ ap (λ (left : Parts). front ++ left) c.in-Some.ensures.steps;
+        work = c.loop-origin.counted;
+        pages = g.D.TapeDisk.writes c.loop-origin.disk;
+        counted = c.loop-origin.invariant.counted so;
+        reached = ran.disk.writes;
+      };
+    }
+
+pub returns-then-is_err-clause-joins : goal.returns-then-is_err-clause-joins
+returns-then-is_err-clause-joins g c = record { joined = tt; refused = refl }
+
+pub returns-then-is_err-clause-ran : goal.returns-then-is_err-clause-ran
+returns-then-is_err-clause-ran g c = record {
+  ran = refused_later g.D.TapeDisk g.H.KeyHash.hash_of c.args.query.now c.args.means.now
+      (MergeIsCounted c.args.own.now.entries c.args.theirs.now.entries) (Some spill.NoMemory) c.args.disk.now c.loop-origin.disk
+      c.join.new.disk c.args.work.now c.loop-origin.invariant.disk c.in-Ok.ensures.ran.disk (λ honest same. cc);
+  order = λ so. tt;
+}
+
+pub returns-in_default-clause-joins : goal.returns-in_default-clause-joins
+returns-in_default-clause-joins g c = record { joined = tt; refused = refl }
+
+pub returns-in_default-clause-ran : goal.returns-in_default-clause-ran
+returns-in_default-clause-ran g c = record {
+  ran = refused_still g.D.TapeDisk g.H.KeyHash.hash_of c.args.query.now c.args.means.now
+      (MergeIsCounted c.args.own.now.entries c.args.theirs.now.entries) (Some spill.NoMemory) c.args.disk.now c.args.work.now refl
+      (λ honest same. cc);
+  order = λ so. tt;
+}
+
+pub returns-clause-joins : goal.returns-clause-joins
+returns-clause-joins g c =
+    let own : Parts = c.args.own.now.entries in
+    let theirs : c.into_iter-origin-iterator.result ≡ c.args.theirs.now.entries = c.into_iter-origin-iterator.ensures.into_iter_gives.0 in
+    let done : c.loop-origin.origin-iterator ≡ [] = search rules in
+    record {
+      joined = record {
+        same = refl;
+        held = c.requires.theirs;
+        aside = record {
+          rising = c.loop-origin.invariant.rising;
+          at = λ o. subst (λ all. AsideAt (g.D.TapeDisk.honest c.args.disk.now) c.args.query.now (part_of own o) (part_at own o)
+              (part_at all o) (part_at c.loop-origin.joined.entries o)) theirs
+              (subst (λ rest. JoinedSoFar (g.D.TapeDisk.honest c.args.disk.now) c.args.query.now (part_of own o) (part_at own o)
+              (part_at c.into_iter-origin-iterator.result o) (part_at rest o) (part_at c.loop-origin.joined.entries o)) done
+              (c.loop-origin.invariant.at o));
+        };
+      };
+      refused = tt;
+    }
+
+pub returns-clause-ran : goal.returns-clause-ran
+returns-clause-ran g c =
     let q : Query = meaning c.args.query.now in
     let setting : Setting = setting_by g.H.KeyHash.hash_of q c.args.means.now in
     let theirs : c.into_iter-origin-iterator.result ≡ c.args.theirs.now.entries = c.into_iter-origin-iterator.ensures.into_iter_gives.0 in
@@ -117,42 +185,15 @@ returns-clause-counted g c = λ so.
     let front : Parts = c.loop-origin.invariant.front in
     let whole : front ≡ c.args.theirs.now.entries = sym (append-nil front) ∙ ap (λ (left : Parts). front ++ left) (sym done)
     ∙ sym c.loop-origin.invariant.parts ∙ theirs in
-    subst (λ all. MergeIsCounted q setting c.args.own.now.entries all c.args.work.now (g.D.TapeDisk.writes c.args.disk.now)
-    c.loop-origin.work (g.D.TapeDisk.writes c.loop-origin.disk)) whole (c.loop-origin.invariant.counted so)
-
-pub returns-in_err-part-clause-order : goal.returns-in_err-part-clause-order
-returns-in_err-part-clause-order g c =
-    let q : Query = meaning c.args.query.now in
-    let setting : Setting = setting_by g.H.KeyHash.hash_of q c.args.means.now in
-    let own : Parts = c.args.own.now.entries in
-    let front : Parts = c.loop-origin.invariant.front in
-    let theirs : c.into_iter-origin-iterator.result ≡ c.args.theirs.now.entries = c.into_iter-origin-iterator.ensures.into_iter_gives.0 in
-    let p = err_from_is_err_and c.from_residual-in_err-part.result c.from_residual-in_err-part.ensures.1 in
-    subst (λ r. IfErr r (λ e. IsTrue (g.D.TapeDisk.honest c.args.disk.now)
-    → JoinsInOrder q setting own c.args.theirs.now.entries c.args.work.now (g.D.TapeDisk.writes c.args.disk.now) e
-    (g.D.TapeDisk.writes c.join_part.new.disk))) (sym p.1)
-    (subst (λ e. IsTrue (g.D.TapeDisk.honest c.args.disk.now) → JoinsInOrder q setting own c.args.theirs.now.entries c.args.work.now
-    (g.D.TapeDisk.writes c.args.disk.now) e (g.D.TapeDisk.writes c.join_part.new.disk)) (sym (p.2 ∙ c.in_err-part.ensures.tells.1))
-    (λ so. record {
-      lower = front;
-      part = c.in-Some.part.now;
-      higher = c.next.new.self;
-      parts = sym theirs ∙ c.loop-origin.invariant.parts ∙ ap (λ (left : Parts). front ++ left) c.in-Some.ensures.steps;
-      work = c.loop-origin.work;
-      pages = g.D.TapeDisk.writes c.loop-origin.disk;
-      counted = c.loop-origin.invariant.counted so;
-      reached = c.in_err-part.ensures.disk.writes;
-    }))
-
-pub returns-in_err-part-clause-undamaged : goal.returns-in_err-part-clause-undamaged
-returns-in_err-part-clause-undamaged g c =
-    let p = err_from_is_err_and c.from_residual-in_err-part.result c.from_residual-in_err-part.ensures.1 in
-    subst (λ r. IfErr r (λ e. IsTrue (g.D.TapeDisk.honest c.args.disk.now) → (at : ℕ) → e ≢ Join at (Spill TapeDamaged))) (sym p.1)
-    (λ honest at is. c.in_err-part.ensures.undamaged (subst IsTrue (sym c.loop-origin.invariant.disk.honesty) honest) at (sym p.2 ∙ is))
-
-pub returns-in_err-part-clause-disk : goal.returns-in_err-part-clause-disk
-returns-in_err-part-clause-disk g c =
-    let p = err_from_is_err_and c.from_residual-in_err-part.result c.from_residual-in_err-part.ensures.1 in
-    rw p.1 (subst (λ e. DiskFrame g.D.TapeDisk (merge_faults e) c.args.disk.now c.join_part.new.disk) (sym p.2)
-    (leaves_twice g.D.TapeDisk _ c.args.disk.now c.loop-origin.disk c.join_part.new.disk c.loop-origin.invariant.disk
-    c.in_err-part.ensures.disk))
+    record {
+      ran = record {
+        disk = c.loop-origin.invariant.disk;
+        undamaged = λ honest same. cc;
+        counted = λ so. subst (λ all. MergeIsCounted c.args.own.now.entries all q setting c.args.work.now
+            (g.D.TapeDisk.writes c.args.disk.now) c.loop-origin.counted (g.D.TapeDisk.writes c.loop-origin.disk)) whole
+            (c.loop-origin.invariant.counted so);
+        uncounted = tt;
+        held = c.loop-origin.invariant.most;
+      };
+      order = tt;
+    }

@@ -1,10 +1,10 @@
-use Rattle.std.specs.Prelude.{◌≡◌, ℕ, ◌++◌, map, IsTrue}
+use Rattle.std.specs.Prelude.{◌≡◌, ◌≤◌, ℕ, ◌++◌, map, IsTrue}
 use Rattle.std.specs.List.{AllByRecursion}
 use Rattle.std.specs.List.Sorted.{IsStrictlySortedBy}
 use Rattle.std.specs.Ordering.{nat_cmp}
-use Rattle.replica_merge.proofs.Words.{meaning, setting_by, Part, MergeIsCounted, Parts, part_at, part_of, IsHeldPart}
+use Rattle.replica_merge.specs.Lemmas.Words.{meaning, setting_by, Part, MergeIsCounted, Parts, part_at, part_of, IsHeldPart}
 use Rattle.tape_disks.specs.Disk.{DiskFrame}
-use Rattle.replica_merge.proofs.MergedLaws.{JoinedSoFar}
+use Rattle.replica_merge.specs.Lemmas.MergedLaws.{JoinedSoFar}
 use Rattle.replica_merge.proofs.merging.join_all.Given as goal
 
 abbrev pub invariant-loop-origin : goal.invariant-loop-origin
@@ -16,11 +16,12 @@ invariant-loop-origin g l =
       held : AllByRecursion (IsHeldPart l.query) l.origin-iterator;
       rising : IsStrictlySortedBy nat_cmp (map (λ (held : ℕ × Part). held.0) l.joined.entries);
       disk : DiskFrame g.D.TapeDisk 0 l.fn.disk l.disk;
+      most : l.fn.work.most_held ≤ l.means.limit → l.counted.most_held ≤ l.means.limit;
       front : Parts;
       parts : l.initial.origin-iterator ≡ front ++ l.origin-iterator;
       counted : IsTrue (g.D.TapeDisk.honest l.fn.disk)
-          → MergeIsCounted (meaning l.query) (setting_by g.H.KeyHash.hash_of (meaning l.query) l.means) l.own.entries front l.fn.work
-          (g.D.TapeDisk.writes l.fn.disk) l.work (g.D.TapeDisk.writes l.disk);
+          → MergeIsCounted l.own.entries front (meaning l.query) (setting_by g.H.KeyHash.hash_of (meaning l.query) l.means) l.fn.work
+          (g.D.TapeDisk.writes l.fn.disk) l.counted (g.D.TapeDisk.writes l.disk);
       can : (goal.iterator-loop-origin g).can_next l.origin-iterator;
       finite : (goal.iterator-loop-origin g).is_finite l.origin-iterator;
     }

@@ -2,9 +2,9 @@ use Rattle.std.specs.Prelude.{◌≡◌, option_map}
 use Rattle.std.proofs.Common.{◌∙◌, sym, ap, subst}
 use Rattle.std.specs.BTreeMap.{insert_entry}
 use Rattle.std.specs.Ordering.{nat_cmp}
-use Rattle.replica_merge.proofs.Words.{either, Part, empty, Parts, part_at}
-use Rattle.replica_merge.proofs.DeliveredLaws.{when_fine}
-use Rattle.replica_merge.proofs.MergedLaws.{placed}
+use Rattle.replica_merge.specs.Lemmas.Words.{either, Part, empty, Parts, part_at}
+use Rattle.replica_merge.specs.Lemmas.DeliveredLaws.{when_fine}
+use Rattle.replica_merge.specs.Lemmas.MergedLaws.{placed}
 use Rattle.replica_merge.proofs.merging.places.Goals as goal
 
 pub loop-origin-preserved : goal.loop-origin-preserved

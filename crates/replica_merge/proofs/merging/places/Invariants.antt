@@ -1,7 +1,7 @@
 use Rattle.std.specs.Prelude.{◌≡◌, ℕ, map, option_map}
 use Rattle.std.specs.List.Sorted.{IsStrictlySortedBy}
 use Rattle.std.specs.Ordering.{nat_cmp}
-use Rattle.replica_merge.proofs.Words.{either, Part, empty, part_at}
+use Rattle.replica_merge.specs.Lemmas.Words.{either, Part, empty, part_at}
 use Rattle.replica_merge.proofs.merging.places.Given as goal
 
 abbrev pub invariant-loop-origin : goal.invariant-loop-origin

@@ -1,7 +1,7 @@
 use Rattle.std.specs.Prelude.{◌≡◌, Some, true, false, if◌then◌else◌}
 use Rattle.std.proofs.Common.{◌∙◌, sym, ap}
 use Rattle.origin_prefix.specs.Parts.{is_nothing}
-use Rattle.replica_merge.proofs.MergedLaws.{written_at}
+use Rattle.replica_merge.specs.Lemmas.MergedLaws.{written_at}
 use Rattle.replica_merge.proofs.merging.put_back.Goals as goal
 
 pub returns-then-is_empty-clause-at : goal.returns-then-is_empty-clause-at

@@ -2,7 +2,7 @@ use Rattle.std.specs.Prelude.{◌≡◌, ◌++◌, ◌∷◌, List, map}
 use Rattle.std.proofs.Common.{◌∙◌, sym, ap, append_assoc}
 use Rattle.std.proofs.lemmas.List.{map_push}
 use Rattle.origin_prefix.specs.Lemmas.ByNumber.{numbers}
-use Rattle.replica_merge.proofs.Words.{KnownOrigin, Parts, known_of, known_part}
+use Rattle.replica_merge.specs.Lemmas.Words.{KnownOrigin, Parts, known_of, known_part}
 use Rattle.replica_merge.proofs.replica.known_parts.Goals as goal
 
 pub loop-origin-preserved : goal.loop-origin-preserved

@@ -1,5 +1,5 @@
 use Rattle.std.specs.Prelude.{◌≡◌, ◌++◌, map}
-use Rattle.replica_merge.proofs.Words.{brought_by, counted_part}
+use Rattle.replica_merge.specs.Lemmas.Words.{brought_by, counted_part}
 use Rattle.replica_merge.proofs.uniting.listed.Given as goal
 
 abbrev pub invariant-loop-part : goal.invariant-loop-part

@@ -49,13 +49,14 @@ returns-in_err-put_reply g c =
           passed_as c.from_residual-in_err-put_reply.result stop.WriteFault _ _ c.from_residual-in_err-put_reply.ensures.1
           (ran_front {c = command_at (fields_of c.in-Some.command.head) c.next_command.new.records}
           (rw next at c.loop-command.invariant.ran)
-          (honest_steps _ _ _ _ _ _ _ left.1.honesty c.in_ok-reply.ensures.answers) (sym c.in_ok-reply.ensures.disk.failures) _
+          (honest_steps _ _ _ _ _ _ _ left.1.honesty c.in_ok-reply.ensures.executes.answers) (sym
+          c.in_ok-reply.ensures.executes.disk.failures) _
           c.in_err-put_reply.ensures.0);
       write_fault =
           fails_as c.from_residual-in_err-put_reply.result stop.WriteFault c.args.writer.now c.put_reply.new.writer
           c.from_residual-in_err-put_reply.ensures.1
           (λ sound. c.in_err-put_reply.ensures.1 (c.loop-command.invariant.sound sound));
-      disk = left_both g.D.TapeDisk c.args.disk.now c.loop-command.disk c.execute.new.disk left (_, c.in_ok-reply.ensures.disk);
+      disk = left_both g.D.TapeDisk c.args.disk.now c.loop-command.disk c.execute.new.disk left (_, c.in_ok-reply.ensures.executes.disk);
     }
 
 pub loop-command-smaller : goal.loop-command-smaller
@@ -86,8 +87,11 @@ loop-command-preserved g c =
       ran =
           rw c.in_ok-reply.ensures.left
           (ran_more {c = command_at (fields_of c.in-Some.command.head) c.next_command.new.records} (rw next at inv.ran)
-          (honest_steps _ _ _ _ _ _ _ inv.left.1.honesty c.in_ok-reply.ensures.answers)
-          (sym c.in_ok-reply.ensures.disk.failures) _ _ c.in_ok-put_reply.ensures.0 counts);
+          (honest_steps _ _ _ _ _ _ _ inv.left.1.honesty c.in_ok-reply.ensures.executes.answers)
+          (sym c.in_ok-reply.ensures.executes.disk.failures) _ _ c.in_ok-put_reply.ensures.0 counts);
       sound = λ sound. sym (c.in_ok-put_reply.ensures.1 (inv.sound sound));
-      left = left_both g.D.TapeDisk c.args.disk.now c.loop-command.disk c.execute.new.disk inv.left (_, c.in_ok-reply.ensures.disk);
+      left = left_both g.D.TapeDisk c.args.disk.now c.loop-command.disk c.execute.new.disk inv.left (
+        _,
+        c.in_ok-reply.ensures.executes.disk,
+      );
     }

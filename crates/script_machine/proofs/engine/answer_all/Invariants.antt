@@ -1,14 +1,14 @@
 use Rattle.std.proofs.Common.{◌≡◌, ℕ, ◌+◌, ◌≤◌, false, length}
 use Rattle.script_machine.proofs.Words.{DiskFrame, commands_of}
 use Rattle.script_io.specs.Fused.{has_failed, written}
-use Rattle.script_machine.proofs.RunLaws.{Ran}
+use Rattle.script_machine.proofs.RunLaws.{RunSoFar}
 use Rattle.script_machine.proofs.engine.answer_all.Given as goal
 
 abbrev pub invariant-loop-command : goal.invariant-loop-command
 invariant-loop-command g l =
     record {
       room : l.refused + length l.records ≤ length l.fn.records;
-      ran : Ran (record {
+      ran : RunSoFar (record {
         honest = g.D.TapeDisk.honest l.fn.disk;
         failed = g.D.TapeDisk.failures l.fn.disk;
         failed_now =

@@ -3,7 +3,7 @@ use Rattle.std.proofs.Common.{◌∙◌, ap, subst}
 use Rattle.std.proofs.lemmas.Result.{IfOk-weaker}
 use Rattle.grouping_model.specs.Aggregates.{Outcome}
 use Rattle.grouping_model.specs.Answer.{answer}
-use Rattle.replica_merge.proofs.Words.{World, IsWorld, kinds, meaning, Held, Fits, told, counted_part, brought_by}
+use Rattle.replica_merge.specs.Lemmas.Words.{World, IsWorld, kinds, meaning, Held, Fits, told, counted_part, brought_by}
 use Rattle.replica_merge.proofs.AnswerLaws.{IsOfParts, shows, only_run, whole_run, listed_inputs, listed_few, shown_wide, shown_answer}
 use Rattle.replica_merge.proofs.replica.Replica.answer.Goals as goal
 

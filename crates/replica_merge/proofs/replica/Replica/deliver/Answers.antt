@@ -1,94 +1,116 @@
-use Rattle.std.specs.Prelude.{◌≡◌, ◌≢◌, ℕ, List, Option, Some, IfOk, IfErr, OnOk, IsTrue, false}
-use Rattle.std.proofs.Common.{subst}
-use Rattle.replica_merge.proofs.Words.{Row, reply_of, World, IsWorld, knows, learn, kinds, packings, meaning, AreCounted, setting_by}
-use Rattle.replica_merge.proofs.Words.{Disagrees, BatchTells, aggregations_on, OriginDisagrees, Spill, Held, part_of, told, Fits}
-use Rattle.replica_merge.proofs.Words.{DeliversAt}
-use Rattle.spill_partitions.specs.declared.error.SpillError.{SpillError}
-use Rattle.replica_merge.proofs.DeliveredLaws.{still_held, reply_told, more_told, still_fits, handed_back, why_told, agreed_else}
-use Rattle.replica_merge.proofs.DeliveredLaws.{unknown_else, world_agrees}
+use Rattle.std.specs.Prelude.{◌≡◌, refl, ℕ, Ok, Err, Some, unwrap_or}
+use Rattle.std.proofs.Common.{◌∙◌, ap, sym, subst}
+use Rattle.hash_agg.specs.Lemmas.RanLaws.{refused_still}
+use Rattle.hash_agg.specs.Ran.{Ran, Done, Refused}
+use Rattle.origin_prefix.specs.Errors.{batch_ended, join_reason}
+use Rattle.spill_partitions.specs.declared.error.SpillError.TheVariants as spill
+use Rattle.replica_merge.specs.Lemmas.Words.{AreCounted, BatchTells, DeliversBatch, Held, IsPartOf, Part, Parts, aggregations_on, empty}
+use Rattle.replica_merge.specs.Lemmas.Words.{part_at, part_of}
+use Rattle.replica_merge.specs.Lemmas.DeliveredLaws.{none_tells, part_is, placed_delivers, placed_part, placed_refused, placed_there}
+use Rattle.replica_merge.specs.Lemmas.DeliveredLaws.{taken_at}
+use Rattle.replica_merge.specs.DeliveryLaws.{delivery_held}
 use Rattle.replica_merge.proofs.replica.Replica.deliver.Goals as goal
 
-pub invariant_of-self : goal.invariant_of-self
-invariant_of-self g c = still_held c.deliver_in.result (g.D.TapeDisk.honest c.args.disk.now) c.self.inside.query c.self.inside.parts.entries
-    c.deliver_in.new.parts.entries c.args.batch c.self.invariant c.requires.limits c.deliver_in.ensures.taken c.deliver_in.ensures.refused
+pub deliver-requires-clause-part : goal.deliver-requires-clause-part
+deliver-requires-clause-part g c =
+    let old : Parts = c.self.inside.parts.entries in
+    let origin = c.args.batch.origin in
+    let own : c.in-Some.part.now ≡ part_of old origin = ap (λ o. unwrap_or o empty) c.in-Some.ensures.value
+    ∙ placed_part old c.place_of.new.parts.entries origin c.in-Ok.is_new c.in-Ok.ensures.place in
+    subst (IsPartOf c.self.inside.query) (sym own) (part_is c.self.inside.query old c.self.invariant origin)
 
-pub returns-clause-reply : goal.returns-clause-reply
-returns-clause-reply g c =
-    subst (λ (h : Held). IfOk c.deliver_in.result (λ reply. reply ≡ reply_of (told h.parts) (c.args.batch.origin, c.args.batch.number)))
-    c.self.view_is
-    (reply_told c.deliver_in.result (g.D.TapeDisk.honest c.args.disk.now) c.self.inside.query c.self.inside.parts.entries
-    c.deliver_in.new.parts.entries c.args.batch c.self.invariant c.requires.limits c.deliver_in.ensures.taken
-    c.deliver_in.ensures.refused)
+pub returns-in_default-clause-delivers : goal.returns-in_default-clause-delivers
+returns-in_default-clause-delivers g c =
+    let old : Parts = c.self.inside.parts.entries in
+    let batch = c.args.batch in
+    let none = c.in_default.ensures.none in
+    subst (λ (h : Held). DeliversBatch (g.D.TapeDisk.honest c.args.disk.now) h batch
+    (record { query = c.self.inside.query; parts = c.place_of.new.parts.entries })
+    (Err (record { batch = batch; why = c.from-why.result }))) c.self.view_is
+    (record {
+      held = c.self.invariant;
+      limits = c.requires.limits;
+      asked = refl;
+      taken = tt;
+      refused = record {
+        back = refl;
+        same = none.1;
+        tells = subst (λ w. BatchTells w (part_of old batch.origin) batch.number batch.rows) (sym c.from-why.ensures)
+            (none_tells old batch.origin batch.number none.0);
+      };
+    })
 
-pub returns-clause-told : goal.returns-clause-told
-returns-clause-told g c =
-    subst (λ (h : Held). OnOk c.deliver_in.result (told c.deliver_in.new.parts.entries
-    ≡ learn (told h.parts) (c.args.batch.origin, c.args.batch.number))) c.self.view_is
-    (more_told c.deliver_in.result (g.D.TapeDisk.honest c.args.disk.now) c.self.inside.query c.self.inside.parts.entries
-    c.deliver_in.new.parts.entries c.args.batch c.self.invariant c.requires.limits c.deliver_in.ensures.taken
-    c.deliver_in.ensures.refused)
+pub returns-in_default-clause-ran : goal.returns-in_default-clause-ran
+returns-in_default-clause-ran g c =
+    let batch = c.args.batch in
+    subst (λ w. Ran g.D.TapeDisk g.H.KeyHash.hash_of c.args.self.now.query c.args.means.now
+    (AreCounted (aggregations_on (part_of c.args.self.now.parts batch.origin) batch.number batch.rows)) (Refused (join_reason w))
+    c.args.disk.now c.args.work.now c.args.disk.now c.args.work.now) (sym c.from-why.ensures)
+    (refused_still g.D.TapeDisk g.H.KeyHash.hash_of c.args.self.now.query c.args.means.now
+    (AreCounted (aggregations_on (part_of c.args.self.now.parts batch.origin) batch.number batch.rows)) (Some spill.NoMemory)
+    c.args.disk.now c.args.work.now refl (λ honest same. cc))
 
-pub returns-clause-delivers : goal.returns-clause-delivers
-returns-clause-delivers g c =
-    subst (λ (h : Held). IfOk c.deliver_in.result (DeliversAt (g.D.TapeDisk.honest c.args.disk.now) h.query h.parts c.args.batch.origin
-    c.args.batch.number c.args.batch.rows c.deliver_in.new.parts.entries)) c.self.view_is
-    c.deliver_in.ensures.taken
+pub returns-in-Ok-clause-delivers : goal.returns-in-Ok-clause-delivers
+returns-in-Ok-clause-delivers g c =
+    let honest = g.D.TapeDisk.honest c.args.disk.now in
+    let old : Parts = c.self.inside.parts.entries in
+    let batch = c.args.batch in
+    let after = c.get_mut.follows.lender c.deliver.new.self in
+    let taken = taken_at (Ok c.in-Ok-deliver.delivered) honest c.self.inside.query c.place_of.new.parts after batch c.in-Some.part.now
+    c.deliver.new.self (sym c.in-Some.ensures.value) (c.get_mut.follows.holds c.deliver.new.self) c.in-Ok-deliver.ensures.delivery in
+    subst (λ (h : Held). DeliversBatch honest h batch (record { query = c.self.inside.query; parts = after.entries })
+    (Ok c.in-Ok-deliver.delivered)) c.self.view_is
+    (record {
+      held = c.self.invariant;
+      limits = c.requires.limits;
+      asked = refl;
+      taken = placed_delivers honest c.self.inside.query old c.place_of.new.parts.entries after.entries batch.origin batch.number
+          batch.rows c.in-Ok-deliver.delivered c.in-Ok.is_new c.in-Ok.ensures.place taken.0;
+      refused = tt;
+    })
 
-pub returns-clause-fits : goal.returns-clause-fits
-returns-clause-fits g c =
-    subst (λ (h : Held). OnOk c.deliver_in.result (IsTrue (g.D.TapeDisk.honest c.args.disk.now) → (world : World) (those : List Row)
-    → IsWorld (kinds h.query.columns) world → Fits world h → world c.args.batch.origin c.args.batch.number ≡ Some those
-    → c.args.batch.rows ≡ packings those → Fits world (record { query = c.self.inside.query; parts = c.deliver_in.new.parts.entries })))
-    c.self.view_is
-    (still_fits c.deliver_in.result (g.D.TapeDisk.honest c.args.disk.now) c.self.inside.query c.self.inside.parts.entries
-    c.deliver_in.new.parts.entries c.args.batch c.self.invariant c.requires.limits c.deliver_in.ensures.taken
-    c.deliver_in.ensures.refused)
+pub returns-in-Ok-clause-ran : goal.returns-in-Ok-clause-ran
+returns-in-Ok-clause-ran g c =
+    let old : Parts = c.self.inside.parts.entries in
+    let batch = c.args.batch in
+    let own : c.in-Some.part.now ≡ part_of old batch.origin = ap (λ o. unwrap_or o empty) c.in-Some.ensures.value
+    ∙ placed_part old c.place_of.new.parts.entries batch.origin c.in-Ok.is_new c.in-Ok.ensures.place in
+    subst (λ (h : Held). Ran g.D.TapeDisk g.H.KeyHash.hash_of h.query c.args.means.now
+    (AreCounted (aggregations_on (part_of h.parts batch.origin) batch.number batch.rows)) Done c.args.disk.now c.args.work.now
+    c.deliver.new.disk c.deliver.new.work) c.self.view_is
+    (subst (λ (p : Part). Ran g.D.TapeDisk g.H.KeyHash.hash_of c.self.inside.query c.args.means.now
+    (AreCounted (aggregations_on p batch.number batch.rows)) Done c.args.disk.now c.args.work.now
+    c.deliver.new.disk c.deliver.new.work) own c.in-Ok-deliver.ensures.ran)
 
-pub returns-clause-refused : goal.returns-clause-refused
-returns-clause-refused g c =
-    subst (λ (h : Held). IfErr c.deliver_in.result (λ e. (e.batch ≡ c.args.batch)
-    × (record { query = c.self.inside.query; parts = c.deliver_in.new.parts.entries } ≡ h))) c.self.view_is
-    (handed_back c.deliver_in.result (g.D.TapeDisk.honest c.args.disk.now) c.self.inside.query c.self.inside.parts.entries
-    c.deliver_in.new.parts.entries c.args.batch c.self.invariant c.requires.limits c.deliver_in.ensures.taken
-    c.deliver_in.ensures.refused)
+pub returns-in-Err-clause-delivers : goal.returns-in-Err-clause-delivers
+returns-in-Err-clause-delivers g c =
+    let honest = g.D.TapeDisk.honest c.args.disk.now in
+    let old : Parts = c.self.inside.parts.entries in
+    let batch = c.args.batch in
+    let after = c.get_mut.follows.lender c.deliver.new.self in
+    let refused = taken_at (Err c.in-Err.refused) honest c.self.inside.query c.place_of.new.parts after batch c.in-Some.part.now
+    c.deliver.new.self (sym c.in-Some.ensures.value) (c.get_mut.follows.holds c.deliver.new.self) c.in-Err.ensures.delivery in
+    subst (λ (h : Held). DeliversBatch honest h batch (record { query = c.self.inside.query; parts = c.take_back.new.parts.entries })
+    (Err c.in-Err.refused)) c.self.view_is
+    (record {
+      held = c.self.invariant;
+      limits = c.requires.limits;
+      asked = refl;
+      taken = tt;
+      refused = placed_refused old c.place_of.new.parts.entries after.entries c.take_back.new.parts.entries batch c.in-Err.refused
+          c.in-Ok.is_new c.in-Ok.ensures.place refused.1 c.take_back.ensures;
+    })
 
-pub returns-clause-tells : goal.returns-clause-tells
-returns-clause-tells g c =
-    subst (λ (h : Held). IfErr c.deliver_in.result (λ e. BatchTells e.why (part_of h.parts c.args.batch.origin) c.args.batch.number
-    c.args.batch.rows)) c.self.view_is
-    (why_told c.deliver_in.result (g.D.TapeDisk.honest c.args.disk.now) c.self.inside.query c.self.inside.parts.entries
-    c.deliver_in.new.parts.entries c.args.batch c.self.invariant c.requires.limits c.deliver_in.ensures.taken
-    c.deliver_in.ensures.refused)
-
-pub returns-clause-agreed : goal.returns-clause-agreed
-returns-clause-agreed g c =
-    subst (λ (h : Held). IfOk c.deliver_in.result
-    (λ _. ¬ (Disagrees (part_of h.parts c.args.batch.origin) c.args.batch.number c.args.batch.rows))) c.self.view_is
-    (agreed_else c.deliver_in.result (g.D.TapeDisk.honest c.args.disk.now) c.self.inside.query c.self.inside.parts.entries
-    c.deliver_in.new.parts.entries c.args.batch c.self.invariant c.requires.limits c.deliver_in.ensures.taken
-    c.deliver_in.ensures.refused)
-
-pub returns-clause-unknown : goal.returns-clause-unknown
-returns-clause-unknown g c =
-    subst (λ (h : Held). IfErr c.deliver_in.result (λ e. (error : SpillError) → e.why ≡ Spill error
-    → knows (told h.parts) (c.args.batch.origin, c.args.batch.number) ≡ false)) c.self.view_is
-    (unknown_else c.deliver_in.result (g.D.TapeDisk.honest c.args.disk.now) c.self.inside.query c.self.inside.parts.entries
-    c.deliver_in.new.parts.entries c.args.batch c.self.invariant c.requires.limits c.deliver_in.ensures.taken
-    c.deliver_in.ensures.refused)
-
-pub returns-clause-agrees : goal.returns-clause-agrees
-returns-clause-agrees g c =
-    subst (λ (h : Held). IfErr c.deliver_in.result (λ e. (told : Option ℕ) → e.why ≡ OriginDisagrees told
-    → (world : World) (those : List Row) → Fits world h → world c.args.batch.origin c.args.batch.number ≡ Some those
-    → c.args.batch.rows ≢ packings those)) c.self.view_is
-    (world_agrees c.deliver_in.result (g.D.TapeDisk.honest c.args.disk.now) c.self.inside.query c.self.inside.parts.entries
-    c.deliver_in.new.parts.entries c.args.batch c.self.invariant c.requires.limits c.deliver_in.ensures.taken
-    c.deliver_in.ensures.refused)
-
-pub returns-clause-counted : goal.returns-clause-counted
-returns-clause-counted g c =
-    subst (λ (h : Held). OnOk c.deliver_in.result (IsTrue (g.D.TapeDisk.honest c.args.disk.now)
-    → AreCounted (meaning h.query) (setting_by g.H.KeyHash.hash_of (meaning h.query) c.args.means.now)
-    (aggregations_on (part_of h.parts c.args.batch.origin) c.args.batch.number c.args.batch.rows) c.args.work.now
-    (g.D.TapeDisk.writes c.args.disk.now) c.deliver_in.new.work (g.D.TapeDisk.writes c.deliver_in.new.disk))) c.self.view_is
-    c.deliver_in.ensures.counted
+pub returns-in-Err-clause-ran : goal.returns-in-Err-clause-ran
+returns-in-Err-clause-ran g c =
+    let old : Parts = c.self.inside.parts.entries in
+    let batch = c.args.batch in
+    let ended = Refused (join_reason c.in-Err.refused.why) in
+    let own : c.in-Some.part.now ≡ part_of old batch.origin = ap (λ o. unwrap_or o empty) c.in-Some.ensures.value
+    ∙ placed_part old c.place_of.new.parts.entries batch.origin c.in-Ok.is_new c.in-Ok.ensures.place in
+    subst (λ (h : Held). Ran g.D.TapeDisk g.H.KeyHash.hash_of h.query c.args.means.now
+    (AreCounted (aggregations_on (part_of h.parts batch.origin) batch.number batch.rows)) ended c.args.disk.now c.args.work.now
+    c.deliver.new.disk c.deliver.new.work) c.self.view_is
+    (subst (λ (p : Part). Ran g.D.TapeDisk g.H.KeyHash.hash_of c.self.inside.query c.args.means.now
+    (AreCounted (aggregations_on p batch.number batch.rows)) ended c.args.disk.now c.args.work.now
+    c.deliver.new.disk c.deliver.new.work) own c.in-Err.ensures.ran)

@@ -1,11 +1,8 @@
-use Rattle.std.specs.Prelude.{◌≡◌, ℕ, Option, IfErr, IsTrue}
-use Rattle.std.proofs.Common.{◌∙◌, sym, ap, subst}
-use Rattle.std.proofs.lemmas.Result.{err_from_is_err_and}
-use Rattle.replica_merge.proofs.Words.{World, Checked, meaning, setting_by, JoinsInOrder, Held, Fits, AreHeldParts, DisagreeSomewhere}
-use Rattle.replica_merge.proofs.Words.{MergeTells, OriginDisagrees}
+use Rattle.std.specs.Prelude.{◌≡◌, refl, None}
+use Rattle.std.proofs.Common.{sym, subst}
+use Rattle.replica_merge.specs.Lemmas.Words.{Checked, Held, AreHeldParts, JoinsReplicas, MergeIsCounted, MergeRan}
+use Rattle.hash_agg.specs.Lemmas.RanLaws.{refused_still}
 use Rattle.query_grammar.specs.Lemmas.OneText.{one_text}
-use Rattle.replica_merge.specs.declared.error.MergeError.TheVariants.{Join}
-use Rattle.replica_merge.proofs.MergedLaws.{never_refused, aside_agree}
 use Rattle.replica_merge.proofs.replica.Replica.join.Goals as goal
 
 pub join_all-requires-clause-theirs : goal.join_all-requires-clause-theirs
@@ -15,79 +12,36 @@ join_all-requires-clause-theirs g c =
     c.schema-theirs.ensures.query texts.0 texts.1 in
     subst (λ (q : Checked). AreHeldParts q c.other.inside.parts.entries) (sym same) c.other.invariant
 
-pub returns-in_err-parts-clause-tells : goal.returns-in_err-parts-clause-tells
-returns-in_err-parts-clause-tells g c =
-    let texts = c.same_query.ensures.0 c.if-not-same_query.false in
-    let same : c.self.inside.query ≡ c.other.inside.query = one_text c.self.inside.query c.other.inside.query c.schema-own.ensures.query
-    c.schema-theirs.ensures.query texts.0 texts.1 in
-    let p = err_from_is_err_and c.from_residual.result c.from_residual.ensures.1 in
-    subst (λ r. IfErr r (λ e. MergeTells e c.args.self.now c.args.other.now)) (sym p.1)
-    (subst (λ e. MergeTells e c.args.self.now c.args.other.now) (sym p.2)
-    (subst (λ (h : Held). MergeTells c.in_err-parts.field-0.0 h c.args.other.now) c.self.view_is
-    (subst (λ (h : Held). MergeTells c.in_err-parts.field-0.0 (record { query = c.self.inside.query; parts = c.self.inside.parts.entries })
-    h) c.other.view_is
-    (subst (λ (q : Checked). MergeTells c.in_err-parts.field-0.0
-    (record { query = c.self.inside.query; parts = c.self.inside.parts.entries })
-    (record { query = q; parts = c.other.inside.parts.entries })) same
-    c.in_err-parts.ensures.tells))))
+pub returns-then-not-same_query-clause-ran : goal.returns-then-not-same_query-clause-ran
+returns-then-not-same_query-clause-ran g c = record {
+  ran = refused_still g.D.TapeDisk g.H.KeyHash.hash_of c.args.self.now.query c.args.means.now
+      (MergeIsCounted c.args.self.now.parts c.args.other.now.parts) None c.args.disk.now c.args.work.now refl (λ honest same. cc);
+  order = λ so. tt;
+}
 
-pub returns-in_err-parts-clause-agree : goal.returns-in_err-parts-clause-agree
-returns-in_err-parts-clause-agree g c =
+pub returns-clause-joins : goal.returns-clause-joins
+returns-clause-joins g c =
     let texts = c.same_query.ensures.0 c.if-not-same_query.false in
     let same : c.self.inside.query ≡ c.other.inside.query = one_text c.self.inside.query c.other.inside.query c.schema-own.ensures.query
     c.schema-theirs.ensures.query texts.0 texts.1 in
-    let p = err_from_is_err_and c.from_residual.result c.from_residual.ensures.1 in
+    let honest = g.D.TapeDisk.honest c.args.disk.now in
     let own : Held = record { query = c.self.inside.query; parts = c.self.inside.parts.entries } in
-    let theirs : Held = record { query = c.self.inside.query; parts = c.other.inside.parts.entries } in
-    subst (λ r. IfErr r (λ e. (origin : ℕ) (number : Option ℕ) → e ≡ Join origin (OriginDisagrees number) → (world : World)
-    → Fits world c.args.self.now → Fits world c.args.other.now → ⊥)) (sym p.1)
-    (λ origin number is world fits fits_other.
-    never_refused c.self.inside.query c.self.inside.parts.entries c.other.inside.parts.entries origin number
-    (subst (λ e. MergeTells e own theirs) (sym p.2 ∙ is) c.in_err-parts.ensures.tells).1 world
-    (subst (Fits world) (sym c.self.view_is) fits)
-    (subst (λ (q : Checked). Fits world (record { query = q; parts = c.other.inside.parts.entries })) (sym same)
-    (subst (Fits world) (sym c.other.view_is) fits_other)))
+    subst (λ (h : Held). JoinsReplicas honest h c.args.other.now c.join_all.result) c.self.view_is
+    (subst (λ (h : Held). JoinsReplicas honest own h c.join_all.result) c.other.view_is
+    (subst (λ (q : Checked). JoinsReplicas honest own (record { query = q; parts = c.other.inside.parts.entries }) c.join_all.result) same
+    c.join_all.ensures.joins))
 
-pub returns-in_err-parts-clause-order : goal.returns-in_err-parts-clause-order
-returns-in_err-parts-clause-order g c =
-    let p = err_from_is_err_and c.from_residual.result c.from_residual.ensures.1 in
-    subst (λ r. IfErr r (λ e. IsTrue (g.D.TapeDisk.honest c.args.disk.now)
-    → JoinsInOrder (meaning c.args.self.now.query) (setting_by g.H.KeyHash.hash_of (meaning c.args.self.now.query) c.args.means.now)
-    c.args.self.now.parts c.args.other.now.parts c.args.work.now (g.D.TapeDisk.writes c.args.disk.now) e
-    (g.D.TapeDisk.writes c.join_all.new.disk))) (sym p.1)
-    (subst (λ e. IsTrue (g.D.TapeDisk.honest c.args.disk.now)
-    → JoinsInOrder (meaning c.args.self.now.query) (setting_by g.H.KeyHash.hash_of (meaning c.args.self.now.query) c.args.means.now)
-    c.args.self.now.parts c.args.other.now.parts c.args.work.now (g.D.TapeDisk.writes c.args.disk.now) e
-    (g.D.TapeDisk.writes c.join_all.new.disk)) (sym p.2)
-    (subst (λ (h : Held). IsTrue (g.D.TapeDisk.honest c.args.disk.now)
-    → JoinsInOrder (meaning h.query) (setting_by g.H.KeyHash.hash_of (meaning h.query) c.args.means.now) h.parts c.args.other.now.parts
-    c.args.work.now (g.D.TapeDisk.writes c.args.disk.now) c.in_err-parts.field-0.0 (g.D.TapeDisk.writes c.join_all.new.disk))
-    c.self.view_is
-    (subst (λ (h : Held). IsTrue (g.D.TapeDisk.honest c.args.disk.now)
-    → JoinsInOrder (meaning c.self.inside.query) (setting_by g.H.KeyHash.hash_of (meaning c.self.inside.query) c.args.means.now)
-    c.self.inside.parts.entries h.parts c.args.work.now (g.D.TapeDisk.writes c.args.disk.now) c.in_err-parts.field-0.0
-    (g.D.TapeDisk.writes c.join_all.new.disk)) c.other.view_is
-    c.in_err-parts.ensures.order)))
-
-pub returns-clause-agreed : goal.returns-clause-agreed
-returns-clause-agreed g c =
-    subst (λ (h : Held). ¬ (DisagreeSomewhere h.parts c.args.other.now.parts)) c.self.view_is
-    (subst (λ (h : Held). ¬ (DisagreeSomewhere c.self.inside.parts.entries h.parts)) c.other.view_is
-    (aside_agree (g.D.TapeDisk.honest c.args.disk.now) c.self.inside.query c.self.inside.parts.entries c.other.inside.parts.entries
-    c.in_ok-parts.parts.entries c.in_ok-parts.ensures.joined))
-
-pub returns-clause-query : goal.returns-clause-query
-returns-clause-query g c =
+pub returns-clause-ran : goal.returns-clause-ran
+returns-clause-ran g c =
     let texts = c.same_query.ensures.0 c.if-not-same_query.false in
     let same : c.self.inside.query ≡ c.other.inside.query = one_text c.self.inside.query c.other.inside.query c.schema-own.ensures.query
     c.schema-theirs.ensures.query texts.0 texts.1 in
-    sym (ap (λ (h : Held). h.query) c.other.view_is) ∙ sym same ∙ ap (λ (h : Held). h.query) c.self.view_is
-
-pub returns-clause-held : goal.returns-clause-held
-returns-clause-held g c =
-    let texts = c.same_query.ensures.0 c.if-not-same_query.false in
-    let same : c.self.inside.query ≡ c.other.inside.query = one_text c.self.inside.query c.other.inside.query c.schema-own.ensures.query
-    c.schema-theirs.ensures.query texts.0 texts.1 in
-    subst (λ (h : Held). AreHeldParts h.query c.args.other.now.parts) c.self.view_is
-    (subst (λ (h : Held). AreHeldParts c.self.inside.query h.parts) c.other.view_is
-    (subst (λ (q : Checked). AreHeldParts q c.other.inside.parts.entries) (sym same) c.other.invariant))
+    let own : Held = record { query = c.self.inside.query; parts = c.self.inside.parts.entries } in
+    let hash_of = g.H.KeyHash.hash_of in
+    let tapes = g.D.TapeDisk in
+    subst (λ (h : Held). MergeRan tapes hash_of h c.args.other.now c.args.means.now c.join_all.result c.args.disk.now c.args.work.now
+    c.join_all.new.disk c.join_all.new.work) c.self.view_is
+    (subst (λ (h : Held). MergeRan tapes hash_of own h c.args.means.now c.join_all.result c.args.disk.now c.args.work.now
+    c.join_all.new.disk c.join_all.new.work) c.other.view_is
+    (subst (λ (q : Checked). MergeRan tapes hash_of own (record { query = q; parts = c.other.inside.parts.entries }) c.args.means.now
+    c.join_all.result c.args.disk.now c.args.work.now c.join_all.new.disk c.join_all.new.work) same c.join_all.ensures.ran))

@@ -1,8 +1,8 @@
 use Rattle.std.specs.Prelude.{◌≡◌, map}
 use Rattle.std.proofs.Common.{◌∙◌, sym, ap}
 use Rattle.std.proofs.lemmas.Result.{IfOk-weaker}
-use Rattle.replica_merge.proofs.Words.{known_list, Held, told, known_of, known_part}
-use Rattle.replica_merge.proofs.ToldLaws.{known_told}
+use Rattle.replica_merge.specs.Lemmas.Words.{known_list, Held, told, known_of, known_part}
+use Rattle.replica_merge.specs.Lemmas.ToldLaws.{known_told}
 use Rattle.replica_merge.proofs.replica.Replica.known.Goals as goal
 
 pub returns : goal.returns

@@ -1,26 +1,31 @@
-use Rattle.std.proofs.Common.{subst}
-use Rattle.replica_merge.proofs.Words.{Checked, Fits}
+use Rattle.std.specs.Prelude.{refl, Err}
+use Rattle.std.proofs.Common.{sym, subst}
+use Rattle.std.proofs.lemmas.Result.{err_from_is_err_and}
+use Rattle.replica_merge.specs.Lemmas.Words.{MergeRan, MergesReplicas}
 use Rattle.replica_merge.proofs.replica.Replica.merge.Goals as goal
 
 pub commit-requires : goal.commit-requires
-commit-requires g c = (
-  (g.D.TapeDisk.honest c.args.disk.now),
-  c.args.other.now.parts,
-  c.in_ok-joined.ensures.held,
-  c.in_ok-joined.ensures.joined,
-)
+commit-requires g c = (g.D.TapeDisk.honest c.args.disk.now, c.args.other.now, c.in_ok-joined.ensures.joins.joined)
 
 pub returns-clause-merges : goal.returns-clause-merges
-returns-clause-merges g c = c.commit.ensures.merges (g.D.TapeDisk.honest c.args.disk.now) c.args.other.now.parts c.in_ok-joined.ensures.held
-    c.in_ok-joined.ensures.joined
+returns-clause-merges g c = record {
+  merged = c.commit.ensures (g.D.TapeDisk.honest c.args.disk.now) c.args.other.now c.in_ok-joined.ensures.joins.joined;
+  refused = tt;
+  same = tt;
+}
 
-pub returns-clause-told : goal.returns-clause-told
-returns-clause-told g c = c.commit.ensures.told (g.D.TapeDisk.honest c.args.disk.now) c.args.other.now.parts c.in_ok-joined.ensures.held
-    c.in_ok-joined.ensures.joined
+pub returns-clause-ran : goal.returns-clause-ran
+returns-clause-ran g c = record { ran = c.in_ok-joined.ensures.ran.ran; order = tt }
 
-pub returns-clause-fits : goal.returns-clause-fits
-returns-clause-fits g c =
-    λ so world is fits fits_other.
-    c.commit.ensures.fits (g.D.TapeDisk.honest c.args.disk.now) so c.args.other.now.parts c.in_ok-joined.ensures.held
-    c.in_ok-joined.ensures.joined world is fits
-    (subst (λ (q : Checked). Fits world (record { query = q; parts = c.args.other.now.parts })) c.in_ok-joined.ensures.query fits_other)
+pub returns-in_err-joined-clause-merges : goal.returns-in_err-joined-clause-merges
+returns-in_err-joined-clause-merges g c =
+    let p = err_from_is_err_and c.from_residual.result c.from_residual.ensures.1 in
+    rw p.1 (subst (λ e. MergesReplicas (g.D.TapeDisk.honest c.args.disk.now) c.args.self.now c.args.other.now c.args.self.now (Err e))
+    (sym p.2) (record { merged = tt; refused = c.in_err-joined.ensures.joins.refused; same = refl }))
+
+pub returns-in_err-joined-clause-ran : goal.returns-in_err-joined-clause-ran
+returns-in_err-joined-clause-ran g c =
+    let p = err_from_is_err_and c.from_residual.result c.from_residual.ensures.1 in
+    rw p.1 (subst (λ e. MergeRan g.D.TapeDisk g.H.KeyHash.hash_of c.args.self.now c.args.other.now c.args.means.now (Err e)
+    c.args.disk.now c.args.work.now c.join.new.disk c.join.new.work) (sym p.2)
+    (record { ran = c.in_err-joined.ensures.ran.ran; order = c.in_err-joined.ensures.ran.order }))

@@ -1,7 +1,7 @@
 use Rattle.std.specs.Prelude.{◌≡◌, IfOk}
 use Rattle.std.proofs.Common.{subst}
 use Rattle.std.proofs.lemmas.Result.{IfOk-weaker}
-use Rattle.replica_merge.proofs.Words.{World, world_file, Held, told, Fits}
+use Rattle.replica_merge.specs.Lemmas.Words.{World, world_file, Held, told, Fits}
 use Rattle.replica_merge.proofs.SavedLaws.{saved_world}
 use Rattle.replica_merge.proofs.replica.Replica.save.Goals as goal
 

@@ -1,50 +1,52 @@
+use Rattle.std.specs.Prelude.{◌≡◌, Some, Err, Ok}
 use Rattle.std.proofs.Common.{◌∙◌, ap, sym, subst}
-use Rattle.std.proofs.lemmas.Result.{IfErr-weaker, on_ok_weaker}
+use Rattle.std.proofs.lemmas.Result.{err_from_is_err_and}
 use Rattle.std.specs.Option.{option_copied}
-use Rattle.script_machine.proofs.Words.{meaning, WorksAtLimit, TellsDisagreement, setting_at, Store, JoinsNames}
+use Rattle.script_machine.proofs.Words.{meaning, JoinsNamed, setting_at, Store, DiskFrame}
+use Rattle.hash_agg.specs.Ran.{Refused, faults_of}
 use Rattle.replica_merge.specs.Counting.{MergeIsCounted}
-use Rattle.script_commands.specs.Commands as ask
-use Rattle.replies.specs.declared.reply.Reply.TheVariants as says
+use Rattle.replica_merge.specs.MergeLaws.{joined_agree}
+use Rattle.replies.specs.RefusalLaws.{merge_reasons, reason_faults}
+use Rattle.replies.specs.Refusals.{IsApart, merge_refusal, refusal_faults, refusal_reason}
 use Rattle.script_machine.proofs.StoreLaws.{joins_names, merge_tells}
 use Rattle.script_machine.proofs.session.Session.join.Goals as goal
 
-pub returns-clause-joins : goal.returns-clause-joins
-returns-clause-joins g c =
-    let store : Store = record {
-      columns = c.self.inside.columns;
-      query = c.self.inside.query;
-      replicas = c.self.inside.replicas.entries;
-      saved = c.self.inside.saved.entries;
-      limit = c.self.inside.means.limit;
-    } in
-    subst (λ (s : Store). JoinsNames (g.D.TapeDisk.honest c.args.disk.now) s c.args.into.now c.args.from.now c.join.result) c.self.view_is
-    (joins_names (g.D.TapeDisk.honest c.args.disk.now) store c.args.into.now c.args.from.now c.in-Some.own.now c.in-Some-get.theirs.now
-    c.join.result c.self.invariant
-    (sym c.get.ensures.value ∙ ap option_copied c.in-Some.is) (sym c.get-2.ensures.value ∙ ap option_copied c.in-Some-get.is)
-    c.join.ensures.joined c.join.ensures.why c.join.ensures.agree)
-
-pub returns-clause-limit : goal.returns-clause-limit
-returns-clause-limit g c =
-    let query = meaning c.in-Some.own.now.query in
+pub returns : goal.returns
+returns g c =
+    let own = c.in-Some.own.now in
+    let theirs = c.in-Some-get.theirs.now in
+    let query = meaning own.query in
+    let honest = g.D.TapeDisk.honest c.args.disk.now in
     let writes = g.D.TapeDisk.writes c.args.disk.now in
     let written = g.D.TapeDisk.writes c.join.new.disk in
-    on_ok_weaker c.join.result
-    (λ counted honest owned. subst (λ (s : Store). WorksAtLimit s (ask.Merge c.args.into.now c.args.from.now) owned says.Merged writes
-    written) c.self.view_is (
-      c.in-Some.own.now,
-      c.in-Some-get.theirs.now,
-      sym c.get.ensures.value ∙ ap option_copied c.in-Some.is,
-      sym c.get-2.ensures.value ∙ ap option_copied c.in-Some-get.is,
-      (
-        c.join.new.work,
-        subst (λ old. MergeIsCounted query (setting_at c.self.inside.means.limit query) c.in-Some.own.now.parts
-            c.in-Some-get.theirs.now.parts old writes c.join.new.work written) c.none.ensures (counted honest),
-      ),
-    ))
-    c.join.ensures.counted
+    let one = sym c.get.ensures.value ∙ ap option_copied c.in-Some.is in
+    let two = sym c.get-2.ensures.value ∙ ap option_copied c.in-Some-get.is in
+    let joined = c.in_ok-joined.ensures.joins.joined in
+    subst (λ (s : Store). JoinsNamed g.D.TapeDisk s c.args.into.now c.args.from.now c.args.disk.now (Ok c.in_ok-joined.joined)
+    c.join.new.disk) c.self.view_is
+    (record {
+      joins = (own, theirs, one, two, joined);
+      tells = λ owned. (own, one, (theirs, two, joined_agree honest own theirs c.in_ok-joined.joined joined));
+      undamaged = tt;
+      disk = c.in_ok-joined.ensures.ran.ran.disk;
+      limit = λ right owned. (
+        own,
+        theirs,
+        one,
+        two,
+        (
+          c.join.new.work,
+          subst (λ old. MergeIsCounted own.parts theirs.parts query (setting_at c.self.inside.means.limit query) old writes c.join.new.work
+              written) c.none.ensures (c.in_ok-joined.ensures.ran.ran.counted right),
+        ),
+      );
+    })
 
-pub returns-clause-tells : goal.returns-clause-tells
-returns-clause-tells g c =
+pub returns-in_err-joined : goal.returns-in_err-joined
+returns-in_err-joined g c =
+    let own = c.in-Some.own.now in
+    let theirs = c.in-Some-get.theirs.now in
+    let error = c.in_err-joined.field-0.0 in
     let store : Store = record {
       columns = c.self.inside.columns;
       query = c.self.inside.query;
@@ -52,22 +54,22 @@ returns-clause-tells g c =
       saved = c.self.inside.saved.entries;
       limit = c.self.inside.means.limit;
     } in
-    IfErr-weaker c.join.result _ _
-    (λ refusal apart owned. subst (λ (s : Store). TellsDisagreement s (ask.Merge c.args.into.now c.args.from.now) owned
-    (says.Refused refusal)) c.self.view_is
-    (merge_tells store c.args.into.now c.args.from.now owned refusal (
-      c.in-Some.own.now,
-      sym c.get.ensures.value ∙ ap option_copied c.in-Some.is,
-      (c.in-Some-get.theirs.now, sym c.get-2.ensures.value ∙ ap option_copied c.in-Some-get.is, apart),
-    )))
-    c.join.ensures.why
-
-pub returns-clause-agreed : goal.returns-clause-agreed
-returns-clause-agreed g c =
-    on_ok_weaker c.join.result
-    (λ agreed owned. subst (λ (s : Store). TellsDisagreement s (ask.Merge c.args.into.now c.args.from.now) owned says.Merged) c.self.view_is (
-      c.in-Some.own.now,
-      sym c.get.ensures.value ∙ ap option_copied c.in-Some.is,
-      (c.in-Some-get.theirs.now, sym c.get-2.ensures.value ∙ ap option_copied c.in-Some-get.is, agreed),
-    ))
-    c.join.ensures.agreed
+    let e = err_from_is_err_and c.from_residual.result c.from_residual.ensures.1 in
+    let one = sym c.get.ensures.value ∙ ap option_copied c.in-Some.is in
+    let two = sym c.get-2.ensures.value ∙ ap option_copied c.in-Some-get.is in
+    let ran = c.in_err-joined.ensures.ran.ran in
+    let apart : IsApart own theirs e.0 = (error, e.2, c.in_err-joined.ensures.joins.refused) in
+    rw e.1
+    (subst (λ (s : Store). JoinsNamed g.D.TapeDisk s c.args.into.now c.args.from.now c.args.disk.now (Err e.0) c.join.new.disk)
+    c.self.view_is
+    (record {
+      joins = joins_names (g.D.TapeDisk.honest c.args.disk.now) store c.args.into.now c.args.from.now own theirs e.0 c.self.invariant one
+          two apart;
+      tells = λ owned. merge_tells store c.args.into.now c.args.from.now owned e.0 (own, one, (theirs, two, apart));
+      undamaged = λ right is. ran.undamaged right
+          (ap Refused (sym (merge_reasons error) ∙ ap refusal_reason (sym e.2 ∙ is)));
+      disk = subst (λ n. DiskFrame g.D.TapeDisk n c.args.disk.now c.join.new.disk)
+          (ap (λ r. faults_of (Refused r)) (sym (merge_reasons error)) ∙ reason_faults (merge_refusal error)
+          ∙ ap refusal_faults (sym e.2)) ran.disk;
+      limit = λ right owned. tt;
+    }))

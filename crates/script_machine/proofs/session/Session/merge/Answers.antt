@@ -1,26 +1,49 @@
-use Rattle.std.specs.Prelude.{◌≡◌, Some}
+use Rattle.std.specs.Prelude.{◌≡◌, Some, IsTrue}
 use Rattle.std.proofs.Common.{ap, sym, subst}
 use Rattle.std.specs.Option.{is_some}
-use Rattle.script_machine.proofs.Words.{Checked, Held, Fits, Store, Updates, replica_at}
-use Rattle.script_commands.specs.Commands as ask
-use Rattle.replies.specs.Joining.{JoinsHeld}
-use Rattle.script_machine.proofs.StoreLaws.{merge_refused, merged, one_query, one_there, store_replaced, turns_it, updated}
+use Rattle.replica_merge.specs.MergeLaws.{merged_told, merged_fits}
+use Rattle.replica_merge.specs.Results.{JoinsHeld, MergesHeld}
+use Rattle.script_machine.proofs.Words.{Held, Parts, Store, Updates, replica_at}
+use Rattle.script_machine.proofs.StoreLaws.{merge_refused, merged, one_there, store_replaced, turns_it, updated}
 use Rattle.script_machine.proofs.session.Session.merge.Goals as goal
 
-pub returns-in-Err-clause-answers : goal.returns-in-Err-clause-answers
-returns-in-Err-clause-answers g c = λ owned.
-    merge_refused c.args.self.now c.args.into.now c.args.from.now owned c.in-Err.why c.in-Err.ensures.joins c.in-Err.ensures.undamaged
+pub returns-in-Err : goal.returns-in-Err
+returns-in-Err g c = λ owned. record {
+  answers = merge_refused c.args.self.now c.args.into.now c.args.from.now owned c.in-Err.why c.in-Err.ensures.joins
+      c.in-Err.ensures.undamaged;
+  tells = c.in-Err.ensures.tells owned;
+  disk = c.in-Err.ensures.disk;
+  limit = λ right. tt;
+}
+
+pub commit-requires : goal.commit-requires
+commit-requires g c =
+    let honest = g.D.TapeDisk.honest c.args.disk.now in
+    let found = subst (λ (s : Store). (own theirs : Held) × (replica_at s c.args.into.now ≡ Some own)
+    × (replica_at s c.args.from.now ≡ Some theirs) × JoinsHeld honest own theirs c.in-Ok.joined) (sym c.self.view_is)
+    c.in-Ok.ensures.joins in (
+      honest,
+      found.1,
+      subst (λ (h : Held). JoinsHeld honest h found.1 c.in-Ok.joined)
+          (one_there found.0 c.in-Some.replica.now found.2 (sym c.in-Some.ensures.value)) found.4,
+    )
 
 pub invariant_of-self : goal.invariant_of-self
 invariant_of-self g c =
+    let honest = g.D.TapeDisk.honest c.args.disk.now in
     let there = sym c.in-Some.ensures.value in
+    let found = subst (λ (s : Store). (own theirs : Held) × (replica_at s c.args.into.now ≡ Some own)
+    × (replica_at s c.args.from.now ≡ Some theirs) × JoinsHeld honest own theirs c.in-Ok.joined) (sym c.self.view_is)
+    c.in-Ok.ensures.joins in
+    let joins = subst (λ (h : Held). JoinsHeld honest h found.1 c.in-Ok.joined) (one_there found.0 c.in-Some.replica.now found.2 there)
+    found.4 in
     store_replaced c.self.inside.means.limit c.self.inside.columns c.self.inside.query c.self.inside.saved.entries c.args.into.now
     c.in-Some.replica.now c.commit.new.self c.self.inside.replicas (c.get_mut.follows.lender c.commit.new.self)
-    c.self.invariant there c.commit.ensures.query ((c.get_mut.follows.holds c.commit.new.self).3 (ap is_some there))
+    c.self.invariant there (c.commit.ensures honest found.1 joins).asked ((c.get_mut.follows.holds c.commit.new.self).3 (ap is_some there))
 
-pub returns-clause-answers : goal.returns-clause-answers
-returns-clause-answers g c = λ owned.
-    let request = ask.Merge c.args.into.now c.args.from.now in
+pub returns : goal.returns
+returns g c = λ owned.
+    let honest = g.D.TapeDisk.honest c.args.disk.now in
     let there = sym c.in-Some.ensures.value in
     let old : Store = record {
       columns = c.self.inside.columns;
@@ -42,26 +65,18 @@ returns-clause-answers g c = λ owned.
     c.commit.new.self c.self.inside.replicas (c.get_mut.follows.lender c.commit.new.self)
     ((c.get_mut.follows.holds c.commit.new.self).3 (ap is_some there)) in
     let found = subst (λ (s : Store). (own theirs : Held) × (replica_at s c.args.into.now ≡ Some own)
-    × (replica_at s c.args.from.now ≡ Some theirs) × JoinsHeld (g.D.TapeDisk.honest c.args.disk.now) own theirs c.in-Ok.joined)
+    × (replica_at s c.args.from.now ≡ Some theirs) × JoinsHeld honest own theirs c.in-Ok.joined)
     (sym c.self.view_is) c.in-Ok.ensures.joins in
     let own : Held = c.in-Some.replica.now in
     let theirs : Held = found.1 in
-    let joins : JoinsHeld (g.D.TapeDisk.honest c.args.disk.now) own theirs c.in-Ok.joined =
-    subst (λ (h : Held). JoinsHeld (g.D.TapeDisk.honest c.args.disk.now) h theirs c.in-Ok.joined) (one_there found.0 own found.2 there)
-    found.4 in
-    let same : own.query ≡ theirs.query = one_query old c.args.into.now c.args.from.now own theirs c.self.invariant there found.3 in
-    turns_it c.self.view_is (merged old new c.args.into.now c.args.from.now owned own theirs c.commit.new.self c.self.invariant there
-    found.3
-    (c.commit.ensures.told (g.D.TapeDisk.honest c.args.disk.now) theirs.parts joins.held joins.aside)
-    (λ right world is fits fits_theirs. c.commit.ensures.fits (g.D.TapeDisk.honest c.args.disk.now) right theirs.parts joins.held
-    joins.aside world is fits (subst (λ (q : Checked). Fits world (record { query = q; parts = theirs.parts })) (sym same) fits_theirs))
-    u)
-
-pub returns-clause-limit : goal.returns-clause-limit
-returns-clause-limit g c = c.in-Ok.ensures.limit
-
-pub returns-in-Err-clause-tells : goal.returns-in-Err-clause-tells
-returns-in-Err-clause-tells g c = c.in-Err.ensures.tells
-
-pub returns-clause-tells : goal.returns-clause-tells
-returns-clause-tells g c = c.in-Ok.ensures.agreed
+    let later : Held = c.commit.new.self in
+    let joins : JoinsHeld honest own theirs c.in-Ok.joined =
+    subst (λ (h : Held). JoinsHeld honest h theirs c.in-Ok.joined) (one_there found.0 own found.2 there) found.4 in
+    let held : MergesHeld honest own theirs later = c.commit.ensures honest theirs joins in
+    record {
+      answers = turns_it c.self.view_is (merged old new c.args.into.now c.args.from.now owned own theirs later c.self.invariant there
+          found.3 (merged_told honest own theirs later held) (merged_fits honest own theirs later held) u);
+      tells = c.in-Ok.ensures.tells owned;
+      disk = c.in-Ok.ensures.disk;
+      limit = λ right. c.in-Ok.ensures.limit right owned;
+    }

@@ -12,8 +12,9 @@ pub use Rattle.hash_agg.specs.Counting.{AreCounted, setting_by}
 pub use Rattle.having_filter.specs.Meaning.{meaning}
 pub use Rattle.list_laws.specs.Each.{each_behind, each_both, each_front, each_weaker}
 pub use Rattle.origin_prefix.specs.Fitting.{FitsOrigin}
-pub use Rattle.origin_prefix.specs.Joins.{DisagreeAt, JoinIsCounted, JoinTells, Joins, PartsDisagree, either}
-pub use Rattle.origin_prefix.specs.Parts.{BatchTells, Delivers, Disagrees, IsEarly, IsPartOf, Part, aggregations_on, empty, is_nothing}
+pub use Rattle.origin_prefix.specs.Joins.{DisagreeAt, JoinIsCounted, JoinTells, Joining, Joins, PartsDisagree, either}
+pub use Rattle.origin_prefix.specs.Parts.{BatchTells, Delivers, Delivery, Disagrees, IsEarly, IsPartOf, Part, aggregations_on, empty}
+pub use Rattle.origin_prefix.specs.Parts.{is_nothing}
 pub use Rattle.origin_prefix.specs.Parts.{rows_at, tells}
 pub use Rattle.origin_prefix.specs.declared.error.JoinError.TheVariants.{OriginDisagrees, Spill}
 pub use Rattle.packed_rows.specs.Columns.{kinds}
@@ -21,8 +22,10 @@ pub use Rattle.query_checks.specs.Checks.{Checked}
 pub use Rattle.summary_codec.specs.Reading.{IsSaved, IsSummary, IsSummaryIn}
 pub use Rattle.summary_codec.specs.WorldFile.{world_file, world_file_in, world_part}
 pub use Rattle.summary_codec.specs.declared.version.Version.TheVariants.{Second}
-pub use Rattle.replica_merge.specs.Counting.{JoinsInOrder, MergeIsCounted}
+pub use Rattle.replica_merge.specs.Counting.{JoinsInOrder, MergeIsCounted, MergeRan}
+pub use Rattle.replica_merge.specs.Results.{DeliversBatch, IsLoaded, JoinsHeld, JoinsReplicas, LoadsReplica, MergesHeld, MergesReplicas}
 pub use Rattle.replica_merge.specs.Replicas.{AreHeldParts, AsideAt, DeliversAt, DisagreeSomewhere, Fits, Held, IsFirstRefused, IsHeldPart}
-pub use Rattle.replica_merge.specs.Replicas.{JoinedAside, JoinsAt, MergeTells, Merges, MergesIn, Parts, RefusesAt, batches_of, counted}
+pub use Rattle.replica_merge.specs.Replicas.{IsPlace, taken_back}
+pub use Rattle.replica_merge.specs.Replicas.{JoinedAside, JoinsAt, MergeTells, MergesParts, MergesIn, Parts, RefusesAt, batches_of, counted}
 pub use Rattle.replica_merge.specs.Replicas.{counted_part, filled, known_of, known_part, part_at, part_of, told}
 pub use Rattle.replica_merge.specs.Unions.{IsRunAlone, IsUnion, brought_by}

@@ -8,10 +8,13 @@ use Rattle.std.specs.Option.{is_some}
 use Rattle.std.specs.List.Sorted.{IsStrictlySortedBy}
 use Rattle.std.specs.BTreeMap.{BTreeMap, insert_entry, WritesThrough}
 use Rattle.std.specs.Ordering.{eq_by_cmp, nat_cmp}
-use Rattle.replica_merge.proofs.Words.{World, IsWorld, union, Query, kinds, Checked, meaning, Part, empty, tells, is_nothing, IsPartOf}
-use Rattle.replica_merge.proofs.Words.{either, Joins, PartsDisagree, DisagreeAt, JoinTells, JoinIsCounted, OriginDisagrees, FitsOrigin}
-use Rattle.replica_merge.proofs.Words.{Parts, part_at, part_of, told, Fits, IsHeldPart, AreHeldParts, AsideAt, JoinedAside, JoinsAt, Merges}
-use Rattle.replica_merge.proofs.Words.{DisagreeSomewhere, IsFirstRefused, filled, MergeIsCounted}
+use Rattle.replica_merge.specs.Lemmas.Words.{World, IsWorld, union, Query, kinds, Checked, meaning, Part, empty, tells, is_nothing}
+use Rattle.replica_merge.specs.Lemmas.Words.{IsPartOf}
+use Rattle.replica_merge.specs.Lemmas.Words.{either, Joins, PartsDisagree, DisagreeAt, JoinTells, JoinIsCounted, OriginDisagrees}
+use Rattle.replica_merge.specs.Lemmas.Words.{FitsOrigin}
+use Rattle.replica_merge.specs.Lemmas.Words.{Parts, part_at, part_of, told, Fits, IsHeldPart, AreHeldParts, AsideAt, JoinedAside, JoinsAt}
+use Rattle.replica_merge.specs.Lemmas.Words.{MergesParts}
+use Rattle.replica_merge.specs.Lemmas.Words.{DisagreeSomewhere, IsFirstRefused, filled, MergeIsCounted}
 use Rattle.grouping_model.specs.KnowledgeLaws.{same_knowledge, knows_union}
 use Rattle.aggregation_cost.specs.Space.{Setting}
 use Rattle.hash_agg.specs.declared.work.Work.{Work}
@@ -22,8 +25,8 @@ use Rattle.origin_prefix.specs.Lemmas.ByNumber.{first_alone, some_is}
 use Rattle.origin_prefix.specs.Lemmas.TellingLaws.{joined_tells}
 use Rattle.origin_prefix.specs.Lemmas.FittingLaws.{fits_joined, agrees_joined}
 use Rattle.replica_merge.specs.Lemmas.ToldLaws.{held_part}
-use Rattle.replica_merge.proofs.ToldLaws.{told_is, some_told, empty_tells, part_here}
-use Rattle.replica_merge.proofs.DeliveredLaws.{part_is, some_if_tells}
+use Rattle.replica_merge.specs.Lemmas.ToldLaws.{told_is, some_told, empty_tells, part_here}
+use Rattle.replica_merge.specs.Lemmas.DeliveredLaws.{part_is, some_if_tells}
 
 -- what stands aside of an origin while some of the other's parts are left
 abbrev pub JoinedSoFar : (honest : Bool) → Checked → Part → Option Part → Option Part → Option Part → Option Part → Type 0
@@ -191,7 +194,7 @@ not_nothing p (inr some) = and_right (nat_eq p.prefix 0) (nat_eq (length p.early
 
 -- what is told after a merge
 merges_tells : (honest : Bool) (query : Checked) (old other new : Parts) → AreHeldParts query old → AreHeldParts query other
-    → Merges honest query old other new
+    → MergesParts honest query old other new
     → (o n : ℕ) → tells (part_of new o) n ≡ (tells (part_of old o) n || tells (part_of other o) n)
 merges_tells honest query old other new held theirs merges o n = go (part_at other o) refl (merges o)
   where
@@ -207,7 +210,7 @@ merges_tells honest query old other new held theirs merges o n = go (part_at oth
         ∙ sym (ap (λ x. tells (part_of old o) n || tells (unwrap_or x empty) n) e)
 
 pub merges_told : (honest : Bool) (query : Checked) (old other new : Parts) → AreHeldParts query old → AreHeldParts query other
-    → IsStrictlySortedBy nat_cmp (numbers new) → Merges honest query old other new → told new ≡ union (told old) (told other)
+    → IsStrictlySortedBy nat_cmp (numbers new) → MergesParts honest query old other new → told new ≡ union (told old) (told other)
 merges_told honest query old other new held theirs rising merges =
     same_knowledge (told new) (union (told old) (told other)) (λ batch.
     told_is new rising batch.0 batch.1 ∙ merges_tells honest query old other new held theirs merges batch.0 batch.1
@@ -215,7 +218,7 @@ merges_told honest query old other new held theirs rising merges =
     ∙ (λ i. told_is old held.rising batch.0 batch.1 i || told_is other theirs.rising batch.0 batch.1 i)))
 
 -- it fits each world that both fitted
-pub merges_fit : (honest : Bool) → IsTrue honest → (query : Checked) (old other new : Parts) → Merges honest query old other new
+pub merges_fit : (honest : Bool) → IsTrue honest → (query : Checked) (old other new : Parts) → MergesParts honest query old other new
     → (world : World) → IsWorld (kinds query.columns) world
     → Fits world (record { query = query; parts = old }) → Fits world (record { query = query; parts = other })
     → Fits world (record { query = query; parts = new })
@@ -255,7 +258,7 @@ module _ (honest : Bool) (query : Checked) (old other joined new : Parts) (held 
         at.2,
       )
 
-  pub merges : Merges honest query old other new
+  pub merges : MergesParts honest query old other new
   merges = merges_at
 
   pub merged_held : IsStrictlySortedBy nat_cmp (numbers new) → AreHeldParts query new
@@ -305,17 +308,17 @@ never_refused query own theirs origin number d world fits fits_other =
     go (Some n) first = inr (n, first.1.0)
 
 -- one part more is joined and counted
-pub counted_more : (query : Query) (setting : Setting) (own front : Parts) (held : ℕ × Part) (old : Work) (writes : ℕ) (work : Work)
+pub counted_more : (own front : Parts) (held : ℕ × Part) (query : Query) (setting : Setting) (old : Work) (writes : ℕ) (work : Work)
     (pages : ℕ) (new : Work) (written : ℕ)
-    → MergeIsCounted query setting own front old writes work pages → JoinIsCounted query setting (part_of own held.0) held.1 work pages new
+    → MergeIsCounted own front query setting old writes work pages → JoinIsCounted (part_of own held.0) held.1 query setting work pages new
     written
-    → MergeIsCounted query setting own (front ++ (held ∷ [])) old writes new written
-counted_more query setting own [] held old writes work pages new written (same, none) joined = (
+    → MergeIsCounted own (front ++ (held ∷ [])) query setting old writes new written
+counted_more own [] held query setting old writes work pages new written (same, none) joined = (
   new,
   written,
-  subst (λ (w : Work). JoinIsCounted query setting (part_of own held.0) held.1 w writes new written) same
-      (subst (λ (n : ℕ). JoinIsCounted query setting (part_of own held.0) held.1 work n new written) none joined),
+  subst (λ (w : Work). JoinIsCounted (part_of own held.0) held.1 query setting w writes new written) same
+      (subst (λ (n : ℕ). JoinIsCounted (part_of own held.0) held.1 query setting work n new written) none joined),
   (refl, refl),
 )
-counted_more query setting own (first ∷ front) held old writes work pages new written (one, mid, counted, rest) joined =
-    (one, mid, counted, counted_more query setting own front held one mid work pages new written rest joined)
+counted_more own (first ∷ front) held query setting old writes work pages new written (one, mid, counted, rest) joined =
+    (one, mid, counted, counted_more own front held query setting one mid work pages new written rest joined)

@@ -12,10 +12,11 @@ use Rattle.std.specs.BTreeMap.{BTreeMap, insert_entry, is_at, WritesThrough}
 use Rattle.std.specs.Ordering.{eq_by_cmp, nat_cmp, is_eq, match_ordering}
 use Rattle.std.specs.declared.cmp.Ordering.TheVariants.{Less, Equal, Greater}
 use Rattle.std.proofs.lemmas.Result.{IfOk-weaker, IfErr-weaker}
-use Rattle.replica_merge.proofs.Words.{LAST_ORIGIN, Row, InLimits, reply_of, World, IsWorld, knows, learn, prefix, kinds, packings, Checked}
-use Rattle.replica_merge.proofs.Words.{meaning, Part, empty, rows_at, tells, IsEarly, IsPartOf, Delivers, Disagrees, BatchTells}
-use Rattle.replica_merge.proofs.Words.{OriginDisagrees, Spill, FitsOrigin, Parts, part_at, part_of, told, Held, Fits, IsHeldPart}
-use Rattle.replica_merge.proofs.Words.{AreHeldParts, DeliversAt, RefusesAt}
+use Rattle.replica_merge.specs.Lemmas.Words.{LAST_ORIGIN, Row, InLimits, reply_of, World, IsWorld, knows, learn, prefix, kinds, packings}
+use Rattle.replica_merge.specs.Lemmas.Words.{Checked}
+use Rattle.replica_merge.specs.Lemmas.Words.{meaning, Part, empty, rows_at, tells, IsEarly, IsPartOf, Delivers, Disagrees, BatchTells}
+use Rattle.replica_merge.specs.Lemmas.Words.{OriginDisagrees, Spill, FitsOrigin, Parts, part_at, part_of, told, Held, Fits, IsHeldPart}
+use Rattle.replica_merge.specs.Lemmas.Words.{AreHeldParts, DeliversAt, RefusesAt, Delivery, IsPlace, taken_back}
 use Rattle.grouping_model.specs.declared.delivered.Delivered.{Delivered}
 use Rattle.grouping_model.specs.declared.delivered.Delivered.TheVariants.{Folded, Early, Known}
 use Rattle.grouping_model.specs.KnowledgeLaws.{same_knowledge, knows_learn}
@@ -27,7 +28,7 @@ use Rattle.origin_prefix.specs.Lemmas.ByNumber.{at, found_holds, all_found, put_
 use Rattle.origin_prefix.specs.Lemmas.TellingLaws.{delivered_tells}
 use Rattle.origin_prefix.specs.Lemmas.FittingLaws.{fits_delivered, agrees_delivered}
 use Rattle.replica_merge.specs.Lemmas.ToldLaws.{held_part}
-use Rattle.replica_merge.proofs.ToldLaws.{told_is, same_batch, HasGap, part_gap, prefix_told, part_here}
+use Rattle.replica_merge.specs.Lemmas.ToldLaws.{empty_tells, told_is, same_batch, HasGap, part_gap, prefix_told, part_here}
 
 -- ---- maps
 
@@ -56,32 +57,31 @@ when_fine (Err x) P p e = absurd (true≢false e)
 
 pub taken_at : (r : Result Delivered RefusedBatch) (honest : Bool) (query : Checked) (old new : BTreeMap ℕ Part) (batch : Batch)
     (before after : Part)
-    → part_at old.entries batch.origin ≡ Some before → WritesThrough nat_cmp (nat_cmp batch.origin) old after new → IsPartOf query after
-    → IfOk r (Delivers honest (meaning query) before batch.number batch.rows after) → IfErr r (λ e. (e.batch ≡ batch) × (after ≡ before))
-    → IfErr r (λ e. BatchTells e.why before batch.number batch.rows)
+    → part_at old.entries batch.origin ≡ Some before → WritesThrough nat_cmp (nat_cmp batch.origin) old after new
+    → Delivery honest query before batch after r
     → IfOk r (DeliversAt honest query old.entries batch.origin batch.number batch.rows new.entries)
     × IfErr r (RefusesAt old.entries batch new.entries)
-taken_at (Ok reply) honest query old new batch before after there written is d refused tells =
+taken_at (Ok reply) honest query old new batch before after there written d =
     let updates = written.3 (ap is_some there) in (
       record {
         part = after;
         own = updates.1;
         delivers = subst (λ (p : Part). Delivers honest (meaning query) p batch.number batch.rows after reply)
-            (sym (part_here old.entries batch.origin before there)) d;
-        is_part = is;
+            (sym (part_here old.entries batch.origin before there)) d.delivers;
+        is_part = d.part;
         others = λ other apart. updates.2 other (is_other batch.origin other (λ e. apart (sym e)));
         rising = written.4;
       },
       tt,
     )
-taken_at (Err e) honest query old new batch before after there written is d refused tells =
+taken_at (Err e) honest query old new batch before after there written d =
     let here : before ≡ part_of old.entries batch.origin = sym (part_here old.entries batch.origin before there) in (
       tt,
       record {
-        back = refused.0;
-        same = written.0 ∙ ap (set_value (is_at (nat_cmp batch.origin)) old.entries) refused.1
+        back = d.refuses.back;
+        same = written.0 ∙ ap (set_value (is_at (nat_cmp batch.origin)) old.entries) d.refuses.same
             ∙ set_value_same (is_at (nat_cmp batch.origin)) old.entries before there;
-        tells = subst (λ (p : Part). BatchTells e.why p batch.number batch.rows) here tells;
+        tells = subst (λ (p : Part). BatchTells e.why p batch.number batch.rows) here d.refuses.tells;
       },
     )
 
@@ -117,6 +117,38 @@ first_refused old between failed new batch e none put r removed =
       same = removed ∙ ap (remove_entry (is_at (nat_cmp batch.origin))) (r.same ∙ put) ∙ taken_out old batch.origin empty none;
       tells = subst (λ (p : Part). BatchTells e.why p batch.number batch.rows) nothing r.tells;
     }
+
+-- the same where the place of its origin may be new
+pub placed_part : (old between : Parts) (o : ℕ) (is_new : Bool) → IsPlace old o between is_new → part_of between o ≡ part_of old o
+placed_part old between o true (none, put) = made_part old between o none put
+placed_part old between o false (there, same) = ap (λ ps. part_of ps o) same
+
+pub placed_delivers : (honest : Bool) (query : Checked) (old between new : Parts) (o n : ℕ) (rows : List (List ℕ)) (reply : Delivered)
+    (is_new : Bool) → IsPlace old o between is_new
+    → DeliversAt honest query between o n rows new reply → DeliversAt honest query old o n rows new reply
+placed_delivers honest query old between new o n rows reply true (none, put) d =
+    first_delivers honest query old between new o n rows reply none put d
+placed_delivers honest query old between new o n rows reply false (there, same) d =
+    subst (λ ps. DeliversAt honest query ps o n rows new reply) same d
+
+pub placed_refused : (old between failed new : Parts) (batch : Batch) (e : RefusedBatch) (is_new : Bool)
+    → IsPlace old batch.origin between is_new → RefusesAt between batch failed e → new ≡ taken_back batch.origin failed is_new
+    → RefusesAt old batch new e
+placed_refused old between failed new batch e true (none, put) r back = first_refused old between failed new batch e none put r back
+placed_refused old between failed new batch e false (there, same) r back = record {
+  back = r.back;
+  same = back ∙ r.same ∙ same;
+  tells = subst (λ ps. BatchTells e.why (part_of ps batch.origin) batch.number batch.rows) same r.tells;
+}
+
+pub placed_there : (old between : Parts) (o : ℕ) (is_new : Bool) → IsPlace old o between is_new → part_at between o ≡ None → ⊥
+placed_there old between o true (none, put) e = true≢false (ap is_some (sym (ap (λ ps. part_at ps o) put ∙ put_same old o empty) ∙ e))
+placed_there old between o false (there, same) e =
+    true≢false (sym there ∙ ap is_some (sym (ap (λ ps. part_at ps o) same) ∙ e))
+
+-- no part of an origin tells no number
+pub none_tells : (parts : Parts) (o n : ℕ) → part_at parts o ≡ None → tells (part_of parts o) n ≡ false
+none_tells parts o n none = ap (λ found. tells (unwrap_or found empty) n) none ∙ empty_tells n
 
 -- ---- the whole replica
 
@@ -163,7 +195,8 @@ some_if_tells p n known =
     within false b one two e = absurd (true≢false (sym e))
 
 -- a batch that is taken isn't there already with other rows
-taken_agrees : (honest : Bool) (query : Checked) (old new : Part) (n : ℕ) (rows : List (List ℕ)) (reply : Delivered) → IsPartOf query old
+pub taken_agrees : (honest : Bool) (query : Checked) (old new : Part) (n : ℕ) (rows : List (List ℕ)) (reply : Delivered) → IsPartOf query
+    old
     → Delivers honest (meaning query) old n rows new reply → ¬ (Disagrees old n rows)
 taken_agrees honest query old new n rows Known is d there = there.other (d.1 there.kept there.there)
 taken_agrees honest query old new n rows Early is d there = absurd (true≢false (sym (ap is_some there.there)
@@ -287,61 +320,3 @@ pub never_disagrees : (query : Checked) (old : Parts) (o n : ℕ) (rows : List (
     → world o n ≡ Some those → rows ≢ packings those
 never_disagrees query old o n rows d world those fits there same =
     agrees_delivered (meaning query) world o (part_of old o) n those (fits o) there (subst (Disagrees (part_of old o) n) same d)
-
--- ---- results
-
-module _ (r : Result Delivered RefusedBatch) (honest : Bool) (query : Checked) (old new : Parts) (batch : Batch)
-    (held : AreHeldParts query old) (limits : InLimits (batch.origin, batch.number))
-    (takes : IfOk r (DeliversAt honest query old batch.origin batch.number batch.rows new))
-    (refuses : IfErr r (RefusesAt old batch new)) where
-  pub still_held : AreHeldParts query new
-  still_held = go r takes refuses
-    where
-      go : (s : Result Delivered RefusedBatch) → IfOk s (DeliversAt honest query old batch.origin batch.number batch.rows new)
-          → IfErr s (RefusesAt old batch new) → AreHeldParts query new
-      go (Ok reply) d e = delivered_held honest query old new batch.origin batch.number batch.rows reply held limits d
-      go (Err e) d same = subst (AreHeldParts query) (sym same.same) held
-
-  pub reply_told : IfOk r (λ reply. reply ≡ reply_of (told old) (batch.origin, batch.number))
-  reply_told = IfOk-weaker r (DeliversAt honest query old batch.origin batch.number batch.rows new) _
-      (λ reply d. delivered_reply honest query old new batch.origin batch.number batch.rows reply held limits d) takes
-
-  pub more_told : OnOk r (told new ≡ learn (told old) (batch.origin, batch.number))
-  more_told = IfOk-weaker r (DeliversAt honest query old batch.origin batch.number batch.rows new) _
-      (λ reply d. delivered_told honest query old new batch.origin batch.number batch.rows reply held limits d) takes
-
-  pub still_fits : OnOk r (IsTrue honest → (world : World) (those : List Row) → IsWorld (kinds query.columns) world
-      → Fits world (record { query = query; parts = old }) → world batch.origin batch.number ≡ Some those
-      → batch.rows ≡ packings those → Fits world (record { query = query; parts = new }))
-  still_fits =
-      IfOk-weaker r (DeliversAt honest query old batch.origin batch.number batch.rows new) _
-      (λ reply d so world those is fits there same. delivered_fits honest so query old new batch.origin batch.number batch.rows reply held d
-      world those is fits there same) takes
-
-  pub handed_back : IfErr r (λ e. (e.batch ≡ batch)
-      × ◌≡◌ {A = Held} (record { query = query; parts = new }) (record { query = query; parts = old }))
-  handed_back = IfErr-weaker r (RefusesAt old batch new) _ (λ e d. (d.back, λ i. record { query = query; parts = d.same i })) refuses
-
-  pub why_told : IfErr r (λ e. BatchTells e.why (part_of old batch.origin) batch.number batch.rows)
-  why_told = IfErr-weaker r (RefusesAt old batch new) _ (λ e d. d.tells) refuses
-
-  pub agreed_else : IfOk r (λ _. ¬ (Disagrees (part_of old batch.origin) batch.number batch.rows))
-  agreed_else =
-      IfOk-weaker r (DeliversAt honest query old batch.origin batch.number batch.rows new) _
-      (λ reply d. taken_agrees honest query (part_of old batch.origin) d.part batch.number batch.rows reply
-      (part_is query old held batch.origin) d.delivers) takes
-
-  pub unknown_else : IfErr r (λ e. (error : SpillError) → e.why ≡ Spill error → knows (told old) (batch.origin, batch.number) ≡ false)
-  unknown_else =
-      IfErr-weaker r (RefusesAt old batch new) _
-      (λ e d error why. told_is old held.rising batch.origin batch.number
-      ∙ subst (λ w. BatchTells w (part_of old batch.origin) batch.number batch.rows) why d.tells) refuses
-
-  pub world_agrees : IfErr r (λ e. (told : Option ℕ) → e.why ≡ OriginDisagrees told → (world : World) (those : List Row)
-      → Fits world (record { query = query; parts = old }) → world batch.origin batch.number ≡ Some those
-      → batch.rows ≢ packings those)
-  world_agrees =
-      IfErr-weaker r (RefusesAt old batch new) _
-      (λ e d told why world those fits there.
-      never_disagrees query old batch.origin batch.number batch.rows
-      (subst (λ w. BatchTells w (part_of old batch.origin) batch.number batch.rows) why d.tells).1 world those fits there) refuses
