@@ -131,8 +131,7 @@ impl Replica {
         known_parts(self.alloc, &self.parts)
     }
 
-    /// Takes a batch of the query's table, with an origin from 0 to 1,023, a number from 1 to 4,294,967,295 and at most
-    /// 1,048,576 rows. A number that is known already changes nothing; one next to its origin's unbroken prefix is folded
+    /// Takes a batch of the query's table, with an origin and a number within the limits. A number that is known already changes nothing; one next to its origin's unbroken prefix is folded
     /// with the early ones that follow without a gap, by `means` and over a disk; any other is kept until then. A refused batch is
     /// handed back and changes nothing: for want of memory, since its number is kept early with other rows, or by the disk. What
     /// the aggregation of the batches that are folded took is added to `work`.

@@ -48,8 +48,8 @@ loop-origin-preserved g c =
     let rest : Parts = c.next.new.self in
     let front : Parts = c.loop-origin.invariant.front in
     let rising = subst (λ rest. IsStrictlySortedBy nat_cmp (numbers rest)) c.in-Some.ensures.steps c.loop-origin.invariant.rest in
-    let new : Part = c.in-Ok.part in
-    let joining = c.in-Ok.ensures.joining in
+    let new : Part = c.in-Ok-join.part in
+    let joining = c.in-Ok-join.ensures.joining in
     let own_is = c.part_or-own.ensures ∙ ap (unwrap_or (part_at own n)) c.empty-nothing.ensures in
     let joins : Joins (g.D.TapeDisk.honest c.args.disk.now) (meaning c.args.query.now) (part_of own n) c.in-Some.part.now new =
     subst (λ honest. Joins honest (meaning c.args.query.now) (part_of own n) c.in-Some.part.now new)
@@ -70,8 +70,8 @@ loop-origin-preserved g c =
       held = (subst (AllByRecursion (IsHeldPart c.args.query.now)) c.in-Some.ensures.steps c.loop-origin.invariant.held).1;
       rising = c.insert.ensures.ordered;
       disk = leaves_twice g.D.TapeDisk 0 c.args.disk.now c.loop-origin.disk c.join.new.disk c.loop-origin.invariant.disk
-          c.in-Ok.ensures.ran.disk;
-      most = λ low. c.in-Ok.ensures.ran.held (c.loop-origin.invariant.most low);
+          c.in-Ok-join.ensures.ran.disk;
+      most = λ low. c.in-Ok-join.ensures.ran.held (c.loop-origin.invariant.most low);
       front = front ++ ((n, c.in-Some.part.now) ∷ []);
       parts = c.loop-origin.invariant.parts ∙ ap (λ (left : Parts). front ++ left) c.in-Some.ensures.steps
           ∙ sym (append_assoc front ((n, c.in-Some.part.now) ∷ []) rest);
@@ -82,7 +82,7 @@ loop-origin-preserved g c =
           (g.D.TapeDisk.writes c.loop-origin.disk) c.join.new.work (g.D.TapeDisk.writes c.join.new.disk) =
           subst (λ (p : Part). JoinIsCounted p c.in-Some.part.now q setting c.loop-origin.counted
           (g.D.TapeDisk.writes c.loop-origin.disk) c.join.new.work (g.D.TapeDisk.writes c.join.new.disk)) own_is
-          (c.in-Ok.ensures.ran.counted (subst IsTrue (sym c.loop-origin.invariant.disk.honesty) so)) in
+          (c.in-Ok-join.ensures.ran.counted (subst IsTrue (sym c.loop-origin.invariant.disk.honesty) so)) in
           counted_more own front (n, c.in-Some.part.now) q setting c.args.work.now (g.D.TapeDisk.writes c.args.disk.now)
           c.loop-origin.counted (g.D.TapeDisk.writes c.loop-origin.disk) c.join.new.work (g.D.TapeDisk.writes c.join.new.disk)
           (c.loop-origin.invariant.counted so) counted;
@@ -140,7 +140,7 @@ pub returns-then-is_err-clause-ran : goal.returns-then-is_err-clause-ran
 returns-then-is_err-clause-ran g c = record {
   ran = refused_later g.D.TapeDisk g.H.KeyHash.hash_of c.args.query.now c.args.means.now
       (MergeIsCounted c.args.own.now.entries c.args.theirs.now.entries) (Some spill.NoMemory) c.args.disk.now c.loop-origin.disk
-      c.join.new.disk c.args.work.now c.loop-origin.invariant.disk c.in-Ok.ensures.ran.disk (λ honest same. cc);
+      c.join.new.disk c.args.work.now c.loop-origin.invariant.disk c.in-Ok-join.ensures.ran.disk (λ honest same. cc);
   order = λ so. tt;
 }
 

@@ -4,11 +4,10 @@ use Rattle.hash_agg.specs.Lemmas.RanLaws.{refused_still}
 use Rattle.hash_agg.specs.Ran.{Ran, Done, Refused}
 use Rattle.origin_prefix.specs.Errors.{batch_ended, join_reason}
 use Rattle.spill_partitions.specs.declared.error.SpillError.TheVariants as spill
-use Rattle.replica_merge.specs.Lemmas.Words.{AreCounted, BatchTells, DeliversBatch, Held, IsPartOf, Part, Parts, aggregations_on, empty}
+use Rattle.replica_merge.specs.Lemmas.Words.{AreCounted, BatchTells, DeliversBatch, Held, IsPartOf, Part, Parts, aggregations_on, empty, AreHeldParts}
 use Rattle.replica_merge.specs.Lemmas.Words.{part_at, part_of}
-use Rattle.replica_merge.specs.Lemmas.DeliveredLaws.{none_tells, part_is, placed_delivers, placed_part, placed_refused, placed_there}
+use Rattle.replica_merge.specs.Lemmas.DeliveredLaws.{delivered_held, none_tells, part_is, placed_delivers, placed_part, placed_refused, placed_there}
 use Rattle.replica_merge.specs.Lemmas.DeliveredLaws.{taken_at}
-use Rattle.replica_merge.specs.DeliveryLaws.{delivery_held}
 use Rattle.replica_merge.proofs.replica.Replica.deliver.Goals as goal
 
 pub deliver-requires-clause-part : goal.deliver-requires-clause-part
@@ -18,6 +17,36 @@ deliver-requires-clause-part g c =
     let own : c.in-Some.part.now ≡ part_of old origin = ap (λ o. unwrap_or o empty) c.in-Some.ensures.value
     ∙ placed_part old c.place_of.new.parts.entries origin c.in-Ok.is_new c.in-Ok.ensures.place in
     subst (IsPartOf c.self.inside.query) (sym own) (part_is c.self.inside.query old c.self.invariant origin)
+
+pub unreachable-requires : goal.unreachable-requires
+unreachable-requires g c =
+    placed_there c.self.inside.parts.entries c.place_of.new.parts.entries c.args.batch.origin c.in-Ok.is_new c.in-Ok.ensures.place
+    (sym c.in_default-get_mut.ensures.value)
+
+pub invariant_of-self-in-Ok-deliver : goal.invariant_of-self-in-Ok-deliver
+invariant_of-self-in-Ok-deliver g c =
+    let honest = g.D.TapeDisk.honest c.args.disk.now in
+    let old : Parts = c.self.inside.parts.entries in
+    let batch = c.args.batch in
+    let after = c.get_mut.follows.lender c.deliver.new.self in
+    let taken = taken_at (Ok c.in-Ok-deliver.delivered) honest c.self.inside.query c.place_of.new.parts after batch c.in-Some.part.now
+    c.deliver.new.self (sym c.in-Some.ensures.value) (c.get_mut.follows.holds c.deliver.new.self) c.in-Ok-deliver.ensures.delivery in
+    delivered_held honest c.self.inside.query old after.entries batch.origin batch.number batch.rows c.in-Ok-deliver.delivered
+    c.self.invariant c.requires.limits
+    (placed_delivers honest c.self.inside.query old c.place_of.new.parts.entries after.entries batch.origin batch.number batch.rows
+    c.in-Ok-deliver.delivered c.in-Ok.is_new c.in-Ok.ensures.place taken.0)
+
+pub invariant_of-self-in-Err : goal.invariant_of-self-in-Err
+invariant_of-self-in-Err g c =
+    let honest = g.D.TapeDisk.honest c.args.disk.now in
+    let old : Parts = c.self.inside.parts.entries in
+    let batch = c.args.batch in
+    let after = c.get_mut.follows.lender c.deliver.new.self in
+    let refused = taken_at (Err c.in-Err.refused) honest c.self.inside.query c.place_of.new.parts after batch c.in-Some.part.now
+    c.deliver.new.self (sym c.in-Some.ensures.value) (c.get_mut.follows.holds c.deliver.new.self) c.in-Err.ensures.delivery in
+    let back = placed_refused old c.place_of.new.parts.entries after.entries c.take_back.new.parts.entries batch c.in-Err.refused
+    c.in-Ok.is_new c.in-Ok.ensures.place refused.1 c.take_back.ensures in
+    subst (AreHeldParts c.self.inside.query) (sym back.same) c.self.invariant
 
 pub returns-in_default-clause-delivers : goal.returns-in_default-clause-delivers
 returns-in_default-clause-delivers g c =
@@ -50,8 +79,8 @@ returns-in_default-clause-ran g c =
     (AreCounted (aggregations_on (part_of c.args.self.now.parts batch.origin) batch.number batch.rows)) (Some spill.NoMemory)
     c.args.disk.now c.args.work.now refl (λ honest same. cc))
 
-pub returns-in-Ok-clause-delivers : goal.returns-in-Ok-clause-delivers
-returns-in-Ok-clause-delivers g c =
+pub returns-in-Ok-deliver-clause-delivers : goal.returns-in-Ok-deliver-clause-delivers
+returns-in-Ok-deliver-clause-delivers g c =
     let honest = g.D.TapeDisk.honest c.args.disk.now in
     let old : Parts = c.self.inside.parts.entries in
     let batch = c.args.batch in
@@ -69,8 +98,8 @@ returns-in-Ok-clause-delivers g c =
       refused = tt;
     })
 
-pub returns-in-Ok-clause-ran : goal.returns-in-Ok-clause-ran
-returns-in-Ok-clause-ran g c =
+pub returns-in-Ok-deliver-clause-ran : goal.returns-in-Ok-deliver-clause-ran
+returns-in-Ok-deliver-clause-ran g c =
     let old : Parts = c.self.inside.parts.entries in
     let batch = c.args.batch in
     let own : c.in-Some.part.now ≡ part_of old batch.origin = ap (λ o. unwrap_or o empty) c.in-Some.ensures.value
