@@ -40,7 +40,7 @@ pub feed_same : (honest : Bool) (file : Option BatchFile) (old new : Held) (resu
 feed_same honest file old new (Ok delivered) f = tt
 feed_same honest file old new (Err why) (inl unread) = unread.same
 feed_same honest file old new (Err why) (inr (refused, named, fed)) =
-    (delivery_refused honest old fed.batch new (Err refused) fed.delivers).1
+    (delivery_refused honest old new fed.batch (Err refused) fed.delivers).1
 
 -- why the file is no batch file, where what is refused is of the batch
 pub feed_why : (honest : Bool) (file : Option BatchFile) (old new : Held) (result : Result Delivered Refusal)
@@ -67,7 +67,7 @@ feed_unknown honest file old new (Err why) (inr (refused, named, fed)) = λ ther
 pub feed_agreed : (honest : Bool) (file : Option BatchFile) (old new : Held) (result : Result Delivered Refusal)
     → Feeds honest file old new result → OnOk result (FileAgrees file old)
 feed_agreed honest file old new (Ok delivered) f =
-    of_batch_file file old _ f.batch f.is_read (delivery_agreed honest old f.batch new (Ok delivered) f.delivers)
+    of_batch_file file old _ f.batch f.is_read (delivery_agreed honest old new f.batch (Ok delivered) f.delivers)
 feed_agreed honest file old new (Err why) f = tt
 
 pub feed_disagree : (honest : Bool) (file : Option BatchFile) (old new : Held) (result : Result Delivered Refusal)

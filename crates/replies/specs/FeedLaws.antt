@@ -23,9 +23,9 @@ taken_read honest old batch new delivered d = λ origin number told_rows owned r
     record {
       fed = fed_of batch read.rows;
       is_batch = read_is_fed _ origin number told_rows owned batch read;
-      reply = delivery_reply honest old batch new (Ok delivered) d;
-      learns = delivery_told honest old batch new (Ok delivered) d;
-      fits = λ so world is fits there. delivery_fits honest old batch new (Ok delivered) d so world read.rows is fits there read.packed;
+      reply = delivery_reply honest old new batch (Ok delivered) d;
+      learns = delivery_told honest old new batch (Ok delivered) d;
+      fits = λ so world is fits there. delivery_fits honest old new batch (Ok delivered) d so world read.rows is fits there read.packed;
       asked = d.asked;
     }
 
@@ -40,7 +40,7 @@ module _ (honest : Bool) (old : Held) (batch : Batch) (new : Held) (refused : Re
       → knows (told old.parts) (batch.origin, batch.number) ≡ false
   refused_unknown other =
       let spill = by_spill refused.batch.origin refused.why other in
-      delivery_unknown honest old batch new (Err refused) d spill.0 spill.1
+      delivery_unknown honest old new batch (Err refused) d spill.0 spill.1
 
   -- disagreement is told of the batch's origin and number, where the replica holds this with other rows
   pub refused_disagrees : (of : ℕ) (at : Option ℕ) → refused_batch refused ≡ OriginDisagrees of at
@@ -60,7 +60,7 @@ module _ (honest : Bool) (old : Held) (batch : Batch) (new : Held) (refused : Re
         fed = fed_of batch read.rows;
         is_batch = read_is_fed _ origin number told_rows owned batch read;
         never = λ world fits there.
-            delivery_agrees honest old batch new (Err refused) d at (other_why refused.batch.origin refused.why of at is) world read.rows
+            delivery_agrees honest old new batch (Err refused) d at (other_why refused.batch.origin refused.why of at is) world read.rows
             fits there read.packed;
       }
 

@@ -91,7 +91,7 @@ module _ {D : Type 0} (g : Ghosts D) (old new : Store) (name origin number : Lis
       tells = (
         held,
         there,
-        feed_alike held origin number told owned batch read (delivery_agreed (g.honest before) held batch later (Ok delivered) d),
+        feed_alike held origin number told owned batch read (delivery_agreed (g.honest before) held later batch (Ok delivered) d),
       );
       disk = disk;
       limit = λ right. (
@@ -123,7 +123,7 @@ module _ {D : Type 0} (g : Ghosts D) (old new : Store) (name origin number : Lis
         reasons = join_reasons refused.batch.origin refused.why
 
         stays : Updates old new name held
-        stays = subst (Updates old new name) (delivery_refused (g.honest before) held batch later (Err refused) d).1 u
+        stays = subst (Updates old new name) (delivery_refused (g.honest before) held later batch (Err refused) d).1 u
 
         request : Request
         request = ask.Feed name origin number told
