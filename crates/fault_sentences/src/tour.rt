@@ -77,6 +77,11 @@ fn is_word(token: &Token, word: &str) -> bool {
     }
 }
 
+/// How deep a condition is over two operands, and where the second of these begins.
+fn above(left: Operand, right: Operand) -> (usize, usize) {
+    (left.depth.max(right.depth).saturating_add(1), right.at)
+}
+
 impl<'q> Tour<'q> {
     /// Nothing was met yet.
     fn new(alloc: Global, schema: &'q Schema, tokens: &'q [Token]) -> Tour<'q> {
@@ -232,24 +237,33 @@ impl<'q> Tour<'q> {
         let at = self.at();
         let (depth, tip) = match condition {
             Cond::Not(operand) => self.not(operand, role)?,
-            Cond::And(left, right) => self.joined(Asker::And, left, right, role)?,
-            Cond::Or(left, right) => self.joined(Asker::Or, left, right, role)?,
-            Cond::Compare(_, left, right) => self.compared(left, right, role)?,
+            Cond::And(left, right) => {
+                let left = self.condition(left, role)?;
+                self.joins(Asker::And, left);
+                let right = self.condition(right, role)?;
+                self.asks(Asker::And, right);
+                above(left, right)
+            }
+            Cond::Or(left, right) => {
+                let left = self.condition(left, role)?;
+                self.joins(Asker::Or, left);
+                let right = self.condition(right, role)?;
+                self.asks(Asker::Or, right);
+                above(left, right)
+            }
+            Cond::Compare(_, left, right) => {
+                let left = self.condition(left, role)?;
+                let sign = self.operator();
+                let right = self.condition(right, role)?;
+                self.compares(left, right, sign);
+                above(left, right)
+            }
             Cond::Is {
                 test,
                 negated,
                 operand,
             } => self.tested(*test, *negated, operand, role)?,
-            _ => {
-                let kind = self.leaf(condition, role)?;
-                self.sound(1, at);
-                return Ok(Operand {
-                    kind,
-                    depth: 1,
-                    at,
-                    tip: at,
-                });
-            }
+            _ => return self.lone(condition, role),
         };
         self.sound(depth, tip);
         let kind = Some(ValueKind::Boolean);
@@ -258,6 +272,20 @@ impl<'q> Tour<'q> {
             depth,
             at,
             tip,
+        })
+    }
+
+    /// Goes through a column, a call or a literal.
+    #[cycle(tour)]
+    fn lone(&mut self, leaf: &'q Cond<String>, role: Role) -> Result<Operand, AllocError> {
+        let at = self.at();
+        let kind = self.leaf(leaf, role)?;
+        self.sound(1, at);
+        Ok(Operand {
+            kind,
+            depth: 1,
+            at,
+            tip: at,
         })
     }
 
@@ -298,43 +326,27 @@ impl<'q> Tour<'q> {
         Ok((operand.depth.saturating_add(1), operand.tip))
     }
 
-    /// Goes through an AND or an OR: how deep it is, and where.
-    #[cycle(tour)]
-    fn joined(
-        &mut self,
-        asker: Asker,
-        left: &'q Cond<String>,
-        right: &'q Cond<String>,
-        role: Role,
-    ) -> Result<(usize, usize), AllocError> {
-        let left = self.condition(left, role)?;
-        self.asks(asker, left);
-        self.pass_all(Symbol::Close);
-        self.pass(1);
-        let right = self.condition(right, role)?;
-        self.asks(asker, right);
-        Ok((left.depth.max(right.depth).saturating_add(1), right.at))
-    }
-
-    /// Goes through a comparison: how deep it is, and where.
-    #[cycle(tour)]
-    fn compared(
-        &mut self,
-        left: &'q Cond<String>,
-        right: &'q Cond<String>,
-        role: Role,
-    ) -> Result<(usize, usize), AllocError> {
-        let left = self.condition(left, role)?;
+    /// Passes an operator of two operands, behind the left one: where it stands.
+    fn operator(&mut self) -> usize {
         self.pass_all(Symbol::Close);
         let at = self.at();
         self.pass(1);
-        let right = self.condition(right, role)?;
+        at
+    }
+
+    /// Passes an AND or an OR, which asks its left operand for a truth value.
+    fn joins(&mut self, asker: Asker, left: Operand) {
+        self.asks(asker, left);
+        let _at = self.operator();
+    }
+
+    /// Tells operands of a comparison that are of two kinds.
+    fn compares(&mut self, left: Operand, right: Operand, at: usize) {
         if let (Some(one), Some(other)) = (left.kind, right.kind) {
             if one != other {
                 self.clashes(Clash::Compared(one, other), at);
             }
         }
-        Ok((left.depth.max(right.depth).saturating_add(1), right.at))
     }
 
     /// Goes through an IS test: how deep it is, and where. One for null asks for no truth value.
