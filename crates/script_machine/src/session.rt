@@ -267,10 +267,11 @@ impl Session {
             Ok(batch) => batch,
             Err(why) => return Ok(Reply::Refused(Refusal::from(why))),
         };
-        match replica.deliver(batch, &self.means, disk, &mut Work::none()) {
-            Ok(delivered) => Ok(Reply::Delivered(delivered)),
-            Err(refused) => Ok(Reply::Refused(Refusal::from(refused))),
-        }
+        let refused = match replica.deliver(batch, &self.means, disk, &mut Work::none()) {
+            Ok(delivered) => return Ok(Reply::Delivered(delivered)),
+            Err(refused) => refused,
+        };
+        Ok(Reply::Refused(Refusal::from(refused)))
     }
 
     /// Answers `known`.

@@ -61,8 +61,15 @@ invariant_of-self-in-Err g c =
     c.in-Some.replica.now c.in-Some.replica.now c.self.inside.replicas (c.get_mut.follows.lender c.in-Some.replica.now)
     c.self.invariant there refl ((c.get_mut.follows.holds c.in-Some.replica.now).3 (ap is_some there))
 
-pub invariant_of-self : goal.invariant_of-self
-invariant_of-self g c =
+pub invariant_of-self-in-Ok-deliver : goal.invariant_of-self-in-Ok-deliver
+invariant_of-self-in-Ok-deliver g c =
+    let there = sym c.in-Some.ensures.value in
+    store_replaced c.self.inside.means.limit c.self.inside.columns c.self.inside.query c.self.inside.saved.entries c.args.name.now
+    c.in-Some.replica.now c.deliver.new.self c.self.inside.replicas (c.get_mut.follows.lender c.deliver.new.self)
+    c.self.invariant there c.deliver.ensures.delivers.asked ((c.get_mut.follows.holds c.deliver.new.self).3 (ap is_some there))
+
+pub invariant_of-self-2 : goal.invariant_of-self-2
+invariant_of-self-2 g c =
     let there = sym c.in-Some.ensures.value in
     store_replaced c.self.inside.means.limit c.self.inside.columns c.self.inside.query c.self.inside.saved.entries c.args.name.now
     c.in-Some.replica.now c.deliver.new.self c.self.inside.replicas (c.get_mut.follows.lender c.deliver.new.self)
@@ -102,8 +109,8 @@ returns-in-Err-clause-executes g c =
     (subst (λ cs. BuildFault (kinds cs) c.args.origin.now c.args.number.now c.args.told owned c.in-Err.why)
     (c.schema-schema.ensures.columns ∙ ap (λ (q : Checked). q.columns) c.query.ensures) fault)))
 
-pub returns-in-Ok-clause-executes : goal.returns-in-Ok-clause-executes
-returns-in-Ok-clause-executes g c =
+pub returns-in-Ok-deliver-clause-executes : goal.returns-in-Ok-deliver-clause-executes
+returns-in-Ok-deliver-clause-executes g c =
     let there = sym c.in-Some.ensures.value in
     let batch = c.in_ok-batch.ensures in
     let owned = take c.args.told c.args.records.now in
@@ -135,8 +142,8 @@ returns-in-Ok-clause-executes g c =
     c.in-Ok.batch u read c.args.disk.now c.deliver.new.disk c.none.result c.deliver.new.work c.in-Ok-deliver.delivered
     c.in-Ok-deliver.ensures.delivers c.in-Ok-deliver.ensures.ran.disk c.none.ensures c.in-Ok-deliver.ensures.ran.counted)
 
-pub returns-in-Err-deliver-clause-executes : goal.returns-in-Err-deliver-clause-executes
-returns-in-Err-deliver-clause-executes g c =
+pub returns-clause-executes : goal.returns-clause-executes
+returns-clause-executes g c =
     let there = sym c.in-Some.ensures.value in
     let batch = c.in_ok-batch.ensures in
     let owned = take c.args.told c.args.records.now in
