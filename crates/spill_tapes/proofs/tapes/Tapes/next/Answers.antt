@@ -13,7 +13,8 @@ returns-in-Ok-clause-reads g c =
     let given = c.in-Ok.ensures.given in
     record {
       gives = λ honest rs had. read_gives _ t s after tape c.next.new.self rs c.next.new.bytes.items c.in-Ok.found c.self.view_is read refl
-          c.next.ensures.phase (given.gives honest rs (read_ahead _ t s tape slot.result.now rs c.self.view_is read slot.ensures.value had));
+          c.next.ensures.phase (given.gives honest rs
+          (read_ahead _ t s tape slot.result.now rs c.self.view_is read slot.ensures.value had));
       undamaged = tt;
       counted = grind (arith, common_steps);
       framed = given.framed;
