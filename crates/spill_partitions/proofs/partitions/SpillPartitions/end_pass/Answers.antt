@@ -1,8 +1,9 @@
-use Rattle.std.proofs.Common.{◌≡◌, ◌+◌, ◌<◌, ◌∷◌, ◌++◌, [], ℕ, List, false, length, get_or, drop, ap, sym, subst, ◌∙◌, arith, add-one}
-use Rattle.spill_partitions.proofs.Words.{OnTape, one_or_none, partitions_of, PartitionsState, AreSpilled, pages_of, written_pages}
+use Rattle.std.proofs.Common.{◌≡◌, ◌+◌, ◌-◌, ◌<◌, ◌≤◌, ◌∷◌, ◌++◌, [], ℕ, List, false, length, get_or, take, drop, ap, sym, subst, ◌∙◌, arith, add-one}
+use Rattle.spill_partitions.proofs.Words.{OnTape, one_or_none, partitions_of, PartitionsState, AreSpilled, pages_of, written_pages, count_of}
 use Rattle.spill_partitions.proofs.PageLaws.{IsPaged, paged_start, paged_step, paged_end, rest_apart}
 use Rattle.std.proofs.Math.Seq.{drop-cons}
-use Rattle.std.proofs.lemmas.List.{drop_all}
+use Rattle.std.proofs.lemmas.List.{drop_all, take_all}
+use Rattle.std.proofs.lemmas.Grind.{common_steps}
 use Rattle.spill_partitions.proofs.PassLaws.{IsEnding, ending_start, partitions_without, ending_apart}
 use Rattle.spill_partitions.proofs.PassLaws.{ending_beside, ending_step, ending_end, ending_owns}
 use Rattle.tape_disks.specs.DiskLaws.{leaves_none, leaves_twice}
@@ -40,4 +41,58 @@ loop-place-init g c =
           (subst (λ (s : PartitionsState). AreSpilled (g.D.TapeDisk.last c.args.disk.now) s.tapes s.level s.partitions spilled)
           (sym c.self.view_is) had.spilled_are));
       disk = leaves_none g.D.TapeDisk c.args.disk.now;
+    }
+
+rest_is : (v items : List OnTape) (place : ℕ) → v ≡ items → take (length v - place) (drop place v) ≡ drop place items
+rest_is v items place same =
+    let fits : length (drop place v) ≤ length v - place = grind (arith, common_steps) in
+    take_all (length v - place) (drop place v) fits ∙ ap (drop place) same
+
+pub leave-requires-clause-apart : goal.leave-requires-clause-apart
+leave-requires-clause-apart g c =
+    let items = c.replace-partitions.result.items in let x = c.index-partition.result.now in let place = c.loop-place.place in
+    let less : place < length items = omega (arith, c.loop-place-test.true, c.len-place-end.ensures, c.replace-partitions.result.ok.0) in
+    ending_beside (g.D.TapeDisk.last c.args.disk.now) (g.D.TapeDisk.last c.loop-place.disk) c.args.self.now c.loop-place.self
+    (drop place items) (drop (place + 1) items) x (next_of items place x less c.index-partition.ensures) c.loop-place.invariant.partitions
+
+pub loop-place-preserved : goal.loop-place-preserved
+loop-place-preserved g c =
+    let items = c.replace-partitions.result.items in let x = c.index-partition.result.now in let place = c.loop-place.place in
+    let less : place < length items = omega (arith, c.loop-place-test.true, c.len-place-end.ensures, c.replace-partitions.result.ok.0) in
+    let here : drop place items ≡ x ∷ drop (place + 1) items = next_of items place x less c.index-partition.ensures in
+    let left = c.in_default.ensures.left in
+    record {
+      partitions = ending_step (g.D.TapeDisk.last c.args.disk.now) (g.D.TapeDisk.last c.loop-place.disk)
+          (g.D.TapeDisk.last c.leave.new.disk) c.args.self.now c.loop-place.self c.leave.new.self (drop place items)
+          (drop (place + 1) items) x here c.leave.ensures.others left.kept left.left left.closed left.alive c.leave.ensures.partitions
+          c.leave.ensures.reading c.leave.ensures.level c.loop-place.invariant.partitions;
+      pages = λ spilled ahead pending had.
+          paged_step (g.D.TapeDisk.last c.loop-place.disk) (g.D.TapeDisk.last c.leave.new.disk) c.loop-place.self.tapes
+          c.leave.new.self.tapes (drop place items) (drop (place + 1) items) x (g.D.TapeDisk.writes c.args.disk.now)
+          (pages_of (partitions_of c.args.self.now.level spilled)) (written_pages c.args.self.now)
+          (g.D.TapeDisk.writes c.loop-place.disk) (g.D.TapeDisk.writes c.leave.new.disk) here c.leave.ensures.others
+          (rest_apart (drop (place + 1) items) (c.loop-place.self.reading ++ c.loop-place.self.pending) x.tape.index
+          (ending_apart (g.D.TapeDisk.last c.args.disk.now) (g.D.TapeDisk.last c.loop-place.disk) c.args.self.now c.loop-place.self
+          (drop place items) (drop (place + 1) items) x here c.loop-place.invariant.partitions))
+          left.paged (c.loop-place.invariant.pages spilled ahead pending had);
+      disk = leaves_twice g.D.TapeDisk 0 c.args.disk.now c.loop-place.disk c.leave.new.disk c.loop-place.invariant.disk
+          c.in_default.ensures.disk;
+    }
+
+pub returns-clause-ended : goal.returns-clause-ended
+returns-clause-ended g c =
+    let items = c.replace-partitions.result.items in let place = c.loop-place.place in
+    let e = c.loop-place.invariant.partitions in
+    let past : length items ≤ place = omega (arith, c.loop-place-test.false, c.len-place-end.ensures, c.replace-partitions.result.ok.0) in
+    let none : drop place items ≡ [] = drop_all place items past in
+    record {
+      left = ending_end (g.D.TapeDisk.last c.args.disk.now) (g.D.TapeDisk.last c.loop-place.disk) c.args.self.now c.loop-place.self
+          (drop place items) none e;
+      partitions = e.partitions;
+      waiting = omega (arith, e.waiting, ap count_of none);
+      paged = λ spilled ahead pending had.
+          paged_end (g.D.TapeDisk.last c.loop-place.disk) c.loop-place.self.tapes (drop place items) (g.D.TapeDisk.writes c.args.disk.now)
+          (pages_of (partitions_of c.args.self.now.level spilled)) (written_pages c.args.self.now)
+          (g.D.TapeDisk.writes c.loop-place.disk) none (c.loop-place.invariant.pages spilled ahead pending had);
+      alive = e.alive;
     }
