@@ -3,12 +3,12 @@ use Rattle.std.specs.Prelude.{◌≡◌, ◌==◌, ℕ, ◌+◌, ◌≤◌, true
 use Rattle.std.proofs.Common.{refl, sym, ◌∙◌, ap, subst, arith, inl, inr, length-append}
 use Rattle.std.proofs.lemmas.Bool.{cases_eq}
 use Rattle.std.proofs.lemmas.Bool.Decides.{nat_tests}
-use Rattle.spill_partitions.proofs.Words.{Record, is_open, KeepsOthers, TapeId, OnTape, PendingPartition, deeper, PartitionsState, once}
+use Rattle.spill_partitions.proofs.Words.{Record, TapesState, is_open, KeepsOthers, TapeId, OnTape, PendingPartition, deeper, PartitionsState, once}
 use Rattle.spill_partitions.proofs.Words.{times, count_of, full_pages, spilled_number, written_pages, AreApart, AreSpilled, AreRead}
 use Rattle.spill_partitions.proofs.Words.{HasPartitions, IsNewPartition, ArePartitions, OwnsOpen, HoldOpen, Written, Read}
 use Rattle.spill_partitions.proofs.ApartLaws.{times-append, once_here, kept_in, kept_open, written_open, read_open, fresh_in}
 use Rattle.spill_partitions.proofs.PartitionLaws.{AreNew, kept_new, new_push, new_written, new_spilled}
-use Rattle.spill_partitions.proofs.StandingLaws.{state, one_more, has_beside}
+use Rattle.spill_partitions.proofs.StandingLaws.{state, times_in, one_more, has_beside}
 use Rattle.std.proofs.lemmas.Grind.{common_steps}
 
 -- so many new partitions are open beside those that were there
@@ -143,3 +143,30 @@ none_spilled s none = ap count_of none
 
 pub none_written : (s : PartitionsState) → s.partitions ≡ [] → written_pages s ≡ 0
 none_written s none = ap (full_pages s.tapes) none
+
+-- where one more is not opened: those that were opened are apart, and what is open is one of the partitions'
+pub opening_parted : (last : ℕ → ℕ → Type 0) (before now after : PartitionsState) (deep : ℕ) (tapes closed : List OnTape) (n : ℕ) → closed
+    ≡ tapes → after.reading ≡ now.reading → after.pending ≡ now.pending → AreOpening last before now deep tapes n
+    → AreApart (closed ++ (after.reading ++ after.pending))
+opening_parted last before now after deep tapes closed n is reading pending opening index =
+    let before_all = times_in index tapes now.reading now.pending in
+    let after_all = times_in index closed after.reading after.pending in
+    let own : times index closed ≡ times index tapes = ap (times index) is in
+    let a : times index after.reading ≡ times index now.reading = ap (times index) reading in
+    let b : times index after.pending ≡ times index now.pending = ap (times index) pending in
+    omega (arith, opening.apart index, before_all, after_all, own, a, b)
+
+pub opening_holds : (last : ℕ → ℕ → Type 0) (before now after : PartitionsState) (deep : ℕ) (tapes closed : List OnTape) (n : ℕ) → closed
+    ≡ tapes → after.tapes ≡ now.tapes → after.reading ≡ now.reading → after.pending ≡ now.pending
+    → AreOpening last before now deep tapes n → OwnsOpen before → HoldOpen after.tapes (closed ++ (after.reading ++ after.pending))
+opening_holds last before now after deep tapes closed n is same reading pending opening own id opens =
+    let before_all = times_in id.index tapes now.reading now.pending in
+    let after_all = times_in id.index closed after.reading after.pending in
+    let own_times : times id.index closed ≡ times id.index tapes = ap (times id.index) is in
+    let a : times id.index after.reading ≡ times id.index now.reading = ap (times id.index) reading in
+    let b : times id.index after.pending ≡ times id.index now.pending = ap (times id.index) pending in
+    let was_open : is_open now.tapes id ≡ true = ap (λ (t : TapesState). is_open t id) (sym same) ∙ opens in
+    omega (arith, opening.owns own id was_open, before_all, after_all, own_times, a, b)
+
+pub parted_first : (tapes others : List OnTape) → AreApart (tapes ++ others) → AreApart tapes
+parted_first tapes others apart index = omega (arith, apart index, times-append index tapes others)

@@ -6,6 +6,9 @@ use Rattle.std.proofs.lemmas.List.{drop_all, take_all}
 use Rattle.std.proofs.lemmas.Grind.{common_steps}
 use Rattle.spill_partitions.proofs.PassLaws.{IsEnding, ending_start, partitions_without, ending_apart}
 use Rattle.spill_partitions.proofs.PassLaws.{ending_beside, ending_step, ending_end, ending_owns}
+use Rattle.spill_partitions.proofs.PassLaws.{ending_open, ending_rest, ending_closed, ending_parted}
+use Rattle.spill_partitions.proofs.CloseLaws.{partitions_closed}
+use Rattle.spill_partitions.proofs.Words.{AreApart, AreOpen, Closes, KeepsOthers, fields_of}
 use Rattle.tape_disks.specs.DiskLaws.{leaves_none, leaves_twice}
 use Rattle.spill_partitions.proofs.StandingLaws.{state}
 use Rattle.spill_partitions.proofs.partitions.SpillPartitions.end_pass.Goals as goal
@@ -96,3 +99,59 @@ returns-clause-ended g c =
           (g.D.TapeDisk.writes c.loop-place.disk) none (c.loop-place.invariant.pages spilled ahead pending had);
       alive = e.alive;
     }
+
+-- one is not left: it and those behind it are closed
+pub close_all-requires-clause-open : goal.close_all-requires-clause-open
+close_all-requires-clause-open g c =
+    let items = c.replace-partitions.result.items in let x = c.index-partition.result.now in let place = c.loop-place.place in
+    let less : place < length items = omega (arith, c.loop-place-test.true, c.len-place-end.ensures, c.replace-partitions.result.ok.0) in
+    let here : drop place items ≡ x ∷ drop (place + 1) items = next_of items place x less c.index-partition.ensures in
+    let is : c.deref.result.now ≡ items = cc in
+    let inside = c.self-in-loop-place.inside in
+    subst (AreOpen inside.tapes) (sym (rest_is c.deref.result.now items place is))
+    (subst (λ (s : PartitionsState). AreOpen s.tapes (drop place items)) (sym c.self-in-loop-place.view_is)
+    (ending_open (g.D.TapeDisk.last c.args.disk.now) (g.D.TapeDisk.last c.loop-place.disk) (g.D.TapeDisk.last c.leave.new.disk)
+    c.args.self.now c.loop-place.self c.leave.new.self.tapes (drop place items) (drop (place + 1) items) x here c.leave.ensures.others
+    c.in-Err.ensures.refused.0 c.loop-place.invariant.partitions))
+
+pub close_all-requires-clause-apart : goal.close_all-requires-clause-apart
+close_all-requires-clause-apart g c =
+    let items = c.replace-partitions.result.items in let place = c.loop-place.place in
+    let is : c.deref.result.now ≡ items = cc in
+    subst AreApart (sym (rest_is c.deref.result.now items place is))
+    (ending_rest (g.D.TapeDisk.last c.args.disk.now) (g.D.TapeDisk.last c.loop-place.disk) c.args.self.now c.loop-place.self
+    (drop place items) c.loop-place.invariant.partitions)
+
+pub invariant_of-self-in-Err : goal.invariant_of-self-in-Err
+invariant_of-self-in-Err g c =
+    let items = c.replace-partitions.result.items in let place = c.loop-place.place in
+    let is : c.deref.result.now ≡ items = cc in
+    let inside = c.self-in-loop-place.inside in
+    let view_is = c.self-in-loop-place.view_is in
+    let rest : take (length c.deref.result.now - place) (drop place c.deref.result.now) ≡ drop place items =
+    rest_is c.deref.result.now items place is in
+    partitions_closed inside.tapes c.close_all.new.tapes inside.level inside.partitions.items (one_or_none inside.reading)
+    inside.pending.items (drop place items) (subst (Closes inside.tapes c.close_all.new.tapes) rest c.close_all.ensures)
+    (ap (λ (s : PartitionsState). s.partitions) view_is ∙ c.leave.ensures.partitions)
+    (ending_parted (g.D.TapeDisk.last c.args.disk.now) (g.D.TapeDisk.last c.loop-place.disk) c.args.self.now c.loop-place.self
+    (fields_of inside) (drop place items) (ap (λ (s : PartitionsState). s.reading) view_is ∙ c.leave.ensures.reading)
+    (ap (λ (s : PartitionsState). s.pending) view_is ∙ c.in-Err.ensures.refused.1) c.loop-place.invariant.partitions)
+    c.self-in-loop-place.invariant
+
+pub returns-in-Err-clause-owns : goal.returns-in-Err-clause-owns
+returns-in-Err-clause-owns g c =
+    let items = c.replace-partitions.result.items in let x = c.index-partition.result.now in let place = c.loop-place.place in
+    let less : place < length items = omega (arith, c.loop-place-test.true, c.len-place-end.ensures, c.replace-partitions.result.ok.0) in
+    let here : drop place items ≡ x ∷ drop (place + 1) items = next_of items place x less c.index-partition.ensures in
+    let is : c.deref.result.now ≡ items = cc in
+    let inside = c.self-in-loop-place.inside in
+    let view_is = c.self-in-loop-place.view_is in
+    ending_closed (g.D.TapeDisk.last c.args.disk.now) (g.D.TapeDisk.last c.loop-place.disk) (g.D.TapeDisk.last c.leave.new.disk)
+    c.args.self.now c.loop-place.self (state c.close_all.new.tapes inside.level inside.partitions.items (one_or_none inside.reading)
+    inside.pending.items) inside.tapes (drop place items) (drop (place + 1) items) x here
+    (subst (λ (s : PartitionsState). KeepsOthers (g.D.TapeDisk.last c.loop-place.disk) (g.D.TapeDisk.last c.leave.new.disk)
+    c.loop-place.self.tapes s.tapes x.tape) (sym view_is) c.leave.ensures.others)
+    (subst (Closes inside.tapes c.close_all.new.tapes) (rest_is c.deref.result.now items place is) c.close_all.ensures)
+    (ap (λ (s : PartitionsState). s.partitions) view_is ∙ c.leave.ensures.partitions)
+    (ap (λ (s : PartitionsState). s.reading) view_is ∙ c.leave.ensures.reading)
+    (ap (λ (s : PartitionsState). s.pending) view_is ∙ c.in-Err.ensures.refused.1) c.loop-place.invariant.partitions
