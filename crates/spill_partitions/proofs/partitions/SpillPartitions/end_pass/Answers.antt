@@ -5,7 +5,7 @@ use Rattle.std.proofs.Math.Seq.{drop-cons}
 use Rattle.std.proofs.lemmas.List.{drop_all, take_all}
 use Rattle.std.proofs.lemmas.Grind.{common_steps}
 use Rattle.spill_partitions.proofs.PassLaws.{IsEnding, ending_start, partitions_without, ending_apart}
-use Rattle.spill_partitions.proofs.PassLaws.{ending_beside, ending_step, ending_end, ending_owns}
+use Rattle.spill_partitions.proofs.PassLaws.{ending_beside, ending_step, ending_end}
 use Rattle.spill_partitions.proofs.PassLaws.{ending_open, ending_rest, ending_closed, ending_parted}
 use Rattle.spill_partitions.proofs.CloseLaws.{partitions_closed}
 use Rattle.spill_partitions.proofs.Words.{AreApart, AreOpen, Closes, KeepsOthers, fields_of}
