@@ -3,9 +3,9 @@ use Rattle.std.specs.Prelude.{◌≡◌, ◌==◌, ℕ, ◌+◌, ◌≤◌, true
 use Rattle.std.proofs.Common.{refl, sym, ◌∙◌, ap, subst, arith, inl, inr, length-append}
 use Rattle.std.proofs.lemmas.Bool.{cases_eq}
 use Rattle.std.proofs.lemmas.Bool.Decides.{nat_tests}
-use Rattle.spill_partitions.proofs.Words.{Record, TapesState, is_open, KeepsOthers, TapeId, OnTape, PendingPartition, deeper, PartitionsState, once}
+use Rattle.spill_partitions.proofs.Words.{Record, is_open, KeepsOthers, TapeId, OnTape, PendingPartition, deeper, PartitionsState, once}
 use Rattle.spill_partitions.proofs.Words.{times, count_of, full_pages, spilled_number, written_pages, AreApart, AreSpilled, AreRead}
-use Rattle.spill_partitions.proofs.Words.{HasPartitions, IsNewPartition, ArePartitions, OwnsOpen, HoldOpen, Written, Read}
+use Rattle.spill_partitions.proofs.Words.{HasPartitions, IsNewPartition, ArePartitions, OwnsOpen, HoldOpen, Written, Read, TapesState}
 use Rattle.spill_partitions.proofs.ApartLaws.{times-append, once_here, kept_in, kept_open, written_open, read_open, fresh_in}
 use Rattle.spill_partitions.proofs.PartitionLaws.{AreNew, kept_new, new_push, new_written, new_spilled}
 use Rattle.spill_partitions.proofs.StandingLaws.{state, times_in, one_more, has_beside}

@@ -1,5 +1,6 @@
-use Rattle.std.proofs.Common.{◌≡◌, ◌+◌, ◌-◌, ◌<◌, ◌≤◌, ◌∷◌, ◌++◌, [], ℕ, List, false, length, get_or, take, drop, ap, sym, subst, ◌∙◌, arith, add-one}
-use Rattle.spill_partitions.proofs.Words.{OnTape, one_or_none, partitions_of, PartitionsState, AreSpilled, pages_of, written_pages, count_of}
+use Rattle.std.proofs.Common.{◌≡◌, ◌+◌, ◌-◌, ◌<◌, ◌≤◌, ◌∷◌, ◌++◌, [], ℕ, List, false, length, get_or}
+use Rattle.std.proofs.Common.{take, drop, ap, sym, subst, ◌∙◌, arith, add-one}
+use Rattle.spill_partitions.proofs.Words.{OnTape, one_or_none, partitions_of, PartitionsState, AreSpilled, pages_of, written_pages}
 use Rattle.spill_partitions.proofs.PageLaws.{IsPaged, paged_start, paged_step, paged_end, rest_apart}
 use Rattle.std.proofs.Math.Seq.{drop-cons}
 use Rattle.std.proofs.lemmas.List.{drop_all, take_all}
@@ -8,7 +9,7 @@ use Rattle.spill_partitions.proofs.PassLaws.{IsEnding, ending_start, partitions_
 use Rattle.spill_partitions.proofs.PassLaws.{ending_beside, ending_step, ending_end}
 use Rattle.spill_partitions.proofs.PassLaws.{ending_open, ending_rest, ending_closed, ending_parted}
 use Rattle.spill_partitions.proofs.CloseLaws.{partitions_closed}
-use Rattle.spill_partitions.proofs.Words.{AreApart, AreOpen, Closes, KeepsOthers, fields_of}
+use Rattle.spill_partitions.proofs.Words.{AreApart, AreOpen, Closes, KeepsOthers, count_of, fields_of}
 use Rattle.tape_disks.specs.DiskLaws.{leaves_none, leaves_twice}
 use Rattle.spill_partitions.proofs.StandingLaws.{state}
 use Rattle.spill_partitions.proofs.partitions.SpillPartitions.end_pass.Goals as goal
