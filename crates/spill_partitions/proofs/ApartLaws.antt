@@ -106,3 +106,9 @@ pub written-set : (t : TapesState) (tapes : List OnTape) (i : ℕ) (x y : OnTape
 written-set t [] i x y is same had = had
 written-set t (tape ∷ tapes) zero x y is same had = (ap (is_written t) (same ∙ ap (λ (z : OnTape). z.tape) is) ∙ had.0, had.1)
 written-set t (tape ∷ tapes) (suc i) x y is same had = (had.0, written-set t tapes i x y is same had.1)
+
+-- an open one that isn't the one that a call changed was open
+pub kept_open : (last last' : ℕ → ℕ → Type 0) (t t' : TapesState) (x id : TapeId) → KeepsOthers last last' t t' x → id.index ≢ x.index
+    → is_open t' id ≡ true → is_open t id ≡ true
+kept_open last last' t t' x id keeps differ opens =
+    sym (ap (λ (phase : Phase). not (is_in Closed phase)) (keeps.phases id (λ same. differ (ap (λ (y : TapeId). y.index) same)))) ∙ opens

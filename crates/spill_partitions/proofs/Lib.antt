@@ -4,6 +4,7 @@ pub mod ApartLaws
 pub mod PartitionLaws
 pub mod EndLaws
 pub mod StandingLaws
+pub mod CloseLaws
 pub mod OpenLaws
 pub mod PassLaws
 pub mod CountLaws

@@ -1,13 +1,14 @@
 -- The partitions of a pass while they are opened.
 use Rattle.std.specs.Prelude.{◌≡◌, ◌==◌, ℕ, ◌+◌, ◌≤◌, true, false, List, [], ◌∷◌, ◌++◌, length}
-use Rattle.std.proofs.Common.{sym, ◌∙◌, ap, subst, arith, length-append}
+use Rattle.std.proofs.Common.{refl, sym, ◌∙◌, ap, subst, arith, inl, inr, length-append}
+use Rattle.std.proofs.lemmas.Bool.{cases_eq}
 use Rattle.std.proofs.lemmas.Bool.Decides.{nat_tests}
 use Rattle.spill_partitions.proofs.Words.{Record, is_open, KeepsOthers, TapeId, OnTape, PendingPartition, deeper, PartitionsState, once}
 use Rattle.spill_partitions.proofs.Words.{times, count_of, full_pages, spilled_number, written_pages, AreApart, AreSpilled, AreRead}
-use Rattle.spill_partitions.proofs.Words.{HasPartitions, IsNewPartition, ArePartitions, Written, Read}
-use Rattle.spill_partitions.proofs.ApartLaws.{times-append, kept_in, written_open, read_open, fresh_in}
+use Rattle.spill_partitions.proofs.Words.{HasPartitions, IsNewPartition, ArePartitions, OwnsOpen, HoldOpen, Written, Read, TapesState}
+use Rattle.spill_partitions.proofs.ApartLaws.{times-append, once_here, kept_in, kept_open, written_open, read_open, fresh_in}
 use Rattle.spill_partitions.proofs.PartitionLaws.{AreNew, kept_new, new_push, new_written, new_spilled}
-use Rattle.spill_partitions.proofs.StandingLaws.{state, one_more, has_beside}
+use Rattle.spill_partitions.proofs.StandingLaws.{state, times_in, one_more, has_beside}
 use Rattle.std.proofs.lemmas.Grind.{common_steps}
 
 -- so many new partitions are open beside those that were there
@@ -23,10 +24,29 @@ pub record AreOpening (last : ℕ → ℕ → Type 0) (before now : PartitionsSt
   pub level : now.level ≡ before.level
   pub has : (spilled ahead : List Record) (left : List PendingPartition) → HasPartitions last before spilled ahead left
       → HasPartitions last now spilled ahead left
+  pub owns : OwnsOpen before → HoldOpen now.tapes (tapes ++ (now.reading ++ now.pending))
 
 pub opening_start : (last : ℕ → ℕ → Type 0) (s : PartitionsState) (deep : ℕ) (tapes : List OnTape) → s.tapes.is_dead ≡ false → s.partitions
     ≡ [] → tapes ≡ [] → ArePartitions s → AreOpening last s s deep tapes 0
-opening_start last s deep tapes alive partitions none are = grind (arith, nat_tests, common_steps)
+opening_start last s deep tapes alive partitions none are = record {
+  long = ap length none;
+  new = subst (AreNew last s.tapes deep) (sym none) tt;
+  apart = λ index. omega (
+    arith,
+    are.apart index,
+    times-append index tapes (s.reading ++ s.pending),
+    times-append index s.partitions (s.reading ++ s.pending),
+    ap (times index) none,
+  );
+  read = are.read alive;
+  alive = alive;
+  partitions = partitions;
+  reading = refl;
+  pending = refl;
+  level = refl;
+  has = λ spilled ahead left had. had;
+  owns = λ own. subst (λ xs. HoldOpen s.tapes (xs ++ (s.reading ++ s.pending))) (partitions ∙ sym none) (own alive);
+}
 
 has_moved : (last : ℕ → ℕ → Type 0) (s s' : PartitionsState) (id : TapeId) → KeepsOthers last last s.tapes s'.tapes id → s.partitions ≡ []
     → times id.index (s.reading ++ s.pending) ≡ 0 → s'.partitions ≡ s.partitions → s'.reading ≡ s.reading → s'.pending ≡ s.pending
@@ -81,6 +101,24 @@ opening_step last before now after deep tapes tapes' n x opening more new fresh 
       level = level ∙ opening.level;
       has = λ spilled ahead left had. has_moved last now after x.tape keeps opening.partitions none_read partitions reading pending level
           spilled ahead left (opening.has spilled ahead left had);
+      owns = λ own id opens.
+          let after_all = times-append id.index tapes' (after.reading ++ after.pending) in
+          let before_all = times-append id.index tapes (now.reading ++ now.pending) in
+          let others : times id.index (after.reading ++ after.pending) ≡ times id.index (now.reading ++ now.pending) =
+          ap (times id.index) same in
+          let pushed : times id.index tapes' ≡ times id.index tapes + times id.index (x ∷ []) = ap (times id.index) more
+          ∙ times-append id.index tapes (x ∷ []) in
+          elim (cases_eq id.index x.tape.index) [
+            | inl here ↦ omega (arith, after_all, pushed, once_here id.index x.tape here)
+            | inr differ ↦ omega (
+              arith,
+              after_all,
+              before_all,
+              others,
+              pushed,
+              opening.owns own id (kept_open last last now.tapes after.tapes x.tape id keeps differ opens),
+            )
+          ];
     }
 
 pub opening_has : (last : ℕ → ℕ → Type 0) (s : PartitionsState) (tapes : List OnTape) (spilled ahead : List Record)
@@ -105,3 +143,30 @@ none_spilled s none = ap count_of none
 
 pub none_written : (s : PartitionsState) → s.partitions ≡ [] → written_pages s ≡ 0
 none_written s none = ap (full_pages s.tapes) none
+
+-- where one more is not opened: those that were opened are apart, and what is open is one of the partitions'
+pub opening_parted : (last : ℕ → ℕ → Type 0) (before now after : PartitionsState) (deep : ℕ) (tapes closed : List OnTape) (n : ℕ) → closed
+    ≡ tapes → after.reading ≡ now.reading → after.pending ≡ now.pending → AreOpening last before now deep tapes n
+    → AreApart (closed ++ (after.reading ++ after.pending))
+opening_parted last before now after deep tapes closed n is reading pending opening index =
+    let before_all = times_in index tapes now.reading now.pending in
+    let after_all = times_in index closed after.reading after.pending in
+    let own : times index closed ≡ times index tapes = ap (times index) is in
+    let a : times index after.reading ≡ times index now.reading = ap (times index) reading in
+    let b : times index after.pending ≡ times index now.pending = ap (times index) pending in
+    omega (arith, opening.apart index, before_all, after_all, own, a, b)
+
+pub opening_holds : (last : ℕ → ℕ → Type 0) (before now after : PartitionsState) (deep : ℕ) (tapes closed : List OnTape) (n : ℕ) → closed
+    ≡ tapes → after.tapes ≡ now.tapes → after.reading ≡ now.reading → after.pending ≡ now.pending
+    → AreOpening last before now deep tapes n → OwnsOpen before → HoldOpen after.tapes (closed ++ (after.reading ++ after.pending))
+opening_holds last before now after deep tapes closed n is same reading pending opening own id opens =
+    let before_all = times_in id.index tapes now.reading now.pending in
+    let after_all = times_in id.index closed after.reading after.pending in
+    let own_times : times id.index closed ≡ times id.index tapes = ap (times id.index) is in
+    let a : times id.index after.reading ≡ times id.index now.reading = ap (times id.index) reading in
+    let b : times id.index after.pending ≡ times id.index now.pending = ap (times id.index) pending in
+    let was_open : is_open now.tapes id ≡ true = ap (λ (t : TapesState). is_open t id) (sym same) ∙ opens in
+    omega (arith, opening.owns own id was_open, before_all, after_all, own_times, a, b)
+
+pub parted_first : (tapes others : List OnTape) → AreApart (tapes ++ others) → AreApart tapes
+parted_first tapes others apart index = omega (arith, apart index, times-append index tapes others)

@@ -11,5 +11,6 @@ pub use Rattle.spill_partitions.specs.Standing.{AreAhead, AreApart, ArePartition
 pub use Rattle.spill_partitions.specs.Standing.{AreWritten, BeginsLast, HasPartitions}
 pub use Rattle.spill_partitions.specs.Standing.{HaveRecords, IsNewPartition, PartitionsState, count_of, full_pages}
 pub use Rattle.spill_partitions.specs.Standing.{partition_pages, once, pages_of}
+pub use Rattle.spill_partitions.specs.Standing.{AreOpen, Closes, HoldOpen, KeepsOwn, OwnsOpen}
 pub use Rattle.spill_partitions.specs.Standing.{spilled_number, those_with_records, times, written_pages}
 pub use Rattle.spill_partitions.specs.declared.partitions.OnTape.{OnTape}

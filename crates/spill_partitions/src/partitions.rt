@@ -1,21 +1,20 @@
 //! Partitions on tapes.
 
-ghost use Rattle.std.specs.Prelude.{◌≡◌, ◌≢◌, ◌↔◌, ◌+◌, ◌/◌, ◌<◌, ◌≤◌, ℕ, ◌++◌, ◌∷◌, List, [], true, false, length, IsTrue, IfOk, IfErr};
-ghost use Rattle.std.specs.Prelude.{OnOk, OnErr, IfSome, IfNone};
+ghost use Rattle.std.specs.Prelude.{◌≡◌, ◌≢◌, ◌↔◌, ◌+◌, ◌<◌, ◌≤◌, ◌++◌, [], true, false, length, IsTrue, IfOk, IfErr, OnOk, OnErr};
 ghost use Rattle.tape_disks.specs.Calls.{failed};
 ghost use Rattle.tape_disks.specs.Disk.{DiskFrame, OnlyReads};
-ghost use Rattle.spill_tapes.specs.Records.{Record};
-ghost use Rattle.spill_tapes.specs.Tape.{Gives};
-ghost use Rattle.spill_tapes.specs.Tapes.{IsTape, KeepsOthers, is_open, is_written, written_len};
-ghost use Rattle.spill_partitions.specs.Partitions.{PendingPartition, partitions_of, left_by, partition_of, deeper};
-ghost use Rattle.spill_partitions.specs.Standing.{HasPartitions, BeginsLast, IsNewPartition, Spilled, times, those_with_records, KeepsRest};
-ghost use Rattle.spill_partitions.specs.Standing.{spilled_number, ahead_number, waiting_number, partition_pages, pages_of, written_pages};
+ghost use Rattle.spill_tapes.specs.Tapes.{KeepsOthers, is_open, is_written};
+ghost use Rattle.spill_partitions.specs.Partitions.{partition_of, deeper};
+ghost use Rattle.spill_partitions.specs.Standing.{IsNew, IsSpilledNumber, Spilled, Opens, AreOpened, EndsPass};
+ghost use Rattle.spill_partitions.specs.Standing.{Leaves, BeginsPass, ReadsRecord};
+ghost use Rattle.spill_partitions.specs.Standing.{KeepsRest, KeepsOwn, AreApart, AreOpen, Closes, times};
+ghost use Rattle.spill_partitions.specs.Standing.{spilled_number, ahead_number, waiting_number, written_pages};
 ghost use Rattle.spill_partitions.specs.Errors.{spill_error, spill_faults};
 ghost use Rattle.spill_partitions.specs.declared.error.SpillError.TheVariants.{NoMemory, TapeDamaged};
 ghost use Rattle.spill_tapes.specs.declared.error.TapeError.TheVariants.{TapesDead};
 
 use crate::error::SpillError;
-use spill_tapes::limits::{MAX_RECORD_LEN, PAGE};
+use spill_tapes::limits::MAX_RECORD_LEN;
 use spill_tapes::{TapeDisk, TapeError, TapeId, Tapes};
 use std::alloc::Global;
 use std::marker::Model;
@@ -97,15 +96,24 @@ fn refusal(error: TapeError) -> SpillError
     }
 }
 
+/// Closes the tapes of partitions.
+#[tactic(auto, using(crate::proofs::CloseLaws::closing))]
+fn close_all<D: TapeDisk>(tapes: &mut Tapes, disk: &D, partitions: &[OnTape])
+    requires open { AreOpen tapes.old partitions.now }
+    requires apart { AreApart partitions.now }
+    ensures { Closes tapes.old tapes.new partitions.now }
+{
+    let Some((first, rest)) = partitions.split_first() else {
+        return;
+    };
+    tapes.close(disk, first.tape);
+    close_all(tapes, disk, rest);
+}
+
 impl SpillPartitions {
     /// No partition, at the first level.
     pub fn new<D: TapeDisk>(alloc: Global, _disk: &D) -> SpillPartitions
-        ensures alive { result.tapes.is_dead ≡ false }
-        ensures none { HasPartitions (D.last _disk.now) result [] [] [] }
-        ensures partitions { result.partitions ≡ [] }
-        ensures reading { result.reading ≡ [] }
-        ensures pending { result.pending ≡ [] }
-        ensures level { result.level ≡ 0 }
+        ensures { IsNew (D.last _disk.now) result }
     {
         SpillPartitions {
             alloc,
@@ -126,9 +134,7 @@ impl SpillPartitions {
 
     /// How many records the pass has spilled.
     pub fn spilled<D: TapeDisk>(&self, _disk: &D) -> u128
-        ensures number { result ≡ spilled_number self.now }
-        ensures count { (spilled ahead : List Record) (pending : List PendingPartition)
-            → HasPartitions (D.last _disk.now) self.now spilled ahead pending → result ≡ length spilled }
+        ensures { IsSpilledNumber (D.last _disk.now) self.now result }
     {
         let mut number = 0;
         for partition in &self.partitions {
@@ -148,9 +154,10 @@ impl SpillPartitions {
         requires alive { self.old.tapes.is_dead ≡ false }
         requires tag { tag < 2 }
         requires len { length bytes.now ≤ MAX_RECORD_LEN }
-        ensures spilled { OnOk result (Spilled D.TapeDisk (record { hash = hash; tag = tag; bytes = bytes.now }) self.old disk.old self.new
-            disk.new) }
+        ensures spilled { OnOk result (Spilled D.TapeDisk (record { hash = hash; tag = tag; bytes = bytes.now })
+            self.old disk.old self.new disk.new) }
         ensures rest { KeepsRest self.old self.new }
+        ensures owns { KeepsOwn self.old self.new }
         ensures undamaged { IfErr result (λ error. error ≢ TapeDamaged) }
         ensures disk { DiskFrame D.TapeDisk (failed spill_faults result) disk.old disk.new }
     {
@@ -172,17 +179,13 @@ impl SpillPartitions {
         }
     }
 
-    /// Opens the partitions of the pass, if they are not open.
+    /// Opens the partitions of the pass, if they are not open: all of them, or none.
     fn open_partitions<D: TapeDisk>(&mut self, disk: &D) -> Result<(), SpillError>
         requires alive { self.old.tapes.is_dead ≡ false }
-        ensures opened { OnOk result ((spilled ahead : List Record) (pending : List PendingPartition)
-            → HasPartitions (D.last disk.now) self.old spilled ahead pending
-            → HasPartitions (D.last disk.now) self.new spilled ahead pending) }
-        ensures sixteen { OnOk result (length self.new.partitions ≡ PARTITIONS) }
-        ensures counted { OnOk result (spilled_number self.new ≡ spilled_number self.old) }
-        ensures paged { OnOk result (written_pages self.new ≡ written_pages self.old) }
+        ensures opened { OnOk result (AreOpened (D.last disk.now) self.old self.new) }
         ensures alive { self.new.tapes.is_dead ≡ false }
         ensures rest { KeepsRest self.old self.new }
+        ensures owns { KeepsOwn self.old self.new }
         ensures refused { IfErr result (λ error. error ≡ NoMemory) }
     {
         if !self.partitions.is_empty() {
@@ -191,7 +194,10 @@ impl SpillPartitions {
         let level = deeper(self.level);
         let mut partitions = Vec::with_capacity(self.alloc, PARTITIONS)?;
         for _place in 0..PARTITIONS {
-            let partition = self.open_partition(disk, level)?;
+            let Ok(partition) = self.open_partition(disk, level) else {
+                close_all(&mut self.tapes, disk, &partitions);
+                return Err(SpillError::NoMemory);
+            };
             partitions.push(partition)?;
         }
         self.partitions = partitions;
@@ -201,10 +207,8 @@ impl SpillPartitions {
     /// Opens a partition, which has no record yet.
     fn open_partition<D: TapeDisk>(&mut self, disk: &D, level: u32) -> Result<OnTape, SpillError>
         requires alive { self.old.tapes.is_dead ≡ false }
-        ensures opened { IfOk result (λ partition. IsNewPartition (D.last disk.now) self.new.tapes level partition) }
-        ensures fresh { IfOk result (λ partition. is_open self.old.tapes partition.tape ≡ false) }
-        ensures others { IfOk result
-            (λ partition. KeepsOthers (D.last disk.now) (D.last disk.now) self.old.tapes self.new.tapes partition.tape) }
+        ensures opened { IfOk result (Opens (D.last disk.now) self.old.tapes self.new.tapes level) }
+        ensures unchanged { OnErr result (self.new.tapes ≡ self.old.tapes) }
         ensures alive { self.new.tapes.is_dead ≡ false }
         ensures partitions { self.new.partitions ≡ self.old.partitions }
         ensures rest { KeepsRest self.old self.new }
@@ -223,56 +227,47 @@ impl SpillPartitions {
     /// Ends the pass: later passes are to read what it spilled, partition by partition.
     pub fn end_pass<D: TapeDisk>(&mut self, disk: &mut D) -> Result<(), SpillError>
         requires alive { self.old.tapes.is_dead ≡ false }
-        ensures left { OnOk result ((spilled ahead : List Record) (pending : List PendingPartition)
-            → HasPartitions (D.last disk.old) self.old spilled ahead pending → HasPartitions (D.last disk.new) self.new [] ahead (pending
-            ++ left_by self.old.level spilled)) }
-        ensures partitions { OnOk result (self.new.partitions ≡ []) }
-        ensures waiting { OnOk result (waiting_number self.new ≡ waiting_number self.old + spilled_number self.old) }
-        ensures paged { OnOk result ((spilled ahead : List Record) (pending : List PendingPartition)
-            → HasPartitions (D.last disk.old) self.old spilled ahead pending
-            → D.writes disk.new + written_pages self.old ≡ D.writes disk.old
-            + pages_of (partitions_of self.old.level spilled)) }
-        ensures alive { OnOk result (self.new.tapes.is_dead ≡ false) }
+        ensures ended { OnOk result (EndsPass D.TapeDisk self.old disk.old self.new disk.new) }
         ensures reading { self.new.reading ≡ self.old.reading }
         ensures level { self.new.level ≡ self.old.level }
+        ensures owns { KeepsOwn self.old self.new }
         ensures undamaged { IfErr result (λ error. error ≢ TapeDamaged) }
         ensures disk { DiskFrame D.TapeDisk (failed spill_faults result) disk.old disk.new }
     {
         let partitions = replace(&mut self.partitions, Vec::new(self.alloc));
-        for partition in &partitions {
-            self.leave(disk, *partition)?;
+        for place in 0..partitions.len() {
+            let partition = partitions[place];
+            if let Err(error) = self.leave(disk, partition) {
+                close_all(&mut self.tapes, disk, &partitions[place..]);
+                return Err(error);
+            }
         }
         Ok(())
     }
 
-    /// Leaves a partition of the pass to a later one, if it has records.
+    /// Leaves a partition of the pass to a later one, if it has records. Where it fails its tape stays open.
     fn leave<D: TapeDisk>(&mut self, disk: &mut D, partition: OnTape) -> Result<(), SpillError>
         requires alive { self.old.tapes.is_dead ≡ false }
         requires written { is_written self.old.tapes partition.tape ≡ true }
         requires partitions { self.old.partitions ≡ [] }
         requires apart { times partition.tape.index (self.old.reading ++ self.old.pending) ≡ 0 }
-        ensures left { OnOk result (self.new.pending ≡ self.old.pending ++ those_with_records (partition ∷ [])) }
-        ensures paged { OnOk result
-            ((records : List Record) → IsTape (D.last disk.old) self.old.tapes partition.tape records → partition.records
-            ≡ length records → D.writes disk.new + written_len self.old.tapes partition.tape / PAGE ≡ D.writes disk.old
-            + partition_pages records) }
-        ensures kept { OnOk result
-            (0 < partition.records → (records : List Record) → IsTape (D.last disk.old) self.old.tapes partition.tape records
-            → IsTape (D.last disk.new) self.new.tapes partition.tape records) }
+        ensures left { OnOk result (Leaves D.TapeDisk partition self.old disk.old self.new disk.new) }
+        ensures refused { OnErr result ((is_open self.new.tapes partition.tape ≡ true) × (self.new.pending ≡ self.old.pending)) }
         ensures others { KeepsOthers (D.last disk.old) (D.last disk.new) self.old.tapes self.new.tapes partition.tape }
-        ensures alive { OnOk result (self.new.tapes.is_dead ≡ false) }
         ensures partitions { self.new.partitions ≡ [] }
         ensures reading { self.new.reading ≡ self.old.reading }
         ensures level { self.new.level ≡ self.old.level }
         ensures undamaged { IfErr result (λ error. error ≢ TapeDamaged) }
         ensures disk { DiskFrame D.TapeDisk (failed spill_faults result) disk.old disk.new }
     {
-        self.tapes.bytes_written(disk, partition.tape);
+        let OnTape { tape, .. } = partition;
+        self.tapes.bytes_written(disk, tape);
         if partition.records == 0 {
-            self.tapes.close(disk, partition.tape);
+            self.tapes.close(disk, tape);
             return Ok(());
         }
-        match self.tapes.rewind(disk, partition.tape) {
+        self.pending.reserve(1)?;
+        match self.tapes.rewind(disk, tape) {
             Ok(()) => {
                 self.pending.push(partition)?;
                 Ok(())
@@ -285,14 +280,14 @@ impl SpillPartitions {
     pub fn begin_pass<D: TapeDisk>(&mut self, _disk: &D) -> bool
         requires partitions { self.old.partitions ≡ [] }
         requires reading { self.old.reading ≡ [] }
-        ensures begins { result ≡ true → (pending : List PendingPartition) → HasPartitions (D.last _disk.now) self.old [] [] pending
-            → BeginsLast (D.last _disk.now) self.new pending }
+        ensures begins { result ≡ true → BeginsPass (D.last _disk.now) self.old self.new }
         ensures some { result ≡ true → 0 < ahead_number self.new }
         ensures counted { waiting_number self.old ≡ waiting_number self.new + ahead_number self.new }
         ensures none { result ≡ false → self.old.pending ≡ [] }
         ensures unchanged { result ≡ false → self.new ≡ self.old }
         ensures partitions { self.new.partitions ≡ [] }
         ensures alive { self.new.tapes.is_dead ≡ self.old.tapes.is_dead }
+        ensures owns { KeepsOwn self.old self.new }
     {
         match self.pending.pop() {
             Some(partition) => {
@@ -312,23 +307,12 @@ impl SpillPartitions {
         bytes: &mut Vec<u8>,
     ) -> Result<Option<(u32, u8)>, SpillError>
         requires alive { self.old.tapes.is_dead ≡ false }
-        ensures gives { IfOk result (λ found. IsTrue (D.honest disk.old) → (spilled ahead : List Record) (pending : List PendingPartition)
-            → HasPartitions (D.last disk.old) self.old spilled ahead pending
-            → Gives (λ rest. HasPartitions (D.last disk.new) self.new spilled rest pending) ahead bytes.new.items found) }
-        ensures undamaged { IfErr result (λ error. IsTrue (D.honest disk.old)
-            → (spilled ahead : List Record) (pending : List PendingPartition)
-            → HasPartitions (D.last disk.old) self.old spilled ahead pending
-            → error ≢ TapeDamaged) }
-        ensures counted { IfOk result (λ found. IfSome found (λ _. ahead_number self.old ≡ ahead_number self.new + 1)) }
-        ensures ended { IfOk result (λ found. IfNone found ((ahead_number self.old ≡ 0) × (self.new.reading ≡ []))) }
-        ensures framed { IfOk result (λ found. IfSome found (λ told. (told.1 < 2) × (length bytes.new.items ≤ MAX_RECORD_LEN))) }
-        ensures none { IfOk result (λ found. IfNone found (bytes.new.items ≡ [])) }
-        ensures nothing { OnErr result (bytes.new.items ≡ []) }
-        ensures alive { OnOk result (self.new.tapes.is_dead ≡ false) }
+        ensures reads { ReadsRecord D.TapeDisk self.old disk.old result self.new disk.new bytes.new.items }
         ensures partitions { self.new.partitions ≡ self.old.partitions }
         ensures paged { written_pages self.new ≡ written_pages self.old }
         ensures pending { self.new.pending ≡ self.old.pending }
         ensures level { self.new.level ≡ self.old.level }
+        ensures owns { KeepsOwn self.old self.new }
         ensures disk { OnlyReads D.TapeDisk (failed spill_faults result) disk.old disk.new }
     {
         bytes.clear();

@@ -1,14 +1,18 @@
 -- Tapes as their users see them: some are open, each is written first and then read, and each is a list of records. All of this is our own.
-use Rattle.std.specs.Prelude.{◌≡◌, ◌≢◌, ℕ, ◌+◌, ◌*◌, ◌<◌, Bool, true, false, not, List, [], length, get_or, Result, Err, IfErr, OnOk, OnErr}
+use Rattle.std.specs.Prelude.{◌≡◌, ◌≢◌, ℕ, ◌+◌, ◌*◌, ◌/◌, ◌<◌, ◌≤◌, Bool, true, false, not, List}
+use Rattle.std.specs.Prelude.{[], ◌∷◌, ◌++◌, length, get_or, Result, Err}
+use Rattle.std.specs.Prelude.{Option, IsTrue, IfOk, IfErr, IfSome, IfNone, OnOk, OnErr}
 use Rattle.std.specs.List.{sum_by}
 use Rattle.spill_tapes.specs.Records.{Record}
-use Rattle.spill_tapes.specs.Pages.{PoolState, IsPool, times, below}
-use Rattle.spill_tapes.specs.Tape.{TapeState, no_tape, tape_len, is_in, IsGood, Has}
+use Rattle.spill_tapes.specs.Pages.{PoolState, IsPool, times, below, pages_for}
+use Rattle.spill_tapes.specs.Tape.{TapeState, no_tape, tape_len, is_in, IsGood, Has, Gives, IsCounted}
 use Rattle.spill_tapes.specs.declared.error.TapeError.{TapeError}
 use Rattle.spill_tapes.specs.declared.error.TapeError.TheVariants.{NoMemory, TapeDamaged, TapesDead}
 use Rattle.spill_tapes.specs.declared.tape.Phase.{Phase}
 use Rattle.spill_tapes.specs.declared.tape.Phase.TheVariants.{Closed, Written, Read}
 use Rattle.spill_tapes.specs.declared.tape_id.TapeId.{TapeId}
+use Rattle.spill_tapes.specs.declared.limits.TheConstants.{FRONT, MAX_RECORD_LEN}
+use Rattle.tape_disks.specs.declared.disk.TapeDisk.{Ghosts}
 use Rattle.tape_disks.specs.declared.limits.TheConstants.{PAGE}
 
 -- whether a call failed; the tapes; and their pages
@@ -82,6 +86,32 @@ pub record DiesIfRefused {T D : Type 0} (IsReason : Bool → TapeError → Type 
   pub alive : OnOk result (new.is_dead ≡ false)
   pub dies : OnErr result (new.is_dead ≡ true)
 
+-- each tape is as before closed, being written or read
+abbrev pub KeepsPhases : TapesState → TapesState → Type 0
+KeepsPhases before after = (id : TapeId) → phase_of after id ≡ phase_of before id
+
+-- a tape with no record was opened, to be written, in the first place where none was open
+pub record IsOpened (last : ℕ → ℕ → Type 0) (before after : TapesState) (tape : TapeId) : Type 0 where
+  pub fresh : is_open before tape ≡ false
+  pub first : AreOpenBefore before tape.index
+  pub written : is_written after tape ≡ true
+  pub none : written_len after tape ≡ 0
+  pub empty : IsTape last after tape []
+  pub others : KeepsOthers last last before after tape
+
+-- a record was put behind those of a tape, and the pages that it filled were written
+pub record Appends {D : Type 0} (g : Ghosts D) (tape : TapeId) (entry : Record) (old : TapesState) (before : D) (new : TapesState)
+    (after : D) : Type 0 where
+  pub records : (rs : List Record) → IsTape (g.last before) old tape rs → IsTape (g.last after) new tape (rs ++ entry ∷ [])
+  pub longer : written_len new tape ≡ written_len old tape + (FRONT + length entry.bytes)
+  pub counted : g.writes after + written_len old tape / PAGE ≡ g.writes before + written_len new tape / PAGE
+
+-- a tape with the same records is to be read, and its last page was written
+pub record Rewinds {D : Type 0} (g : Ghosts D) (tape : TapeId) (old : TapesState) (before : D) (new : TapesState) (after : D) : Type 0 where
+  pub read : is_read new tape ≡ true
+  pub records : (rs : List Record) → IsTape (g.last before) old tape rs → IsTape (g.last after) new tape rs
+  pub counted : g.writes after + written_len old tape / PAGE ≡ g.writes before + pages_for (written_len old tape)
+
 -- the pages that a tape no longer has are free, and no new page number was given out
 pub record FreesPages (before after : TapesState) (tape : TapeId) : Type 0 where
   pub free : length after.pool.free + length (tape_at after tape).pages ≡ length before.pool.free + length (tape_at before tape).pages
@@ -90,6 +120,20 @@ pub record FreesPages (before after : TapesState) (tape : TapeId) : Type 0 where
 -- a tape that is read has no page more than what is left of it takes, so a page that was read isn't one of its pages
 abbrev pub HasNoPageMore : TapeState → Type 0
 HasNoPageMore t = PAGE * length t.pages < t.left + PAGE
+
+-- what a call gives that reads the next record of a tape: over an honest disk the first that is left, and never damage; over any disk a
+-- record that a tape can have, of which one less is left then, or none where none is left; and no bytes without a record
+pub record ReadsNext {D : Type 0} (g : Ghosts D) (tape : TapeId) (old : TapesState) (before : D)
+    (result : Result (Option (ℕ × ℕ)) TapeError) (new : TapesState) (after : D) (bytes : List ℕ) : Type 0 where
+  pub gives : IfOk result (λ found. IsTrue (g.honest before) → (rs : List Record) → IsTape (g.last before) old tape rs
+      → Gives (IsTape (g.last after) new tape) rs bytes found)
+  pub undamaged : IfErr result (λ error. IsTrue (g.honest before) → (rs : List Record) → IsTape (g.last before) old tape rs
+      → error ≢ TapeDamaged)
+  pub counted : IfOk result (IsCounted (record_count old tape) (record_count new tape))
+  pub framed : IfOk result (λ found. IfSome found (λ told. (told.1 < 2) × (length bytes ≤ MAX_RECORD_LEN)))
+  pub none : IfOk result (λ found. IfNone found (bytes ≡ []))
+  pub nothing : OnErr result (bytes ≡ [])
+  pub few : OnOk result (HasNoPageMore (tape_at new tape))
 
 -- what is true of all tapes: each page that was given out is free or one tape's, and there is no tape that is not open with
 -- pages; and what is true of each by its phase, as long as no call failed

@@ -14,7 +14,8 @@ mod tapes;
 
 pub use error::TapeError;
 pub use tape_disks::{
-    DiskError, FailDisk, FileDisk, FlipDisk, MemDisk, SpillDisk, TapeDisk, WriteFault,
+    DiskError, FailDisk, FileDisk, FlipDisk, MemDisk, MemFile, SeekableFile, SpillDisk, TapeDisk,
+    WriteFault,
 };
 pub use tape_id::TapeId;
 pub use tapes::Tapes;

@@ -1,23 +1,23 @@
 //! Tapes over a disk.
-ghost use Rattle.std.specs.Prelude.{◌≡◌, ◌≢◌, ◌+◌, ◌*◌, ◌/◌, ◌<◌, ◌≤◌, ◌∷◌, ◌++◌, [], ℕ, List, Some, Err, true, false, IsTrue, IfOk, IfErr};
-ghost use Rattle.std.specs.Prelude.{IfSome, IfNone, OnOk, OnErr, length, get_or};
+ghost use Rattle.std.specs.Prelude.{◌≡◌, ◌≢◌, ◌+◌, ◌*◌, ◌/◌, ◌<◌, ◌≤◌, [], List, Some, Err, true, false, IfOk, IfErr};
+ghost use Rattle.std.specs.Prelude.{OnOk, OnErr, length};
 ghost use Rattle.tape_disks.specs.Calls.{failed};
 ghost use Rattle.tape_disks.specs.Disk.{DiskFrame, OnlyReads};
 ghost use Rattle.spill_tapes.specs.Errors.{tape_faults};
-ghost use Rattle.spill_tapes.specs.Pages.{UsesAgain, pages_for};
+ghost use Rattle.spill_tapes.specs.Pages.{UsesAgain};
 ghost use Rattle.spill_tapes.specs.Records.{Record, tape_bytes};
-ghost use Rattle.spill_tapes.specs.Tape.{Gives, IsCounted, new_tape, no_tape};
-ghost use Rattle.spill_tapes.specs.Tapes.{tape_at, phase_of, is_open, is_written, is_read, written_len, record_count, AreOpenBefore};
+ghost use Rattle.spill_tapes.specs.Tape.{new_tape};
+ghost use Rattle.spill_tapes.specs.Tapes.{tape_at, phase_of, is_open, is_written, is_read, written_len, AreOpenBefore};
 ghost use Rattle.spill_tapes.specs.Tapes.{IsTape, KeepsOthers, DiesIfRefused, IsOpenRefusal, IsRefusal, IsReadRefusal, FreesPages};
-ghost use Rattle.spill_tapes.specs.Tapes.{HasNoPageMore, TapesState};
-ghost use Rattle.spill_tapes.specs.declared.error.TapeError.TheVariants.{TapeDamaged, TapesDead};
+ghost use Rattle.spill_tapes.specs.Tapes.{KeepsPhases, IsOpened, Appends, Rewinds, ReadsNext, TapesState};
+ghost use Rattle.spill_tapes.specs.declared.error.TapeError.TheVariants.{TapesDead};
 ghost use Rattle.spill_tapes.specs.declared.tape.Phase.TheVariants.{Closed, Written, Read};
 ghost use Rattle.spill_tapes.specs.declared.tape_id.TapeId.{TapeId};
 ghost use Rattle.spill_tapes.specs.TapesFields.{tapes_of, AreFields};
 
 use crate::error::TapeError;
 use crate::header::Header;
-use crate::limits::{FRONT, MAX_RECORD_LEN, PAGE};
+use crate::limits::{MAX_RECORD_LEN, PAGE};
 use crate::pool::PagePool;
 use crate::tape::{Phase, Tape};
 use crate::tape_id::TapeId;
@@ -123,15 +123,8 @@ impl Tapes {
         ensures dead { self.old.is_dead ≡ true → result ≡ Err TapesDead }
         ensures refused { IfErr result (IsOpenRefusal self.old.is_dead) }
         ensures unchanged { OnErr result (self.new ≡ self.old) }
+        ensures opened { IfOk result (IsOpened (D.last _disk.now) self.old self.new) }
         ensures alive { self.new.is_dead ≡ self.old.is_dead }
-        ensures fresh { IfOk result (λ tape. is_open self.old tape ≡ false) }
-        // It takes the place of a tape that was closed, if there is one.
-        ensures first { IfOk result (λ tape. AreOpenBefore self.old tape.index) }
-        ensures open { IfOk result (λ tape. is_open self.new tape ≡ true) }
-        ensures written { IfOk result (λ tape. is_written self.new tape ≡ true) }
-        ensures none { IfOk result (λ tape. written_len self.new tape ≡ 0) }
-        ensures empty { IfOk result (λ tape. IsTape (D.last _disk.now) self.new tape []) }
-        ensures others { IfOk result (λ tape. KeepsOthers (D.last _disk.now) (D.last _disk.now) self.old self.new tape) }
         ensures pages { self.new.pool ≡ self.old.pool }
     {
         if self.is_dead() {
@@ -175,12 +168,9 @@ impl Tapes {
         requires tag { tag < 2 }
         requires len { length bytes.now ≤ MAX_RECORD_LEN }
         ensures dies { DiesIfRefused IsRefusal result self.old self.new disk.old disk.new }
-        ensures phases { (id : TapeId) → phase_of self.new id ≡ phase_of self.old id }
-        ensures appended { OnOk result ((rs : List Record) → IsTape (D.last disk.old) self.old tape rs
-            → IsTape (D.last disk.new) self.new tape (rs ++ record { hash = hash; tag = tag; bytes = bytes.now } ∷ [])) }
-        ensures longer { OnOk result (written_len self.new tape ≡ written_len self.old tape + (FRONT + length bytes.now)) }
-        ensures counted { OnOk result (D.writes disk.new + written_len self.old tape / PAGE ≡ D.writes disk.old
-            + written_len self.new tape / PAGE) }
+        ensures appended { OnOk result (Appends D.TapeDisk tape (record { hash = hash; tag = tag; bytes = bytes.now })
+            self.old disk.old self.new disk.new) }
+        ensures phases { KeepsPhases self.old self.new }
         ensures others { KeepsOthers (D.last disk.old) (D.last disk.new) self.old self.new tape }
         ensures again { UsesAgain self.old.pool self.new.pool }
         ensures disk { DiskFrame D.TapeDisk (failed tape_faults result) disk.old disk.new }
@@ -221,18 +211,11 @@ impl Tapes {
     }
 
     /// Ends the writing of a tape, which is then to be read.
-    #[tactic(auto, using(crate::proofs::TapesLaws::bytes_written))]
     pub fn rewind<D: TapeDisk>(&mut self, disk: &mut D, tape: TapeId) -> Result<(), TapeError>
         requires written { self.old.is_dead ≡ false → is_written self.old tape ≡ true }
         ensures dies { DiesIfRefused IsRefusal result self.old self.new disk.old disk.new }
+        ensures rewound { OnOk result (Rewinds D.TapeDisk tape self.old disk.old self.new disk.new) }
         ensures open { is_open self.new tape ≡ is_open self.old tape }
-        ensures read { OnOk result (is_read self.new tape ≡ true) }
-        ensures rewound { OnOk result ((rs : List Record) → IsTape (D.last disk.old) self.old tape rs
-            → IsTape (D.last disk.new) self.new tape rs) }
-        ensures bytes { self.old.is_dead ≡ false → (rs : List Record) → IsTape (D.last disk.old) self.old tape rs
-            → written_len self.old tape ≡ length (tape_bytes rs) }
-        ensures counted { OnOk result (D.writes disk.new + written_len self.old tape / PAGE ≡ D.writes disk.old
-            + pages_for (written_len self.old tape)) }
         ensures others { KeepsOthers (D.last disk.old) (D.last disk.new) self.old self.new tape }
         ensures again { UsesAgain self.old.pool self.new.pool }
         ensures disk { DiskFrame D.TapeDisk (failed tape_faults result) disk.old disk.new }
@@ -256,18 +239,10 @@ impl Tapes {
     ) -> Result<Option<(u32, u8)>, TapeError>
         requires read { self.old.is_dead ≡ false → is_read self.old tape ≡ true }
         ensures dies { DiesIfRefused IsReadRefusal result self.old self.new disk.old disk.new }
-        ensures undamaged { IfErr result (λ error. IsTrue (D.honest disk.old) → (rs : List Record)
-            → IsTape (D.last disk.old) self.old tape rs → error ≢ TapeDamaged) }
-        ensures phases { (id : TapeId) → phase_of self.new id ≡ phase_of self.old id }
-        ensures gives { IfOk result (λ found. IsTrue (D.honest disk.old) → (rs : List Record) → IsTape (D.last disk.old) self.old tape rs
-            → Gives (IsTape (D.last disk.new) self.new tape) rs bytes.new.items found) }
-        ensures framed { IfOk result (λ found. IfSome found (λ told. (told.1 < 2) × (length bytes.new.items ≤ MAX_RECORD_LEN))) }
-        ensures counted { IfOk result (IsCounted (record_count self.old tape) (record_count self.new tape)) }
-        ensures none { IfOk result (λ found. IfNone found (bytes.new.items ≡ [])) }
-        ensures nothing { OnErr result (bytes.new.items ≡ []) }
+        ensures reads { ReadsNext D.TapeDisk tape self.old disk.old result self.new disk.new bytes.new.items }
+        ensures phases { KeepsPhases self.old self.new }
         ensures others { KeepsOthers (D.last disk.old) (D.last disk.new) self.old self.new tape }
         ensures frees { FreesPages self.old self.new tape }
-        ensures few { OnOk result (HasNoPageMore (tape_at self.new tape)) }
         ensures disk { OnlyReads D.TapeDisk (failed tape_faults result) disk.old disk.new }
     {
         bytes.clear();

@@ -43,7 +43,7 @@ returns-in_err-hash g c =
             undamaged =
                 λ honest can.
                 let r = i.reads honest can.0 can.1 can.2 can.3 can.4 can.5 in
-                c.in_err-hash.ensures.undamaged (subst IsTrue (sym i.disk.honesty) honest) r.holds.0 r.ahead can.2 r.holds.1;
+                c.in_err-hash.ensures.reads.undamaged (subst IsTrue (sym i.disk.honesty) honest) r.holds.0 r.ahead can.2 r.holds.1;
             kept = kept;
           });
       disk =
@@ -65,7 +65,7 @@ loop-hash-preserved g c =
     c.add_record.new.disk one.added in
     let counted : ahead_number c.loop-hash.self.lists ≡ ahead_number c.next.new.self
     + 1 = subst (λ found. IfSome found (λ told. ahead_number c.loop-hash.self.lists ≡ ahead_number c.next.new.self + 1)) c.in-Some.is
-    c.in_ok-hash.ensures.counted in
+    c.in_ok-hash.ensures.reads.counted in
     let partitions : spilled_number c.next.new.self ≡ spilled_number c.loop-hash.self.lists = ap count_of c.next.ensures.partitions in
     let same : ahead_number c.add_record.new.self.lists ≡ ahead_number c.next.new.self = ap count_of add.kept.lists.reading in
     let more = one.proceeds.few in
@@ -90,7 +90,7 @@ loop-hash-preserved g c =
           count c.next.ensures.partitions
           (λ spilled ahead pending had.
           subst (Gives (λ rest. HasPartitions (g.D.TapeDisk.last c.next.new.disk) c.next.new.self spilled rest pending) ahead
-          c.next.new.bytes.items) c.in-Some.is (c.in_ok-hash.ensures.gives (subst IsTrue (sym i.disk.honesty) honest) spilled ahead
+          c.next.new.bytes.items) c.in-Some.is (c.in_ok-hash.ensures.reads.gives (subst IsTrue (sym i.disk.honesty) honest) spilled ahead
           pending had))
           (standing c.add_record.new.self.groups c.add_record.new.self.lists (g.D.TapeDisk.last c.add_record.new.disk))
           (subst (λ bytes. Reads c.args.self.now.plan hf
@@ -125,7 +125,7 @@ returns-in_err-add_record g c =
                 c.next.new.bytes.items can.5 c.next.ensures.partitions
                 (λ spilled ahead pending had.
                 subst (Gives (λ rest. HasPartitions (g.D.TapeDisk.last c.next.new.disk) c.next.new.self spilled rest pending) ahead
-                c.next.new.bytes.items) c.in-Some.is (c.in_ok-hash.ensures.gives (subst IsTrue (sym i.disk.honesty) honest) spilled
+                c.next.new.bytes.items) c.in-Some.is (c.in_ok-hash.ensures.reads.gives (subst IsTrue (sym i.disk.honesty) honest) spilled
                 ahead pending had))
                 (i.reads honest can.0 can.1 can.2 can.3 can.4 can.5)));
             kept = later_next c.args.self.now (record c.loop-hash.self { lists = c.next.new.self }) c.add_record.new.self kept refusal.kept;
@@ -144,7 +144,7 @@ returns g c =
     let hf : List ℕ → ℕ = g.H.KeyHash.hash_of c.args.self.now.groups.hash in
     let kept = later_same c.args.self.now c.loop-hash.self c.next.new.self i.kept c.next.ensures.pending c.next.ensures.level in
     let ended = subst (λ found. IfNone found ((ahead_number c.loop-hash.self.lists ≡ 0) × (c.next.new.self.reading ≡ []))) c.in_default.is
-    c.in_ok-hash.ensures.ended in
+    c.in_ok-hash.ensures.reads.ended in
     let partitions : spilled_number c.next.new.self ≡ spilled_number c.loop-hash.self.lists = ap count_of c.next.ensures.partitions in
     let few = i.few in
     record {
@@ -157,7 +157,7 @@ returns g c =
                 c.next.ensures.partitions
                 (λ spilled ahead pending had.
                 subst (Gives (λ rest. HasPartitions (g.D.TapeDisk.last c.next.new.disk) c.next.new.self spilled rest pending) ahead
-                c.next.new.bytes.items) c.in_default.is (c.in_ok-hash.ensures.gives (subst IsTrue (sym i.disk.honesty) honest) spilled
+                c.next.new.bytes.items) c.in_default.is (c.in_ok-hash.ensures.reads.gives (subst IsTrue (sym i.disk.honesty) honest) spilled
                 ahead pending had))
                 (i.reads honest records pieces pending has are count);
             safe = i.safe;
@@ -167,7 +167,7 @@ returns g c =
             pages = let so_far = i.pages in let quiet = c.in_ok-hash.ensures.disk.writes in let still = c.next.ensures.paged in omega
                 (arith, so_far, quiet, still);
             reading = ended.1;
-            ready = record { plan = i.ready.plan; width = i.ready.width; held = i.ready.held; alive = c.in_ok-hash.ensures.alive };
+            ready = record { plan = i.ready.plan; width = i.ready.width; held = i.ready.held; alive = c.in_ok-hash.ensures.reads.alive };
             kept = kept;
           };
       refused = tt;

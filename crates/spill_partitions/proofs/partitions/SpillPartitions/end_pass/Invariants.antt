@@ -6,14 +6,13 @@ use Rattle.spill_partitions.proofs.PageLaws.{IsPaged}
 use Rattle.spill_partitions.proofs.PassLaws.{IsEnding}
 use Rattle.spill_partitions.proofs.partitions.SpillPartitions.end_pass.Given as goal
 
-abbrev pub invariant-loop-partition : goal.invariant-loop-partition
-invariant-loop-partition g l = record {
+abbrev pub invariant-loop-place : goal.invariant-loop-place
+invariant-loop-place g l = record {
   pages :
       (spilled ahead : List Record) (pending : List PendingPartition)
       → HasPartitions (g.D.TapeDisk.last l.fn.disk) l.fn.self spilled ahead pending
-      → IsPaged (g.D.TapeDisk.last l.disk) l.self.tapes (drop l.partition-index l.partition-items) (g.D.TapeDisk.writes l.fn.disk)
+      → IsPaged (g.D.TapeDisk.last l.disk) l.self.tapes (drop l.place l.partitions.items) (g.D.TapeDisk.writes l.fn.disk)
       (pages_of (partitions_of l.fn.self.level spilled)) (written_pages l.fn.self) (g.D.TapeDisk.writes l.disk);
-  partitions : IsEnding (g.D.TapeDisk.last l.fn.disk) (g.D.TapeDisk.last l.disk) l.fn.self l.self
-      (drop l.partition-index l.partition-items);
+  partitions : IsEnding (g.D.TapeDisk.last l.fn.disk) (g.D.TapeDisk.last l.disk) l.fn.self l.self (drop l.place l.partitions.items);
   disk : DiskFrame g.D.TapeDisk 0 l.fn.disk l.disk;
 }

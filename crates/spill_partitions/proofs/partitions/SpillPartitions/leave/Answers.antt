@@ -1,4 +1,4 @@
-use Rattle.std.proofs.Common.{List, ◌≡◌, ◌++◌, [], false, arith, ap, sym, subst, ◌∙◌}
+use Rattle.std.proofs.Common.{List, ◌≡◌, ◌++◌, ◌∷◌, [], false, arith, ap, sym, subst, ◌∙◌}
 use Rattle.spill_partitions.proofs.Words.{fields_of, one_or_none, PartitionsState, ArePartitions, times, TapeId, OnTape}
 use Rattle.spill_partitions.specs.declared.partitions.SpillPartitions.TheInside.{Inside}
 use Rattle.spill_partitions.proofs.StandingLaws.{state, partitions_beside, partitions_pushed}
@@ -33,7 +33,7 @@ invariant_of-self-in_err-push-in-Ok g c =
     c.self.inside.pending.items c.args.partition.tape c.rewind.ensures.others none (λ _. alive) c.self.invariant in
     subst (λ xs. ArePartitions
     (state c.rewind.new.self c.self.inside.level c.self.inside.partitions.items (one_or_none c.self.inside.reading)
-    xs)) (sym {A = List OnTape} c.in_err-push-in-Ok.ensures.items) are
+    xs)) (sym {A = List OnTape} (c.in_err-push-in-Ok.ensures.items ∙ c.reserve.ensures.items)) are
 
 pub invariant_of-self-in-Ok : goal.invariant_of-self-in-Ok
 invariant_of-self-in-Ok g c =
@@ -47,6 +47,7 @@ invariant_of-self-in-Ok g c =
     c.self.inside.pending.items c.args.partition.tape c.rewind.ensures.others none (λ _. alive) c.self.invariant in
     subst (λ xs. ArePartitions
     (state c.rewind.new.self c.self.inside.level c.self.inside.partitions.items (one_or_none c.self.inside.reading)
-    xs)) (sym {A = List OnTape} c.in_ok-push-in-Ok.ensures.items)
+    xs)) (sym {A = List OnTape}
+    (c.in_ok-push-in-Ok.ensures.items ∙ ap (λ (ys : List OnTape). ys ++ c.args.partition ∷ []) c.reserve.ensures.items))
     (partitions_pushed c.rewind.new.self c.self.inside.level c.self.inside.partitions.items (one_or_none c.self.inside.reading)
-    c.self.inside.pending.items c.args.partition c.in-Ok.ensures.read (omega (arith, c.if-partition-eq0.false)) none are)
+    c.self.inside.pending.items c.args.partition c.in-Ok.ensures.rewound.read (omega (arith, c.if-partition-eq0.false)) none are)

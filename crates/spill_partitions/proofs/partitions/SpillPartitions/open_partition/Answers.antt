@@ -11,8 +11,8 @@ invariant_of-self g c =
       | in-Ok w ↦ partitions_beside (g.D.TapeDisk.last c.args.disk.now) (g.D.TapeDisk.last c.args.disk.now) c.self.inside.tapes
           c.open.new.self
           c.self.inside.level c.self.inside.partitions.items (one_or_none c.self.inside.reading) c.self.inside.pending.items w.in-Ok.tape
-          w.in-Ok.ensures.others (fresh_beside c.self.inside.tapes c.self.inside.level c.self.inside.partitions.items
-          (one_or_none c.self.inside.reading) c.self.inside.pending.items w.in-Ok.tape alive w.in-Ok.ensures.fresh c.self.invariant)
+          w.in-Ok.ensures.opened.others (fresh_beside c.self.inside.tapes c.self.inside.level c.self.inside.partitions.items
+          (one_or_none c.self.inside.reading) c.self.inside.pending.items w.in-Ok.tape alive w.in-Ok.ensures.opened.fresh c.self.invariant)
           (λ _. alive) c.self.invariant
       | in-Err w ↦ subst (λ (t : TapesState). ArePartitions (state t c.self.inside.level c.self.inside.partitions.items
           (one_or_none c.self.inside.reading) c.self.inside.pending.items)) (sym w.in-Err.ensures.unchanged) c.self.invariant
