@@ -74,7 +74,7 @@ returns-in_err-batch-clause-ran g c =
 
 pub returns-in_err-delivered-clause-feeds : goal.returns-in_err-delivered-clause-feeds
 returns-in_err-delivered-clause-feeds g c =
-    let e = err_from_is_err_and c.from_residual-2.result c.from_residual-2.ensures.1 in
+    let e = err_from_is_err_and c.from_residual-in_err-delivered.result c.from_residual-in_err-delivered.ensures.1 in
     let batch = c.in_ok-batch.ensures in
     rw e.1 (inr (
       c.in_err-delivered.field-0.0,
@@ -96,5 +96,5 @@ returns-in_err-delivered-clause-ran g c =
     ran_as g.D.TapeDisk g.H.KeyHash.hash_of old.query c.args.means.now Counts _ _ c.args.disk.now c.args.work.now c.deliver.new.disk
     c.deliver.new.work
     (ap Refused (sym (join_reasons refused.batch.origin refused.why))
-    ∙ sym (refused_by refusal_reason c.from_residual-2.result _ c.from_residual-2.ensures.1))
+    ∙ sym (refused_by refusal_reason c.from_residual-in_err-delivered.result _ c.from_residual-in_err-delivered.ensures.1))
     (record { disk = ran.disk; undamaged = ran.undamaged; counted = tt; uncounted = ran.uncounted; held = ran.held })

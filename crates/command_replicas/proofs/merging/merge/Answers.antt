@@ -12,7 +12,7 @@ use Rattle.command_replicas.proofs.FileLaws.{no_summary}
 use Rattle.command_replicas.proofs.merging.merge.Goals as goal
 
 pub returns-clause-merges : goal.returns-clause-merges
-returns-clause-merges g c = (c.in_ok-other.other, c.in_ok-other.ensures.loaded, c.in_ok-2.ensures.merges.merged)
+returns-clause-merges g c = (c.in_ok-other.other, c.in_ok-other.ensures.loaded, c.in_ok-merge.ensures.merges.merged)
 
 pub returns-clause-ran : goal.returns-clause-ran
 returns-clause-ran g c =
@@ -20,7 +20,7 @@ returns-clause-ran g c =
     let other = c.in_ok-other.other in
     ran_weaker g.D.TapeDisk g.H.KeyHash.hash_of old.query c.args.means.now (MergeIsCounted old.parts other.parts)
     (FileMergeIsCounted c.args.file.now old) Done c.args.disk.now c.args.work.now c.merge.new.disk c.merge.new.work
-    (λ counted. (other, c.in_ok-other.ensures.loaded.summary, counted)) c.in_ok-2.ensures.ran.ran
+    (λ counted. (other, c.in_ok-other.ensures.loaded.summary, counted)) c.in_ok-merge.ensures.ran.ran
 
 pub returns-in_err-other-clause-merges : goal.returns-in_err-other-clause-merges
 returns-in_err-other-clause-merges g c =
@@ -40,23 +40,23 @@ returns-in_err-other-clause-ran g c =
     c.args.disk.now c.args.work.now (no_file_fault c.args.file.now (summary_refusal error) none)
     (λ honest. no_file_damage c.args.file.now (summary_refusal error) none))
 
-pub returns-in_err-2-clause-merges : goal.returns-in_err-2-clause-merges
-returns-in_err-2-clause-merges g c =
-    let e = err_from_is_err_and c.from_residual-2.result c.from_residual-2.ensures.1 in
+pub returns-in_err-merge-clause-merges : goal.returns-in_err-merge-clause-merges
+returns-in_err-merge-clause-merges g c =
+    let e = err_from_is_err_and c.from_residual-in_err-merge.result c.from_residual-in_err-merge.ensures.1 in
     rw e.1 (inr (record {
       other = c.in_ok-other.other;
       loaded = c.in_ok-other.ensures.loaded;
-      apart = (c.in_err-2.field-0.0, e.2, c.in_err-2.ensures.merges.refused);
-      same = c.in_err-2.ensures.merges.same;
+      apart = (c.in_err-merge.field-0.0, e.2, c.in_err-merge.ensures.merges.refused);
+      same = c.in_err-merge.ensures.merges.same;
     }))
 
-pub returns-in_err-2-clause-ran : goal.returns-in_err-2-clause-ran
-returns-in_err-2-clause-ran g c =
-    let error = c.in_err-2.field-0.0 in
+pub returns-in_err-merge-clause-ran : goal.returns-in_err-merge-clause-ran
+returns-in_err-merge-clause-ran g c =
+    let error = c.in_err-merge.field-0.0 in
     let old = c.args.replica.now in
-    let ran = c.in_err-2.ensures.ran.ran in
+    let ran = c.in_err-merge.ensures.ran.ran in
     let Counts = FileMergeIsCounted c.args.file.now old in
     ran_as g.D.TapeDisk g.H.KeyHash.hash_of old.query c.args.means.now Counts _ _ c.args.disk.now c.args.work.now c.merge.new.disk
     c.merge.new.work
-    (ap Refused (sym (merge_reasons error)) ∙ sym (refused_by refusal_reason c.from_residual-2.result _ c.from_residual-2.ensures.1))
+    (ap Refused (sym (merge_reasons error)) ∙ sym (refused_by refusal_reason c.from_residual-in_err-merge.result _ c.from_residual-in_err-merge.ensures.1))
     (record { disk = ran.disk; undamaged = ran.undamaged; counted = tt; uncounted = ran.uncounted; held = ran.held })
