@@ -1,5 +1,6 @@
 # shellcheck shell=bash
-# The rows of bench/run, bench/growth and bench/profile, which read this file, the scripts that feed them, and how a program is timed.
+# The rows of bench/run, bench/growth, bench/profile and bench/instructions, which read this file, the scripts that feed them, how a program is
+# timed, and what its functions do.
 
 root=$(cd "$(dirname "${BASH_SOURCE[0]}")/.." && pwd)
 program=${PROGRAM:-$root/crates/agg_tool/out/agg_tool}
@@ -81,3 +82,17 @@ timed() {
     /usr/bin/time -f '%e %U %S %M' -a -o "$name.times" "$@" < "$input" > "$name.out" 2> "$name.err" ||
         fail "$name ended with status $?: $(tail -n 1 "$name.err")"
 }
+
+# A kind of work a line, and what the names of its functions have in them: the first line that fits counts.
+# shellcheck disable=SC2034 # bench/profile and bench/instructions read it.
+kinds='taking and giving back memory	\] _*(int_)?(malloc|free|realloc|calloc)|unlink_chunk|sysmalloc|systrim
+moving bytes	memmove|memcpy|memset|extend_from_slice
+the system, page faults above all	\[k\]
+finding places among groups that stand, and merging into them	group_runs|origin_prefix|replica_merge|group_answers|skip_groups
+sorting and comparing keys	sort|core::cmp
+the table of new groups	hash_agg|group_table|context_tree|chunk_contexts|chunk_layout|block_memory|spill_
+reading CSV, UTF-8 and numbers	csv|script_|batch_reader|slice::scan|slice::words|core::str
+packing rows, and unpacking them	packed_rows
+states of aggregates	agg_library|agg_protocol|byteorder
+printing	table_print|itoa
+other	.'
