@@ -18,7 +18,7 @@ use holding_sentences::{answer_line, holding_lines};
 use replica_merge::Replica;
 use replies::{ExitKind, Format, Refusal, Reply, origin_lines, put_reply, refusal_ending, table};
 use script_io::{Occupant, put_all, read_limit};
-use spill_tapes::{MemDisk, SpillDisk};
+use spill_tapes::{MemDisk, SpillDisk, SystemFile};
 use std::alloc::{AllocError, Global};
 use std::io::Write;
 use std::random::RandomSource;
@@ -142,7 +142,7 @@ fn take_file<'p, R: Files + AllocGlobal, D: TapeDisk>(
 pub struct Session<'c, R: Files, W, E> {
     rt: &'c R,
     streams: Streams<'c, W, E>,
-    disk: SpillDisk<R::File>,
+    disk: SpillDisk<SystemFile<R::File>>,
     in_file: bool,
     work: Work,
     taken: usize,

@@ -4,7 +4,7 @@ use crate::problem::Problem;
 use crate::streams::say;
 use fault_sentences::{Plain, Reason};
 use replies::{Refusal, RunError};
-use spill_tapes::{FileDisk, MemDisk, SpillDisk};
+use spill_tapes::{FileDisk, MemDisk, SpillDisk, SystemFile};
 use std::alloc::{AllocError, Global};
 use std::io::Write;
 use std::rt::Files;
@@ -20,7 +20,7 @@ fn spill_reason(alloc: Global, cause: io::Error) -> Result<Option<Reason>, Alloc
 pub fn open_disk<'p, R: Files + AllocGlobal>(
     rt: &R,
     path: Option<&'p str>,
-) -> Result<SpillDisk<R::File>, Problem<'p>> {
+) -> Result<SpillDisk<SystemFile<R::File>>, Problem<'p>> {
     let Some(path) = path else {
         return Ok(SpillDisk::Memory(MemDisk::new(rt.alloc())));
     };

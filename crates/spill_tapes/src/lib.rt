@@ -14,7 +14,7 @@ mod tapes;
 
 pub use error::TapeError;
 pub use tape_disks::{
-    DiskError, FailDisk, FileDisk, FlipDisk, MemDisk, MemFile, SeekableFile, SpillDisk, TapeDisk,
+    DiskError, FailDisk, FileDisk, FlipDisk, MemDisk, MemFile, SeekableFile, SpillDisk, SystemFile, TapeDisk,
     WriteFault,
 };
 pub use tape_id::TapeId;

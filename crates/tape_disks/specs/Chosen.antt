@@ -5,9 +5,9 @@ use Rattle.tape_disks.specs.declared.seekable_file.SeekableFile.{Ghosts}
 use Rattle.tape_disks.specs.declared.spill_disk.SpillDisk.{SpillDisk}
 use Rattle.tape_disks.specs.declared.spill_disk.SpillDisk.TheVariants.{Memory, File}
 
-abbrev pub failures_of : {F : Type 0} → SpillDisk F → ℕ
-failures_of (Memory disk) = 0
-failures_of (File disk) = disk.faults
+abbrev pub failures_of : {F : Type 0} → Ghosts F → SpillDisk F → ℕ
+failures_of g (Memory disk) = 0
+failures_of g (File disk) = g.failures disk.file
 
 abbrev pub writes_of : {F : Type 0} → SpillDisk F → ℕ
 writes_of (Memory disk) = disk.count

@@ -1,4 +1,4 @@
--- Disks of which something is wrong, and one in a file. All of this is our own.
+-- Disks of which something is wrong. All of this is our own.
 use Rattle.std.specs.Prelude.{ℕ, ◌%◌, ◌==◌, if◌then◌else◌, Bool, bit_xor}
 use Rattle.tape_disks.specs.declared.limits.TheConstants.{PAGE}
 
@@ -17,9 +17,3 @@ pub record FlipState (D : Type 0) : Type 0 where
 -- the byte that is read at a place where this one lies
 abbrev pub flipped : (at mask place byte : ℕ) → ℕ
 flipped at mask place byte = if place % PAGE == at then bit_xor byte mask else byte
-
--- one in a file: the file, how often it was written, and how often it failed
-pub record FileState (F : Type 0) : Type 0 where
-  pub file : F
-  pub count : ℕ
-  pub faults : ℕ

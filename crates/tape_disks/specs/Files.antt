@@ -1,6 +1,21 @@
--- What a read gives of a file. `stands place` is that the file stands there, and `last place byte` that the byte is the one last written
--- at the place. All of this is our own.
+-- Files, and a disk in one; what a read gives of a file. `stands place` is that the file stands there, and `last place byte` that the byte is
+-- the one last written at the place. All of this is our own.
 use Rattle.std.specs.Prelude.{◌≡◌, ℕ, ◌+◌, ◌<◌, ◌≤◌, Bool, IsTrue, List, length, get_or}
+
+-- a file of the system, and how often it failed
+pub record SystemState (F : Type 0) : Type 0 where
+  pub file : F
+  pub failures : ℕ
+
+-- a file in memory: its bytes, and where it stands
+pub record MemState : Type 0 where
+  pub bytes : List ℕ
+  pub at : ℕ
+
+-- a disk in a file, and how often that was written
+pub record FileState (F : Type 0) : Type 0 where
+  pub file : F
+  pub count : ℕ
 
 -- the first n of these bytes have, at every place that was ever written, the byte last written there
 abbrev pub FirstAreReadAt : (ℕ → ℕ → Type 0) → ℕ → ℕ → List ℕ → Type 0

@@ -1,10 +1,12 @@
 //! A disk in a file.
-ghost use Rattle.std.specs.Prelude.{◌≡◌, min, IfOk, IsTrue, OnOk, true, length};
+ghost use Rattle.std.specs.Prelude.{◌≡◌, ◌+◌, min, IfOk, IsTrue, OnOk, true, length};
 ghost use Rattle.std.specs.Fs.{asks_create_new, asks_read, asks_write};
-ghost use Rattle.tape_disks.specs.Calls.{AreLast, AreReadAt, Keeps, KeepsBeside};
+ghost use Rattle.tape_disks.specs.Calls.{AreLast, AreReadAt, Keeps, KeepsBeside, failed};
+ghost use Rattle.tape_disks.specs.Errors.{disk_faults};
 
 use crate::disk::{DiskError, TapeDisk};
 use crate::seekable_file::SeekableFile;
+use crate::system_file::SystemFile;
 use std::fs::OpenOptions;
 use std::io;
 use std::io::{Read, Seek, Write};
@@ -23,13 +25,12 @@ pub struct WriteFault {
     pub cause: io::Error,
 }
 
-/// A disk in a file, which is as honest as the file: over any that gives back what was written to it, so does the disk. Places past its end
-/// are 0.
+/// A disk in a file, which is as honest as the file, and fails just where the file does: over any that gives back what was written to it, so
+/// does the disk. Places past its end are 0.
 #[derive(Drop)]
 pub struct FileDisk<F: SeekableFile + Drop> {
     file: F,
     count: u128,
-    faults: u128,
 }
 
 impl<F: SeekableFile + Drop> Model for FileDisk<F> {
@@ -37,7 +38,7 @@ impl<F: SeekableFile + Drop> Model for FileDisk<F> {
 
     ghost Value = { FileState F };
 
-    ghost view = { λ d. record { file = d.file; count = d.count; faults = d.faults } };
+    ghost view = { λ d. record { file = d.file; count = d.count } };
 }
 
 /// How the file is made: to be read and written by its owner alone, and so that nothing is opened that is there already.
@@ -52,15 +53,18 @@ fn new_file() -> OpenOptions
     options
 }
 
-impl<F: Read + Write + Seek + Drop> FileDisk<F> {
+impl<F: Read + Write + Seek + Drop> FileDisk<SystemFile<F>> {
     /// A disk in a new file that its owner alone may read and write. A path where anything is there already, a link too, is
     /// refused, as one where no file can be made.
-    pub fn create<R: Files<File = F>>(rt: &R, path: &str) -> Result<FileDisk<F>, WriteFault>
+    pub fn create<R: Files<File = F>>(
+        rt: &R,
+        path: &str,
+    ) -> Result<FileDisk<SystemFile<F>>, WriteFault>
         ensures count { IfOk result (λ disk. disk.count ≡ 0) }
-        ensures faults { IfOk result (λ disk. disk.faults ≡ 0) }
+        ensures failures { IfOk result (λ disk. disk.file.failures ≡ 0) }
     {
         match new_file().open(rt, path) {
-            Ok(file) => Ok(FileDisk::new(file)),
+            Ok(file) => Ok(FileDisk::new(SystemFile::new(file))),
             Err(cause) => Err(WriteFault { cause }),
         }
     }
@@ -69,13 +73,16 @@ impl<F: Read + Write + Seek + Drop> FileDisk<F> {
 impl<F: SeekableFile + Drop> FileDisk<F> {
     /// A disk in a file.
     pub fn new(file: F) -> FileDisk<F>
-        ensures { result ≡ record { file = file; count = 0; faults = 0 } }
+        ensures { result ≡ record { file = file; count = 0 } }
     {
-        FileDisk {
-            file,
-            count: 0,
-            faults: 0,
-        }
+        FileDisk { file, count: 0 }
+    }
+
+    /// The file.
+    pub fn file(&self) -> &F
+        ensures { result.now ≡ self.now.file }
+    {
+        &self.file
     }
 
     /// How many writes succeeded, or 2^64 - 1 if that is more.
@@ -86,11 +93,12 @@ impl<F: SeekableFile + Drop> FileDisk<F> {
     }
 }
 
-/// Reads from a place on. What lies past the end is 0. An interrupted read is a fault.
-fn read_from<F: SeekableFile>(file: &mut F, at: u64, bytes: &mut [u8]) -> io::Result<()>
+/// Reads from a place on. What lies past the end is 0.
+fn read_from<F: SeekableFile>(file: &mut F, at: u64, bytes: &mut [u8]) -> Result<(), DiskError>
     ensures len { length bytes.new ≡ length bytes.old }
     ensures read { OnOk result (IsTrue (F.honest file.old) → AreReadAt (F.last file.old) at bytes.new) }
     ensures keeps { Keeps (F.last file.old) (F.last file.new) }
+    ensures failures { F.failures file.new ≡ F.failures file.old + failed disk_faults result }
     ensures honesty { F.honest file.new ≡ F.honest file.old }
 {
     file.go_to(at)?;
@@ -107,9 +115,10 @@ fn read_from<F: SeekableFile>(file: &mut F, at: u64, bytes: &mut [u8]) -> io::Re
 }
 
 /// Writes from a place on.
-fn write_to<F: SeekableFile>(file: &mut F, at: u64, bytes: &[u8]) -> io::Result<()>
+fn write_to<F: SeekableFile>(file: &mut F, at: u64, bytes: &[u8]) -> Result<(), DiskError>
     ensures written { OnOk result (AreLast (F.last file.new) at bytes.now) }
     ensures keeps { KeepsBeside (F.last file.old) (F.last file.new) at (length bytes.now) }
+    ensures failures { F.failures file.new ≡ F.failures file.old + failed disk_faults result }
     ensures honesty { F.honest file.new ≡ F.honest file.old }
 {
     file.go_to(at)?;
@@ -117,7 +126,7 @@ fn write_to<F: SeekableFile>(file: &mut F, at: u64, bytes: &[u8]) -> io::Result<
 }
 
 impl<F: SeekableFile + Drop> TapeDisk for FileDisk<F> {
-    ghost failures = { λ d. d.faults };
+    ghost failures = { λ d. F.failures d.file };
 
     ghost writes = { λ d. d.count };
 
@@ -126,24 +135,14 @@ impl<F: SeekableFile + Drop> TapeDisk for FileDisk<F> {
     ghost last = { λ d. F.last d.file };
 
     fn read_at(&mut self, at: u64, bytes: &mut [u8]) -> Result<(), DiskError> {
-        if self.faults == u128::MAX {
-            return Err(DiskError::NoMemory);
-        }
-        if read_from(&mut self.file, at, bytes).is_err() {
-            self.faults += 1;
-            return Err(DiskError::TapeFault);
-        }
-        Ok(())
+        read_from(&mut self.file, at, bytes)
     }
 
     fn write_at(&mut self, at: u64, bytes: &[u8]) -> Result<(), DiskError> {
-        if self.faults == u128::MAX || self.count == u128::MAX {
+        if self.count == u128::MAX {
             return Err(DiskError::NoMemory);
         }
-        if write_to(&mut self.file, at, bytes).is_err() {
-            self.faults += 1;
-            return Err(DiskError::TapeFault);
-        }
+        write_to(&mut self.file, at, bytes)?;
         self.count += 1;
         Ok(())
     }

@@ -10,6 +10,7 @@ mod mem_disk;
 mod mem_file;
 mod seekable_file;
 mod spill_disk;
+mod system_file;
 
 pub use disk::{DiskError, TapeDisk};
 pub use fail_disk::FailDisk;
@@ -19,3 +20,4 @@ pub use mem_disk::MemDisk;
 pub use mem_file::MemFile;
 pub use seekable_file::SeekableFile;
 pub use spill_disk::SpillDisk;
+pub use system_file::SystemFile;

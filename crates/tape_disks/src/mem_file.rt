@@ -1,21 +1,32 @@
 //! A file in memory.
-ghost use Rattle.std.specs.Prelude.{◌≡◌, ◌+◌, ◌<◌, ◌≤◌, ◌⊎◌, ℕ, true, OnOk, length, get_or};
+ghost use Rattle.std.specs.Prelude.{◌≡◌, ◌+◌, ◌<◌, ◌≤◌, ◌⊎◌, ℕ, [], true, OnOk, length, get_or};
 
+use crate::disk::DiskError;
 use crate::seekable_file::SeekableFile;
 use std::alloc::{AllocError, Global};
-use std::io;
-use std::io::ErrorKind;
+use std::marker::Model;
 
-/// A file in memory, which is honest. What lies between its end and a place beyond that is written is 0.
+/// A file in memory, which is honest and never fails; where memory is wanted it answers `NoMemory`, and nothing changed. What lies between
+/// its end and a place beyond that is written is 0.
 #[derive(Drop)]
 pub struct MemFile {
     bytes: Vec<u8>,
     at: usize,
 }
 
+impl Model for MemFile {
+    ghost use Rattle.tape_disks.specs.Files.{MemState};
+
+    ghost Value = { MemState };
+
+    ghost view = { λ f. record { bytes = f.bytes.items; at = f.at } };
+}
+
 impl MemFile {
     /// An empty file.
-    pub fn new(alloc: Global) -> MemFile {
+    pub fn new(alloc: Global) -> MemFile
+        ensures { result ≡ record { bytes = []; at = 0 } }
+    {
         MemFile {
             bytes: Vec::new(alloc),
             at: 0,
@@ -46,18 +57,20 @@ fn write_over(bytes: &mut [u8], at: usize, these: &[u8])
 }
 
 impl SeekableFile for MemFile {
+    ghost failures = { λ _. 0 };
+
     ghost honest = { λ _. true };
 
     ghost stands = { λ f at. f.at ≡ at };
 
-    ghost last = { λ f place byte. get_or f.bytes.items place 0 ≡ byte };
+    ghost last = { λ f place byte. get_or f.bytes place 0 ≡ byte };
 
-    fn go_to(&mut self, at: u64) -> io::Result<()> {
+    fn go_to(&mut self, at: u64) -> Result<(), DiskError> {
         self.at = at as usize;
         Ok(())
     }
 
-    fn read_some(&mut self, bytes: &mut [u8]) -> io::Result<usize> {
+    fn read_some(&mut self, bytes: &mut [u8]) -> Result<usize, DiskError> {
         if self.at >= self.bytes.len() {
             return Ok(0);
         }
@@ -67,9 +80,9 @@ impl SeekableFile for MemFile {
         Ok(n)
     }
 
-    fn write_these(&mut self, bytes: &[u8]) -> io::Result<()> {
+    fn write_these(&mut self, bytes: &[u8]) -> Result<(), DiskError> {
         let Some(end) = self.at.checked_add(bytes.len()) else {
-            return Err(io::Error::from(ErrorKind::Other));
+            return Err(DiskError::NoMemory);
         };
         grow(&mut self.bytes, end)?;
         write_over(&mut self.bytes, self.at, bytes);

@@ -29,7 +29,7 @@ impl<F: SeekableFile + Drop> SpillDisk<F> {
 impl<F: SeekableFile + Drop> TapeDisk for SpillDisk<F> {
     ghost use Rattle.tape_disks.specs.Chosen.{failures_of, writes_of, is_honest, is_last};
 
-    ghost failures = { failures_of };
+    ghost failures = { failures_of F.SeekableFile };
 
     ghost writes = { writes_of };
 

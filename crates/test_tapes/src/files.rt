@@ -1,7 +1,8 @@
 //! Tapes over a file.
 
 use crate::calls::Deck;
-use spill_tapes::{DiskError, FileDisk, TapeDisk};
+use spill_tapes::{DiskError, FileDisk, MemFile, TapeDisk};
+use std::alloc::Global;
 use std::os::unix::fs::MetadataExt;
 use std::test::*;
 use std::{fs, process};
@@ -55,5 +56,24 @@ fn a_file_serves(rt: HostRuntime) -> Result<(), Fail> {
     expect(
         told_over_file(rt, &path),
         "Ok(()), Ok(Some((7, 0))) ab, Ok(Some((9, 1))) , Ok(None) , None, mode 600, 1 written, refused again true, zeros true",
+    )
+}
+
+/// The two records over a disk in a file in memory, and what is read where nothing was written.
+fn told_over_memory(alloc: Global) -> Result<String, Fail> {
+    let mut deck = Deck::new(alloc, FileDisk::new(MemFile::new(alloc)));
+    let mut text = String::new(alloc);
+    let told = deck.tell_case("two", &mut text);
+    let round = round_the_last(&mut deck.disk) == Ok(*b"\0\0abcd\0\0");
+    drop(deck);
+    told?;
+    Ok(format!(in alloc; "{text}, zeros {round}")?)
+}
+
+#[test]
+fn a_file_in_memory_serves(rt: HostRuntime) -> Result<(), Fail> {
+    expect(
+        told_over_memory(rt.alloc()),
+        "Ok(()), Ok(Some((7, 0))) ab, Ok(Some((9, 1))) , Ok(None) , None, zeros true",
     )
 }

@@ -25,5 +25,6 @@ loop-done-preserved g c =
             grind (arith, places)
       ];
       keeps = λ place byte had. c.read_some.ensures.keeps place byte (c.loop-done.invariant.keeps place byte had);
+      failures = grind (arith, common_steps);
       honesty = c.read_some.ensures.honesty ∙ c.loop-done.invariant.honesty;
     }

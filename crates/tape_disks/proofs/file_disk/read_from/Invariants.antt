@@ -10,6 +10,7 @@ invariant-loop-done g l = record {
   stands : g.F.SeekableFile.stands l.file (l.at + l.done);
   read : IsTrue (g.F.SeekableFile.honest l.fn.file) → FirstAreReadAt (g.F.SeekableFile.last l.fn.file) l.at l.done l.bytes;
   keeps : Keeps (g.F.SeekableFile.last l.fn.file) (g.F.SeekableFile.last l.file);
+  failures : g.F.SeekableFile.failures l.file ≡ g.F.SeekableFile.failures l.fn.file;
   honesty : g.F.SeekableFile.honest l.file ≡ g.F.SeekableFile.honest l.fn.file;
 }
 

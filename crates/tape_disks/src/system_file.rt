@@ -1,0 +1,104 @@
+//! Files of the system.
+ghost use Rattle.std.specs.Prelude.{◌≡◌, ◌≤◌, false, IfOk, OnOk, length};
+ghost use Rattle.std.specs.Io.Seek.{MovesTo};
+ghost use Rattle.std.specs.Io.KnownBytes.{Appends, ReadConsumes};
+
+use crate::disk::DiskError;
+use crate::seekable_file::SeekableFile;
+use std::io;
+use std::io::{Read, Seek, SeekFrom, Write};
+use std::marker::Model;
+
+/// A file of the system, which counts its failures. No contract says what such a file holds, so that none is called honest: that it gives
+/// back what was written to it is the premise of what is promised over it. Each method makes one call, and does to what is known of the
+/// file's bytes and place what that does. An interrupted call is a failure. Where 2^128 - 1 failures were counted it is called no more, and
+/// answers `NoMemory`.
+#[derive(Drop)]
+pub struct SystemFile<F: Read + Write + Seek + Drop> {
+    file: F,
+    failures: u128,
+    /// The last failure.
+    cause: Option<io::Error>,
+}
+
+impl<F: Read + Write + Seek + Drop> Model for SystemFile<F> {
+    ghost use Rattle.tape_disks.specs.Files.{SystemState};
+
+    ghost Value = { SystemState F };
+
+    ghost view = { λ f. record { file = f.file; failures = f.failures } };
+}
+
+impl<F: Read + Write + Seek + Drop> SystemFile<F> {
+    /// A file that has not failed yet.
+    pub fn new(file: F) -> SystemFile<F>
+        ensures { result ≡ record { file = file; failures = 0 } }
+    {
+        SystemFile {
+            file,
+            failures: 0,
+            cause: None,
+        }
+    }
+
+    /// Why its last call that failed did so, if one did.
+    pub fn cause(&self) -> Option<io::Error> {
+        self.cause
+    }
+}
+
+impl<F: Read + Write + Seek + Drop> SeekableFile for SystemFile<F> {
+    ghost failures = { λ f. f.failures };
+
+    ghost honest = { λ _. false };
+
+    ghost stands = { λ _ _. Unit {0} };
+
+    ghost last = { λ _ _ _. Unit {0} };
+
+    fn go_to(&mut self, at: u64) -> Result<(), DiskError>
+        ensures moves { MovesTo (F.stream_position self.old.file) (F.stream_position self.new.file) at result }
+    {
+        if self.failures == u128::MAX {
+            return Err(DiskError::NoMemory);
+        }
+        if let Err(cause) = self.file.seek(SeekFrom::Start(at)) {
+            self.failures += 1;
+            self.cause = Some(cause);
+            return Err(DiskError::TapeFault);
+        }
+        Ok(())
+    }
+
+    fn read_some(&mut self, bytes: &mut [u8]) -> Result<usize, DiskError>
+        ensures len { length bytes.new ≡ length bytes.old }
+        ensures most { IfOk result (λ n. n ≤ length bytes.old) }
+        ensures bytes { ReadConsumes (F.remaining self.old.file) (F.remaining self.new.file) result bytes.new }
+    {
+        if self.failures == u128::MAX {
+            return Err(DiskError::NoMemory);
+        }
+        match self.file.read(bytes) {
+            Ok(n) => Ok(n),
+            Err(cause) => {
+                self.failures += 1;
+                self.cause = Some(cause);
+                Err(DiskError::TapeFault)
+            }
+        }
+    }
+
+    fn write_these(&mut self, bytes: &[u8]) -> Result<(), DiskError>
+        ensures bytes { OnOk result (Appends (F.contents self.old.file) (F.contents self.new.file) bytes.now) }
+    {
+        if self.failures == u128::MAX {
+            return Err(DiskError::NoMemory);
+        }
+        if let Err(cause) = self.file.write_all(bytes) {
+            self.failures += 1;
+            self.cause = Some(cause);
+            return Err(DiskError::TapeFault);
+        }
+        Ok(())
+    }
+}
