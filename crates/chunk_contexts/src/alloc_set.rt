@@ -258,7 +258,7 @@ impl AllocSet {
     pub fn grows_by_rule(&self)
         ensures { GrowsByRule self.now }
     {
-        let _lists = &self.lists;
+        let _grown_by_rule = &self.lists;
     }
 
     /// Makes a chunk of `len` bytes `n` bytes long, in a new chunk.

@@ -61,7 +61,7 @@ impl Slab {
     pub fn spare_by_count(&self)
         ensures { has_spare self.now ≡ nat_lt (length self.now.chunks) (per_block (rounded self.now.size) * block_count self.now.blocks) }
     {
-        let _inner = &self.inner;
+        let _counted = &self.inner;
     }
 }
 

@@ -62,7 +62,7 @@ impl ChunkLayout {
     pub fn are_laid(&self)
         ensures { AreLaid self.now.blocks self.now.contents }
     {
-        let _blocks = &self.blocks;
+        let _laid = &self.blocks;
     }
 
     /// The bytes of all blocks together.

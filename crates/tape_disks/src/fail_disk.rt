@@ -1,5 +1,7 @@
 //! A disk that fails once.
-ghost use Rattle.std.specs.Prelude.{◌≡◌, ◌+◌, ◌-◌, ◌==◌, ◌&&◌, ◌||◌, not, cond, false, is_err, IfErr};
+ghost use Rattle.std.specs.Prelude.{◌≡◌, ◌+◌, ◌-◌, ◌<◌, ◌^◌, ◌||◌, cond, true, false, is_err, IfErr, length};
+ghost use Rattle.tape_disks.specs.Disk.{IsReadOf, IsWriteOf};
+ghost use Rattle.tape_disks.specs.Faulty.{FailsOnce, is_due};
 ghost use Rattle.tape_disks.specs.declared.disk.DiskError.TheVariants.{TapeFault};
 
 use crate::disk::{DiskError, TapeDisk};
@@ -50,7 +52,7 @@ impl<D: TapeDisk + Drop> FailDisk<D> {
 
     /// Counts a call, and fails it if it is the one.
     fn count_call(&mut self) -> Result<(), DiskError>
-        ensures due { is_err result ≡ (not self.old.failed && self.old.before == 0) }
+        ensures due { is_err result ≡ is_due self.old }
         ensures fault { IfErr result (λ error. error ≡ TapeFault) }
         ensures failed { self.new.failed ≡ (self.old.failed || is_err result) }
         ensures counted { self.new.before ≡ self.old.before - 1 }
@@ -62,6 +64,25 @@ impl<D: TapeDisk + Drop> FailDisk<D> {
         }
         self.before = self.before.saturating_sub(1);
         Ok(())
+    }
+
+    /// Reads from the disk behind, unless this is the call that fails: `TapeFault` then, and nothing is changed.
+    pub fn read_or_fail(&mut self, at: u64, bytes: &mut [u8]) -> Result<(), DiskError>
+        requires { at + length bytes.old < 2 ^ 63 }
+        ensures call { FailsOnce (IsReadOf D.TapeDisk at bytes.old bytes.new) self.old result self.new }
+        ensures untouched { is_due self.old ≡ true → bytes.new ≡ bytes.old }
+    {
+        self.count_call()?;
+        self.inner.read_at(at, bytes)
+    }
+
+    /// Writes to the disk behind, unless this is the call that fails: `TapeFault` then, and nothing is changed.
+    pub fn write_or_fail(&mut self, at: u64, bytes: &[u8]) -> Result<(), DiskError>
+        requires { at + length bytes.now < 2 ^ 63 }
+        ensures { FailsOnce (IsWriteOf D.TapeDisk at bytes.now) self.old result self.new }
+    {
+        self.count_call()?;
+        self.inner.write_at(at, bytes)
     }
 }
 
@@ -75,12 +96,10 @@ impl<D: TapeDisk + Drop> TapeDisk for FailDisk<D> {
     ghost last = { λ d. D.TapeDisk.last d.inner };
 
     fn read_at(&mut self, at: u64, bytes: &mut [u8]) -> Result<(), DiskError> {
-        self.count_call()?;
-        self.inner.read_at(at, bytes)
+        self.read_or_fail(at, bytes)
     }
 
     fn write_at(&mut self, at: u64, bytes: &[u8]) -> Result<(), DiskError> {
-        self.count_call()?;
-        self.inner.write_at(at, bytes)
+        self.write_or_fail(at, bytes)
     }
 }

@@ -1,6 +1,6 @@
 //! A disk that flips bits.
-ghost use Rattle.std.specs.Prelude.{◌≡◌, ◌≢◌, ◌+◌, ◌<◌, ◌^◌, ℕ, false, length, get_or};
-ghost use Rattle.tape_disks.specs.Faulty.{flipped};
+ghost use Rattle.std.specs.Prelude.{◌≡◌, ◌≢◌, ◌+◌, ◌<◌, ◌^◌, false, length};
+ghost use Rattle.tape_disks.specs.Faulty.{AreFlipped, ReadsFlipped};
 
 use crate::disk::{DiskError, TapeDisk};
 use crate::limits::PAGE;
@@ -39,13 +39,23 @@ impl<D: TapeDisk + Drop> FlipDisk<D> {
     {
         &self.inner
     }
+
+    /// Reads from the disk behind, and flips the bits of the one byte of each page in what was read.
+    pub fn read_flipped(&mut self, at: u64, bytes: &mut [u8]) -> Result<(), DiskError>
+        requires { at + length bytes.old < 2 ^ 63 }
+        ensures { ReadsFlipped D.TapeDisk at bytes.old bytes.new self.old result self.new }
+    {
+        self.inner.read_at(at, bytes)?;
+        flip(self.at, self.mask, at, bytes);
+        Ok(())
+    }
 }
 
 /// Flips bits of the byte at one place of each page, in bytes that were read from a place on.
 fn flip(at: u64, mask: u8, from: u64, bytes: &mut [u8])
     requires { from + length bytes.old < 2 ^ 63 }
     ensures len { length bytes.new ≡ length bytes.old }
-    ensures flipped { (k : ℕ) → k < length bytes.old → get_or bytes.new k 0 ≡ flipped at mask (from + k) (get_or bytes.old k 0) }
+    ensures flipped { AreFlipped at mask from bytes.old bytes.new }
 {
     for offset in 0..bytes.len() {
         let place = from + offset as u64;
@@ -65,9 +75,7 @@ impl<D: TapeDisk + Drop> TapeDisk for FlipDisk<D> {
     ghost last = { λ d. D.TapeDisk.last d.inner };
 
     fn read_at(&mut self, at: u64, bytes: &mut [u8]) -> Result<(), DiskError> {
-        self.inner.read_at(at, bytes)?;
-        flip(self.at, self.mask, at, bytes);
-        Ok(())
+        self.read_flipped(at, bytes)
     }
 
     fn write_at(&mut self, at: u64, bytes: &[u8]) -> Result<(), DiskError> {
