@@ -1,4 +1,5 @@
 pub mod Commands
 pub mod Results
+pub mod Outcomes
 pub mod ResultLaws
 pub mod Lemmas

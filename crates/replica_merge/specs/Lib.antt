@@ -1,5 +1,6 @@
 pub mod Replicas
 pub mod Results
+pub mod Outcomes
 pub mod DeliveryLaws
 pub mod MergeLaws
 pub mod Coding

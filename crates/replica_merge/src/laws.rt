@@ -1,8 +1,11 @@
 //! Laws of merging.
 
-ghost use Rattle.std.specs.Prelude.{◌≡◌, ◌≤◌, ◌↔◌, ℕ, Bool, List, map, IsUtf8};
+ghost use Rattle.std.specs.Prelude.{◌≡◌, ◌≤◌, ◌↔◌, ℕ, Bool, List, Result, map, IsUtf8};
 ghost use Rattle.grouping_model.specs.World.{World, IsWorld, Knowledge};
+ghost use Rattle.grouping_model.specs.declared.delivered.Delivered.{Delivered};
 ghost use Rattle.packed_rows.specs.Columns.{kinds};
+ghost use Rattle.batch_reader.specs.declared.batch.Batch.{Batch};
+ghost use Rattle.origin_prefix.specs.declared.error.RefusedBatch.{RefusedBatch};
 ghost use Rattle.agg_protocol.specs.States.{most_rows};
 ghost use Rattle.hash_agg.specs.Inputs.{all_rows};
 ghost use Rattle.having_filter.specs.Kept.{IsCheckedQuery, by_names};
@@ -11,7 +14,28 @@ ghost use Rattle.summary_codec.specs.Worlds.{IsWorldFile};
 ghost use Rattle.summary_codec.specs.declared.version.Version.{Version};
 ghost use Rattle.query_checks.specs.Checks.{Checked};
 ghost use Rattle.query_checks.specs.Spelling.{spelling};
+ghost use Rattle.replica_merge.specs.Outcomes.{AfterDelivery, AfterJoin, AfterMerge};
+ghost use Rattle.replica_merge.specs.Results.{DeliversBatch, JoinsReplicas, MergesReplicas};
+ghost use Rattle.replica_merge.specs.declared.error.MergeError.{MergeError};
 ghost use Rattle.replica_merge.specs.Replicas.{Parts, Held, told, Fits, AreHeldParts, MergesParts, MergesIn, counted_part};
+
+/// What holds after a delivery, by what `deliver` tells.
+pub fn delivered_batch()
+    ensures { (honest : Bool) (old new : Held) (batch : Batch) (result : Result Delivered RefusedBatch) →
+        DeliversBatch honest old batch new result → AfterDelivery honest old batch new result }
+{}
+
+/// What holds after a join, by what `join` tells.
+pub fn joined_replicas()
+    ensures { (honest : Bool) (own theirs : Held) (result : Result Parts MergeError) →
+        JoinsReplicas honest own theirs result → AfterJoin own theirs result }
+{}
+
+/// What holds after a merge, by what `merge` tells.
+pub fn merged_replicas()
+    ensures { {T : Type 0} (honest : Bool) (old other new : Held) (result : Result T MergeError) →
+        MergesReplicas honest old other new result → AfterMerge honest old other new result }
+{}
 
 /// In what is told, merging depends neither on which replica takes the other, nor on how several are grouped, and once more
 /// gives nothing new.

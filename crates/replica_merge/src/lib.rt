@@ -11,7 +11,7 @@ mod uniting;
 
 pub use error::MergeError;
 pub use known_origin::KnownOrigin;
-pub use laws::{countable_rows, files_that_fit, merged_files, merged_knowledge};
+pub use laws::{countable_rows, delivered_batch, files_that_fit, joined_replicas, merged_files, merged_knowledge, merged_replicas};
 pub use merging::Joined;
 pub use origin_prefix::{Delivered, JoinError, RefusedBatch};
 pub use replica::Replica;

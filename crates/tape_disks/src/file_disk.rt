@@ -34,7 +34,7 @@ pub struct FileDisk<F: SeekableFile + Drop> {
 }
 
 impl<F: SeekableFile + Drop> Model for FileDisk<F> {
-    ghost use Rattle.tape_disks.specs.Faulty.{FileState};
+    ghost use Rattle.tape_disks.specs.Files.{FileState};
 
     ghost Value = { FileState F };
 

@@ -1,7 +1,9 @@
 //! Files of the system.
-ghost use Rattle.std.specs.Prelude.{◌≡◌, ◌≤◌, false, IfOk, OnOk, length};
+ghost use Rattle.std.specs.Prelude.{◌≡◌, ◌+◌, ◌≤◌, false, IfOk, OnOk, length};
 ghost use Rattle.std.specs.Io.Seek.{MovesTo};
 ghost use Rattle.std.specs.Io.KnownBytes.{Appends, ReadConsumes};
+ghost use Rattle.tape_disks.specs.Calls.{failed};
+ghost use Rattle.tape_disks.specs.Errors.{disk_faults};
 
 use crate::disk::DiskError;
 use crate::seekable_file::SeekableFile;
@@ -58,6 +60,7 @@ impl<F: Read + Write + Seek + Drop> SeekableFile for SystemFile<F> {
 
     fn go_to(&mut self, at: u64) -> Result<(), DiskError>
         ensures moves { MovesTo (F.stream_position self.old.file) (F.stream_position self.new.file) at result }
+        ensures failures { self.new.failures ≡ self.old.failures + failed disk_faults result }
     {
         if self.failures == u128::MAX {
             return Err(DiskError::NoMemory);
@@ -74,6 +77,7 @@ impl<F: Read + Write + Seek + Drop> SeekableFile for SystemFile<F> {
         ensures len { length bytes.new ≡ length bytes.old }
         ensures most { IfOk result (λ n. n ≤ length bytes.old) }
         ensures bytes { ReadConsumes (F.remaining self.old.file) (F.remaining self.new.file) result bytes.new }
+        ensures failures { self.new.failures ≡ self.old.failures + failed disk_faults result }
     {
         if self.failures == u128::MAX {
             return Err(DiskError::NoMemory);
@@ -90,6 +94,7 @@ impl<F: Read + Write + Seek + Drop> SeekableFile for SystemFile<F> {
 
     fn write_these(&mut self, bytes: &[u8]) -> Result<(), DiskError>
         ensures bytes { OnOk result (Appends (F.contents self.old.file) (F.contents self.new.file) bytes.now) }
+        ensures failures { self.new.failures ≡ self.old.failures + failed disk_faults result }
     {
         if self.failures == u128::MAX {
             return Err(DiskError::NoMemory);
