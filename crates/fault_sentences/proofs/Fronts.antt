@@ -1,11 +1,12 @@
 -- Texts that begin a query, by how many of their tokens do.
+use Rattle.std.specs.Prelude.{◌↔◌, OnOk, Result, Err}
 use Rattle.std.proofs.Common.{◌≡◌, ℕ, ◌+◌, List, [], ◌∷◌, ◌++◌, length, Ok, sym, ap, subst, ◌∙◌, arith}
-use Rattle.std.proofs.lemmas.List.{append-nil, length-append, length-map}
-use Rattle.query_tokens.specs.Words.{Lexeme, Placed}
+use Rattle.std.proofs.lemmas.List.{append-nil, append_assoc, length-append, length-map}
+use Rattle.query_tokens.specs.Words.{Lexeme, Placed, Fault}
 use Rattle.query_tokens.specs.Tokens.{tokens_in}
 use Rattle.query_tokens.specs.Spelling.{lexemes_of}
-use Rattle.query_grammar.specs.Queries.{Begins, most_open}
-use Rattle.group_parser.specs.Fronts.{IsLongestFront}
+use Rattle.query_grammar.specs.Queries.{Begins, IsQuery, most_open}
+use Rattle.group_parser.specs.Fronts.{IsLongestFront, NoneFollows}
 use Rattle.fault_sentences.specs.Fronts.{IsFront}
 
 -- a front that has as many tokens as there are is all of them
@@ -24,3 +25,36 @@ is_front text placed count read a all = record {
   begins = all_begin most_open (lexemes_of placed) a.front a.rest a.split (a.many ∙ all ∙ sym (length-map placed (λ t. t.lexeme)))
       a.begins;
 }
+
+-- what begins a query has fronts that do
+front_begins : (limit : ℕ) (front : List Lexeme) (t : Lexeme) (rest : List Lexeme) → Begins limit (front ++ t ∷ rest)
+    → Begins limit (front ++ t ∷ [])
+front_begins limit front t rest b = record {
+  more = rest ++ b.more;
+  asked = b.asked;
+  is_query = subst (λ (u : List Lexeme). IsQuery limit u b.asked)
+      (append_assoc front (t ∷ rest) b.more ∙ sym (append_assoc front (t ∷ []) (rest ++ b.more))) b.is_query;
+}
+
+-- the longest front of what begins a query is all of it
+all_begun : (limit : ℕ) (ts front rest : List Lexeme) → ts ≡ front ++ rest → NoneFollows limit front rest → Begins limit ts
+    → length front ≡ length ts
+all_begun limit ts front [] split ends b = sym (ap length (split ∙ append-nil front))
+all_begun limit ts front (t ∷ rest) split ends b =
+    absurd (ends (front_begins limit front t rest (subst (λ (u : List Lexeme). Begins limit u) split b)))
+
+-- the tokens that were read, none where there was a fault
+read_tokens : Result (List Placed) Fault → List Placed
+read_tokens (Ok placed) = placed
+read_tokens (Err fault) = []
+
+pub is_begun : (text : List ℕ) (placed : List Placed) (count : ℕ) → tokens_in text ≡ Ok placed
+    → IsLongestFront most_open (lexemes_of placed) count → IsFront text → count ≡ length placed
+is_begun text placed count read a front =
+    let same : front.tokens ≡ placed = ap read_tokens (sym front.read ∙ read) in
+    sym a.many ∙ all_begun most_open (lexemes_of placed) a.front a.rest a.split a.ends
+    (subst (λ (p : List Placed). Begins most_open (lexemes_of p)) same front.begins) ∙ length-map placed (λ t. t.lexeme)
+
+-- a text with a fault begins none
+pub is_no_front : (text : List ℕ) (fault : Fault) → tokens_in text ≡ Err fault → ¬ (IsFront text)
+is_no_front text fault read front = subst (λ (r : Result (List Placed) Fault). OnOk r ⊥) (sym read ∙ front.read) tt

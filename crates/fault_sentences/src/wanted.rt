@@ -1,6 +1,6 @@
 //! What may stand next in a query: what the parser goes on with.
 
-ghost use Rattle.std.specs.Prelude.{◌≡◌, ◌++◌, true, codes, IfOk};
+ghost use Rattle.std.specs.Prelude.{◌↔◌, ◌++◌, codes, IfOk, IsTrue};
 ghost use Rattle.fault_sentences.specs.Fronts.{IsFront};
 
 use group_parser::count_begun;
@@ -66,9 +66,9 @@ fn said_of(alloc: Global, words: &[&str]) -> Result<String, AllocError> {
 }
 
 /// Whether a query begins with the tokens of a text.
-#[tactic(auto, using(crate::proofs::Fronts::is_front))]
+#[tactic(auto, using(crate::proofs::Fronts::is_front, crate::proofs::Fronts::is_begun, crate::proofs::Fronts::is_no_front))]
 pub(crate) fn begins(alloc: Global, text: &str) -> Result<bool, AllocError>
-    ensures { IfOk result (λ begins. begins ≡ true → IsFront text.now) }
+    ensures { IfOk result (λ begins. IsTrue begins ↔ IsFront text.now) }
 {
     match tokens(alloc, text) {
         Ok(found) => Ok(count_begun(alloc, &found)? == found.len()),
@@ -79,8 +79,7 @@ pub(crate) fn begins(alloc: Global, text: &str) -> Result<bool, AllocError>
 
 /// Whether a query goes on so behind a front.
 pub(crate) fn goes_on(alloc: Global, front: &str, next: &str) -> Result<bool, AllocError>
-    ensures { IfOk result (λ goes_on. goes_on ≡ true →
-        IsFront (front.now ++ codes " " ++ next.now)) }
+    ensures { IfOk result (λ goes_on. IsTrue goes_on ↔ IsFront (front.now ++ codes " " ++ next.now)) }
 {
     let mut text = String::from_str(alloc, front)?;
     text.push_str(" ")?;

@@ -21,6 +21,7 @@ mod whole;
 pub use checking::{check_order, check_parts, text_of_known};
 pub use condition::{AggCall, Cond, Item, RawQuery};
 pub use error::QueryError;
+pub use levels::precedence;
 pub use mapping::{Mapping, mapped_call, mapped_clause};
 pub use operators::{Comparison, IsTest};
 pub use order::{OrderBy, OrderTerm, RawTerm, label};
