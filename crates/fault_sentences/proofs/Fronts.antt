@@ -2,7 +2,8 @@
 use Rattle.std.specs.Prelude.{◌↔◌, OnOk, Result, Err}
 use Rattle.std.proofs.Common.{◌≡◌, ℕ, ◌+◌, List, [], ◌∷◌, ◌++◌, length, Ok, sym, ap, subst, ◌∙◌, arith}
 use Rattle.std.proofs.lemmas.List.{append-nil, append_assoc, length-append, length-map}
-use Rattle.query_tokens.specs.Words.{Lexeme, Placed, Fault}
+use Rattle.query_tokens.specs.Words.{Lexeme, Placed}
+use Rattle.query_tokens.specs.declared.fault.Fault.{Fault}
 use Rattle.query_tokens.specs.Tokens.{tokens_in}
 use Rattle.query_tokens.specs.Spelling.{lexemes_of}
 use Rattle.query_grammar.specs.Queries.{Begins, IsQuery, most_open}
@@ -50,6 +51,7 @@ read_tokens (Err fault) = []
 
 pub is_begun : (text : List ℕ) (placed : List Placed) (count : ℕ) → tokens_in text ≡ Ok placed
     → IsLongestFront most_open (lexemes_of placed) count → IsFront text → count ≡ length placed
+unfolding read_tokens
 is_begun text placed count read a front =
     let same : front.tokens ≡ placed = ap read_tokens (sym front.read ∙ read) in
     sym a.many ∙ all_begun most_open (lexemes_of placed) a.front a.rest a.split a.ends
