@@ -13,7 +13,7 @@ use Rattle.context_tree.proofs.Slots.{refill-whole}
 use Rattle.context_tree.specs.Lemmas.Forest.{root-not-under, root-not-below, below-self, under-past, under-other, under-closed}
 use Rattle.context_tree.specs.Lemmas.Forest.{below-closed, forest-cleared}
 
-cond-same : {X : Type 0} (b : Bool) (x : X) → cond b x x ≡ x
+pub cond-same : {X : Type 0} (b : Bool) (x : X) → cond b x x ≡ x
 cond-same true x = refl
 cond-same false x = refl
 
@@ -119,19 +119,19 @@ module _ (old : List (Option Link)) (forest : IsForest old) (above : ℕ) where
     }
 
   -- and that one too
-  pub cut-too : (now : List (Option Link)) → now ≡ cleared (is_under old above) None 0 old → above < length old → set now above None
-      ≡ cleared (is_below old above) None 0 old
-  cut-too now is low =
-      let long : length now ≡ length old = ap length is ∙ length-cleared (is_under old above) None 0 old in
-      is-cleared (is_below old above) None old (set now above None) (length-set now above None ∙ long) (λ i. elim (cases_eq i above) [
+  pub cut-too : {X : Type 0} (x : X) (ys now : List X) → now ≡ cleared (is_under old above) x 0 ys → above < length ys → set now above x
+      ≡ cleared (is_below old above) x 0 ys
+  cut-too {X = X} x ys now is low =
+      let long : length now ≡ length ys = ap length is ∙ length-cleared (is_under old above) x 0 ys in
+      is-cleared (is_below old above) x ys (set now above x) (length-set now above x ∙ long) (λ i. elim (cases_eq i above) [
         | inl same ↦
-            ap (λ (j : ℕ). get_or (set now above None) j None) same ∙ get_or-set_same now above None None (omega (arith, long, low))
-            ∙ sym (cond-true (is_below old above i) None (get_or old i None) (ap (λ (a : ℕ). is_below old a i) (sym same)
+            ap (λ (j : ℕ). get_or (set now above x) j x) same ∙ get_or-set_same now above x x (omega (arith, long, low))
+            ∙ sym (cond-true (is_below old above i) x (get_or ys i x) (ap (λ (a : ℕ). is_below old a i) (sym same)
             ∙ below-self old forest i))
         | inr ne ↦
-            get_or-set_other now above i None None ne ∙ ap (λ (ls : List (Option Link)). get_or ls i None) is
-            ∙ get_or-cleared (is_under old above) None old i
-            ∙ ap (λ (b : Bool). cond b None (get_or old i None)) (under-other old forest above i ne)
+            get_or-set_other now above i x x ne ∙ ap (λ (ls : List X). get_or ls i x) is
+            ∙ get_or-cleared (is_under old above) x ys i
+            ∙ ap (λ (b : Bool). cond b x (get_or ys i x)) (under-other old forest above i ne)
       ])
 
   pub forest-pruned : IsForest (cleared (is_under old above) None 0 old)

@@ -56,10 +56,14 @@ module _ (ls : List (Option Link)) (cs : List Context) (last slot : ℕ) (low : 
   ]
 
   -- it holds nothing
+  pub held-made : (made : Kind) → c ≡ new_context made → get_or ls slot None ≡ None → Emptied ls cs → held_by_all (placed cs slot c)
+      ≡ held_by_all cs
+  held-made made new free empty = all-placed cs slot c (omega (arith, low, long)) (empty slot free) (ap held_by new ∙ nothing-held made)
+
   pub bounded-made : (made : Kind) → c ≡ new_context made → get_or ls slot None ≡ None → Emptied ls cs → IsBounded cs
       → IsBounded (placed cs slot c)
   bounded-made made new free empty bounded =
-      let same = all-placed cs slot c (omega (arith, low, long)) (empty slot free) (ap held_by new ∙ nothing-held made) in
+      let same = held-made made new free empty in
       omega (arith, same, bounded)
 
   pub long-made : length (placed cs slot c) ≡ length (placed ls slot (Some link))
@@ -127,17 +131,20 @@ module _ (x : Inside) (are : AreFields x) (now : TreeState) (view : tree_of x �
           capacity = x.contexts.capacity;
         };
         last = x.last;
+        held = x.held;
       })
-  fields-lent was c is holds = record {
-    long = length-set cs id.slot c ∙ are.long;
-    stamps = are.stamps;
-    empty = empty-written c;
-    bounded =
-        let same = ap held_by (is ∙ get_or_default cs id.slot was no_context slot-low) in
-        let sum = all-set cs id.slot c slot-low in
-        let bounded = are.bounded in
-        omega (arith, same, sum, holds, bounded);
-  }
+  fields-lent was c is holds =
+      let same = ap held_by (is ∙ get_or_default cs id.slot was no_context slot-low) in
+      let sum = all-set cs id.slot c slot-low in
+      let bounded = are.bounded in
+      let held = are.held in
+      record {
+        long = length-set cs id.slot c ∙ are.long;
+        stamps = are.stamps;
+        empty = empty-written c;
+        bounded = omega (arith, same, sum, holds, bounded);
+        held = omega (arith, same, sum, holds, held);
+      }
 
   -- what is read of it in one list is what is changed in another
   pub read-changed : (e d : List Context) (other read : Context) → e ≡ cs → d ≡ cs → read ≡ get_or e id.slot read → read
@@ -160,7 +167,8 @@ module _ (x : Inside) (now : TreeState) (id : ContextId) (d : List Context) (is 
   low : id.slot < length all
   low = slot-low x is.are now is.view id is.there
 
-  pub fields-written : held_by_all all + held_by c < 9223372036854775808 + held_by (get_or all id.slot no_context)
+  -- the tree holds as much more or less as it does
+  pub fields-written : (held : ℕ) → held + held_by (get_or all id.slot no_context) ≡ x.held + held_by c → held < 9223372036854775808
       → AreFields (record {
         alloc = x.alloc;
         links = x.links;
@@ -169,14 +177,19 @@ module _ (x : Inside) (now : TreeState) (id : ContextId) (d : List Context) (is 
           capacity = x.contexts.capacity;
         };
         last = x.last;
+        held = held;
       })
-  fields-written fits =
+  fields-written held moved fits =
       let put = whole x is.are now is.view id is.there d is.same c in
+      let sum = all-set all id.slot c low in
+      let was = is.are.held in
+      let all-held : held ≡ held_by_all (set all id.slot c) = omega (arith, sum, moved, was) in
       record {
         long = ap length put ∙ length-set all id.slot c ∙ is.are.long;
         stamps = is.are.stamps;
         empty = subst (Emptied x.links) (sym put) (empty-written x is.are now is.view id is.there c);
-        bounded = subst IsBounded (sym put) (let sum = all-set all id.slot c low in omega (arith, sum, fits));
+        bounded = subst IsBounded (sym put) (omega (arith, all-held, fits));
+        held = all-held ∙ ap held_by_all (sym put);
       }
 
   -- what was lent, and what it became, are the contexts before and after; and one that stays as it was changes nothing
@@ -209,20 +222,31 @@ module _ (x : Inside) (now : TreeState) (id : ContextId) (d : List Context) (is 
     unchanged stays = new-by (λ a. a) stays ∙ ap (λ (l : List Context). record { links = now.links; contexts = l; last = now.last })
         (set-get_or now.contexts id.slot no_context)
 
-    -- it holds no more than it did and a growth for which there is room
-    pub fits-grown : (growth : ℕ) → held_by c ≤ held_by (get_or d id.slot other) + growth → held_by_all all + growth < 9223372036854775808
-        → held_by_all all + held_by c < 9223372036854775808 + held_by (get_or all id.slot no_context)
-    fits-grown growth less room =
+    -- it held no more than all do
+    pub old-held : held_by (get_or d id.slot other) ≤ x.held
+    old-held =
         let was = ap held_by (ap (λ (l : List Context). get_or l id.slot other) is.same ∙ get_or_default all id.slot other no_context low)
         in
-        omega (arith, less, room, was)
+        let sum = all-set all id.slot no_context low in
+        let held = is.are.held in
+        omega (arith, was, sum, held)
 
-    -- where the growth was looked at first, in the same contexts
-    pub fits-asked : (growth : ℕ) (e : List Context) → e ≡ all → held_by c ≤ held_by (get_or d id.slot other) + growth → held_by_all e
-        + growth < 9223372036854775808
-        → held_by_all all + held_by c < 9223372036854775808 + held_by (get_or all id.slot no_context)
-    fits-asked growth e asked less room = fits-grown growth less (subst (λ (l : List Context). held_by_all l + growth < 9223372036854775808)
-        asked room)
+    -- the tree holds as much more or less as it does, by what was lent
+    pub fields-moved : (held : ℕ) → held + held_by (get_or d id.slot other) ≡ x.held + held_by c → held < 9223372036854775808
+        → AreFields (record {
+          alloc = x.alloc;
+          links = x.links;
+          contexts = record {
+            items = refill (length all) all (set d id.slot c);
+            capacity = x.contexts.capacity;
+          };
+          last = x.last;
+          held = held;
+        })
+    fields-moved held moved fits =
+        let was = ap held_by (ap (λ (l : List Context). get_or l id.slot other) is.same ∙ get_or_default all id.slot other no_context low)
+        in
+        fields-written held (omega (arith, was, moved)) fits
 
 -- other bytes were put into a chunk
 pub written-on : (t : TreeState) (id : ContextId) (name : ChunkName) (at : ℕ) (bytes new : List ℕ) → is_there t id ≡ true → IsWhole t
@@ -275,55 +299,39 @@ pub refused-made : {X : Type 0} {there spent here none : Bool} {refusal why : Op
 refused-made (Ok x) not is last own = tt
 refused-made (Err e) not is last own = not-made e is last own not
 
--- contexts are given up: those in the slots that are emptied
-pub record AreGivenUp (x : Inside) (gone : ℕ → Bool) (ls : List (Option Link)) (d ds : List Context) : Type 0 where
+-- contexts are given up: those in the slots that are emptied. So much was held by them
+pub record AreGivenUp (x : Inside) (gone : ℕ → Bool) (ls : List (Option Link)) (d ds : List Context) (given : ℕ) : Type 0 where
   pub are : AreFields x
   pub links : ls ≡ cleared gone None 0 x.links
   pub same : d ≡ x.contexts.items
-  pub as-long : length ds ≡ length d
-  pub told : (k : ℕ) → get_or ds k no_context ≡ cond (is_some (get_or ls k None)) (get_or d k no_context) no_context
+  pub told : ds ≡ cleared gone no_context 0 d
+  pub sum : held_by_all ds + given ≡ held_by_all d
 
--- they were as many as the links that stay
-pub given-long : (x : Inside) → AreFields x → (gone : ℕ → Bool) (ls : List (Option Link)) (d : List Context) → ls
-    ≡ cleared gone None 0 x.links → d ≡ x.contexts.items → length d ≡ length ls
-given-long x are gone ls d links same = ap length same ∙ are.long ∙ sym (ap length links ∙ length-cleared gone None 0 x.links)
-
-module _ (x : Inside) (gone : ℕ → Bool) (ls : List (Option Link)) (d ds : List Context) (up : AreGivenUp x gone ls d ds) where
-  long : length ds ≡ length x.contexts.items
-  long = up.as-long ∙ ap length up.same
-
+module _ (x : Inside) (gone : ℕ → Bool) (ls : List (Option Link)) (d ds : List Context) (given : ℕ)
+    (up : AreGivenUp x gone ls d ds given) where
   link-is : (k : ℕ) → get_or ls k None ≡ cond (gone k) None (get_or x.links k None)
   link-is k = ap (λ (l : List (Option Link)). get_or l k None) up.links ∙ get_or-cleared gone None x.links k
-
-  -- where the link is kept, the context is, and where there was none, there is none
-  kept : (k : ℕ) (link : Option Link) → get_or x.links k None ≡ link → cond (is_some link) (get_or x.contexts.items k no_context) no_context
-      ≡ get_or x.contexts.items k no_context
-  kept k None free = sym (up.are.empty k free)
-  kept k (Some link) free = refl
-
-  context-is : (k : ℕ) → get_or ds k no_context ≡ cond (gone k) no_context (get_or x.contexts.items k no_context)
-  context-is k =
-      up.told k ∙ ap (λ (cs : List Context). cond (is_some (get_or ls k None)) (get_or cs k no_context) no_context) up.same
-      ∙ elim (cases_Bool (gone k)) [
-        | inl goes ↦
-            ap (λ (l : Option Link). cond (is_some l) (get_or x.contexts.items k no_context) no_context) (link-is k
-            ∙ cond-true (gone k) None (get_or x.links k None) goes)
-            ∙ sym (cond-true (gone k) no_context (get_or x.contexts.items k no_context) goes)
-        | inr stays ↦
-            ap (λ (l : Option Link). cond (is_some l) (get_or x.contexts.items k no_context) no_context) (link-is k
-            ∙ cond-false (gone k) None (get_or x.links k None) stays)
-            ∙ kept k (get_or x.links k None) refl
-            ∙ sym (cond-false (gone k) no_context (get_or x.contexts.items k no_context) stays)
-      ]
 
   abbrev n : ℕ
   n = length x.contexts.items
 
+  contexts-are : ds ≡ cleared gone no_context 0 x.contexts.items
+  contexts-are = up.told ∙ ap (cleared gone no_context 0) up.same
+
   pub all-given : refill n x.contexts.items ds ≡ cleared gone no_context 0 x.contexts.items
-  all-given = refill-whole n x.contexts.items ds refl long ∙ is-cleared gone no_context x.contexts.items ds long context-is
+  all-given = refill-whole n x.contexts.items ds refl (ap length contexts-are ∙ length-cleared gone no_context 0 x.contexts.items)
+      ∙ contexts-are
 
   pub given-up : (record { links = ls; contexts = refill n x.contexts.items ds; last = x.last }) ≡ without_slots (tree_of x) gone
   given-up = λ i. record { links = up.links i; contexts = all-given i; last = x.last }
+
+  -- as much was held by all
+  pub given-less : given ≤ x.held
+  given-less =
+      let sum = up.sum in
+      let same = ap held_by_all up.same in
+      let held = up.are.held in
+      omega (arith, sum, same, held)
 
   stamps-kept : Stamped ls x.last
   stamps-kept k link e = elim (cases_Bool (gone k)) [
@@ -343,17 +351,25 @@ module _ (x : Inside) (gone : ℕ → Bool) (ls : List (Option Link)) (d ds : Li
   long-given = length-cleared gone no_context 0 x.contexts.items ∙ up.are.long
       ∙ sym (ap length up.links ∙ length-cleared gone None 0 x.links)
 
-  pub fields-given : AreFields
+  pub fields-given : (held : ℕ) → held + given ≡ x.held → AreFields
       (record {
         alloc = x.alloc;
         links = ls;
         contexts = record { items = refill n x.contexts.items ds; capacity = x.contexts.capacity };
         last = x.last;
+        held = held;
       })
-  fields-given = record {
-    long = ap length all-given ∙ long-given;
-    stamps = stamps-kept;
-    empty = subst (Emptied ls) (sym all-given) empty-kept;
-    bounded = subst IsBounded (sym all-given) (let less = all-cleared gone 0 x.contexts.items in let was = up.are.bounded in omega
-        (arith, less, was));
-  }
+  fields-given held left =
+      let sum = up.sum in
+      let before = ap held_by_all up.same in
+      let after = ap held_by_all all-given in
+      let kept = ap held_by_all contexts-are in
+      let was = up.are.held in
+      record {
+        long = ap length all-given ∙ long-given;
+        stamps = stamps-kept;
+        empty = subst (Emptied ls) (sym all-given) empty-kept;
+        bounded = subst IsBounded (sym all-given) (let less = all-cleared gone 0 x.contexts.items in let was = up.are.bounded in omega
+            (arith, less, was));
+        held = omega (arith, left, sum, before, after, kept, was);
+      }

@@ -1,6 +1,6 @@
 -- What is true of the fields of a `Tree`.
 use Rattle.std.specs.Prelude.{◌≡◌, length}
-use Rattle.context_tree.specs.Tree.{TreeState, Stamped, Emptied, IsBounded}
+use Rattle.context_tree.specs.Tree.{TreeState, Stamped, Emptied, IsBounded, held_by_all}
 use Rattle.context_tree.specs.declared.tree.Tree.TheInside.{Inside}
 
 abbrev pub tree_of : Inside → TreeState
@@ -11,3 +11,4 @@ pub record AreFields (t : Inside) : Type 0 where
   pub stamps : Stamped t.links t.last
   pub empty : Emptied t.links t.contexts.items
   pub bounded : IsBounded t.contexts.items
+  pub held : t.held ≡ held_by_all t.contexts.items

@@ -191,7 +191,7 @@ impl Links {
     pub fn is_forest(&self)
         ensures { IsForest self.now }
     {
-        let _links = &self.links;
+        let _forest = &self.links;
     }
 
     /// The link of the context in a slot, if there is one.
@@ -216,6 +216,13 @@ impl Links {
         ensures { result ≡ is_below self.now above slot }
     {
         is_below(&self.links, slot, above)
+    }
+
+    /// Whether the context in a slot is a descendant of the one in another.
+    pub fn is_under(&self, slot: u32, above: u32) -> bool
+        ensures { result ≡ is_under self.now above slot }
+    {
+        self.is_below(slot, above) && slot != above
     }
 
     /// Puts a link below that in a slot into another slot, which is free, and answers which. A new slot is made only where

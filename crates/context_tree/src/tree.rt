@@ -8,7 +8,7 @@ ghost use Rattle.chunk_contexts.specs.Chunks.{lengths, KeepsOthers};
 ghost use Rattle.chunk_contexts.specs.declared.error.ContextError.TheVariants.{NoMemory};
 ghost use Rattle.context_tree.specs.Contexts.{chunks_of, blocks_of, growth_of, with_bytes, kind_refusal, no_context, has_chunk};
 ghost use Rattle.context_tree.specs.Contexts.{chunk_bytes, held_by, IsCounted, IsGrownByRule};
-ghost use Rattle.context_tree.specs.Links.{is_under, placed, IsFull};
+ghost use Rattle.context_tree.specs.Links.{is_below, is_under, cleared, placed, IsFull};
 ghost use Rattle.context_tree.specs.Tree.{new_tree, is_there, context_at, parent_id, id_in, with_new, without_slots, deleted};
 ghost use Rattle.context_tree.specs.Tree.{reset, held_below, held_from, held_by_all, IsBounded, IsWhole, IsKept, IsNotMade, TreeState};
 ghost use Rattle.context_tree.specs.declared.error.TreeError.TheVariants as error;
@@ -43,6 +43,8 @@ pub struct Tree {
     links: Links,
     contexts: SmallVec<Context, 1>,
     last: u64,
+    /// The bytes of the blocks of all contexts.
+    held: u64,
 }
 
 impl Model for Tree {
@@ -74,17 +76,62 @@ fn put_context(contexts: &mut SmallVec<Context, 1>, slot: usize, context: Contex
     contexts.push_reserved(context);
 }
 
-/// Gives up the contexts of the slots that are free.
-fn give_up_free(contexts: &mut [Context], links: &Links, alloc: Global)
-    requires { length contexts.old ≡ length links.now }
-    ensures { (slot : ℕ) → get_or contexts.new slot no_context
-        ≡ cond (is_some (get_or links.now slot None)) (get_or contexts.old slot no_context) no_context }
+/// Gives up the context in a slot, and answers how many bytes its blocks have.
+fn give_up(contexts: &mut [Context], slot: usize, alloc: Global) -> u64
+    requires { slot < length contexts.old }
+    ensures contexts { contexts.new ≡ slice_set contexts.old slot no_context }
+    ensures given { result ≡ held_by (get_or contexts.old slot no_context) }
 {
-    for slot in 0..links.len() {
-        if links.get(slot as u32).is_none() {
-            replace(contexts, slot, Context::made_with(alloc));
-        }
+    let given = contexts[slot].held();
+    replace(contexts, slot, Context::made_with(alloc));
+    given
+}
+
+/// Gives up the context in a slot if it is a descendant of another, and answers how many bytes are given up with it.
+fn give_up_under(
+    contexts: &mut [Context],
+    links: &Links,
+    slot: usize,
+    above: u32,
+    alloc: Global,
+) -> u64
+    requires there { slot < length contexts.old }
+    requires small { slot < 2 ^ 32 }
+    ensures contexts { contexts.new
+        ≡ slice_set contexts.old slot (cond (is_under links.now above slot) no_context (get_or contexts.old slot no_context)) }
+    ensures given { held_by_all contexts.new + result ≡ held_by_all contexts.old }
+{
+    if !links.is_under(slot as u32, above) {
+        return 0;
     }
+    give_up(contexts, slot, alloc)
+}
+
+/// Gives up the contexts of all descendants of one, and answers how many bytes their blocks have.
+fn give_up_below(contexts: &mut [Context], links: &Links, above: u32, alloc: Global) -> u64
+    requires long { length contexts.old ≡ length links.now }
+    requires bounded { IsBounded contexts.old }
+    ensures contexts { contexts.new ≡ cleared (is_under links.now above) no_context 0 contexts.old }
+    ensures given { held_by_all contexts.new + result ≡ held_by_all contexts.old }
+{
+    let mut given = 0;
+    for slot in 0..links.len() {
+        given += give_up_under(contexts, links, slot, above, alloc);
+    }
+    given
+}
+
+/// Gives up a context and the contexts of all its descendants, and answers how many bytes their blocks have.
+fn give_up_with(contexts: &mut [Context], links: &Links, slot: u32, alloc: Global) -> u64
+    requires long { length contexts.old ≡ length links.now }
+    requires there { IsTrue (is_some (get_or links.now slot None)) }
+    requires bounded { IsBounded contexts.old }
+    ensures contexts { contexts.new ≡ cleared (is_below links.now slot) no_context 0 contexts.old }
+    ensures given { held_by_all contexts.new + result ≡ held_by_all contexts.old }
+{
+    links.is_forest();
+    let below = give_up_below(contexts, links, slot, alloc);
+    below + give_up(contexts, slot as usize, alloc)
 }
 
 /// The bytes of the blocks of the context in a slot and of its descendants.
@@ -102,24 +149,12 @@ fn sum_below(links: &Links, contexts: &[Context], above: u32) -> u128
     sum
 }
 
-/// The bytes of the blocks of all contexts.
-fn sum_all(contexts: &[Context]) -> u64
-    requires { IsBounded contexts.now }
-    ensures { result ≡ held_by_all contexts.now }
+/// Refuses a growth that would bring the blocks of all contexts from what they hold to 2^63 bytes.
+fn check_growth(held: u64, growth: u64) -> Result<(), TreeError>
+    requires { held < 2 ^ 63 }
+    ensures { MatchResult result (λ _. held + growth < 2 ^ 63) (λ e. (0 < growth) × (e ≡ error.Context NoMemory)) }
 {
-    let mut sum = 0;
-    for slot in 0..contexts.len() {
-        sum += contexts[slot].held();
-    }
-    sum
-}
-
-/// Refuses a growth that would bring the blocks of all contexts to 2^63 bytes.
-fn check_growth(contexts: &[Context], growth: u64) -> Result<(), TreeError>
-    requires { IsBounded contexts.now }
-    ensures { MatchResult result (λ _. held_by_all contexts.now + growth < 2 ^ 63) (λ e. (0 < growth) × (e ≡ error.Context NoMemory)) }
-{
-    if growth > 0 && growth >= BOUND - sum_all(contexts) {
+    if growth > 0 && growth >= BOUND - held {
         return Err(TreeError::Context(ContextError::NoMemory));
     }
     Ok(())
@@ -162,6 +197,7 @@ impl Tree {
             links: Links::new(alloc, first),
             contexts,
             last: first,
+            held: 0,
         }
     }
 
@@ -176,7 +212,7 @@ impl Tree {
     pub fn is_bounded(&self)
         ensures { IsBounded self.now.contexts }
     {
-        let _contexts = &self.contexts;
+        let _bounded = &self.contexts;
     }
 
     /// Whether there is a context of this id.
@@ -300,7 +336,10 @@ impl Tree {
     {
         self.check(id)?;
         self.prune(id);
-        self.contexts[id.slot as usize].reset();
+        let context = &mut self.contexts[id.slot as usize];
+        let before = context.held();
+        context.reset();
+        self.held = self.held - before + context.held();
         Ok(())
     }
 
@@ -312,8 +351,9 @@ impl Tree {
         ensures gone { self.new ≡ without_slots self.old (is_under self.old.links id.slot) }
     {
         self.links.is_forest();
+        let given = give_up_below(&mut self.contexts, &self.links, id.slot, self.alloc);
         self.links.prune(id.slot);
-        give_up_free(&mut self.contexts, &self.links, self.alloc);
+        self.held -= given;
     }
 
     /// Deletes a context and all its descendants. Refuses `RootKept`.
@@ -328,9 +368,9 @@ impl Tree {
         if id.slot == ROOT {
             return Err(TreeError::RootKept);
         }
-        self.links.is_forest();
+        let given_up = give_up_with(&mut self.contexts, &self.links, id.slot, self.alloc);
         self.links.cut(id.slot);
-        give_up_free(&mut self.contexts, &self.links, self.alloc);
+        self.held -= given_up;
         Ok(())
     }
 
@@ -367,8 +407,10 @@ impl Tree {
     {
         self.check(id)?;
         let growth = growth_for(&self.contexts[id.slot as usize], bytes.len());
-        check_growth(&self.contexts, growth)?;
-        Ok(self.contexts[id.slot as usize].alloc(bytes)?)
+        check_growth(self.held, growth)?;
+        let name = self.contexts[id.slot as usize].alloc(bytes)?;
+        self.held += growth;
+        Ok(name)
     }
 
     /// Takes a chunk of `n` zeros, as `ChunkContext::alloc_zeroed`.
@@ -379,8 +421,10 @@ impl Tree {
     {
         self.check(id)?;
         let growth = growth_for(&self.contexts[id.slot as usize], n as usize);
-        check_growth(&self.contexts, growth)?;
-        Ok(self.contexts[id.slot as usize].alloc_zeroed(n)?)
+        check_growth(self.held, growth)?;
+        let name = self.contexts[id.slot as usize].alloc_zeroed(n)?;
+        self.held += growth;
+        Ok(name)
     }
 
     /// The bytes of a live chunk of a context.
@@ -403,7 +447,11 @@ impl Tree {
         ensures unchanged { OnErr result (self.new ≡ self.old) }
     {
         self.check(id)?;
-        Ok(self.contexts[id.slot as usize].free(name)?)
+        let context = &mut self.contexts[id.slot as usize];
+        let before = context.held();
+        context.free(name)?;
+        self.held = self.held - before + context.held();
+        Ok(())
     }
 
     /// Makes a live chunk of a context `n` bytes long, as `ChunkContext::resize`.
@@ -415,8 +463,12 @@ impl Tree {
     {
         self.check(id)?;
         let growth = self.contexts[id.slot as usize].growth_to(name, n);
-        check_growth(&self.contexts, growth)?;
-        Ok(self.contexts[id.slot as usize].resize(name, n)?)
+        check_growth(self.held, growth)?;
+        let context = &mut self.contexts[id.slot as usize];
+        let before = context.held();
+        let resized = context.resize(name, n)?;
+        self.held = self.held - before + context.held();
+        Ok(resized)
     }
 }
 

@@ -30,7 +30,7 @@ pub returns : goal.returns
 returns c = record {
   links =
       let old = c.args.links.now in
-      c.empty.ensures.links ∙ cut-too old c.requires.forest c.args.slot c.prune.new.links c.prune.ensures.links
+      c.empty.ensures.links ∙ cut-too old c.requires.forest c.args.slot None old c.prune.new.links c.prune.ensures.links
       (low-there old c.args.slot c.requires.there);
   free =
       let old = c.args.links.now in

@@ -1,7 +1,7 @@
-use Rattle.std.proofs.Common.{◌+◌, ◌≤◌, length, get_or, ap, arith}
+use Rattle.std.proofs.Common.{◌≡◌, ◌+◌, length, get_or, ap, arith}
 use Rattle.context_tree.proofs.Words.{always_err, IsRefused, refusal_of, growth_of, held_by, is_there, Context}
 use Rattle.context_tree.specs.Calls.{Allocates}
-use Rattle.context_tree.proofs.TreeLaws.{IsLent, read-changed, fits-asked, said, on-context, unchanged, fields-written, refused-gone}
+use Rattle.context_tree.proofs.TreeLaws.{IsLent, read-changed, said, on-context, unchanged, fields-moved, refused-gone}
 use Rattle.context_tree.proofs.TreeLaws.{refused-own}
 use Rattle.context_tree.proofs.tree.Tree.alloc.Goals.{After-deref_mut}
 use Rattle.context_tree.proofs.tree.Tree.alloc.Goals as goal
@@ -14,24 +14,24 @@ pub returns-in_err-check-clause-refused : goal.returns-in_err-check-clause-refus
 returns-in_err-check-clause-refused c = refused-gone _ (is_there c.args.self.now c.args.id) c.from_residual.result _
     c.from_residual.ensures.1 c.in_err-check.ensures
 
-pub returns-in_err-alloc-clause-refused : goal.returns-in_err-alloc-clause-refused
-returns-in_err-alloc-clause-refused c =
-    let at = lent (goal.at.returns-in_err-alloc-clause-refused c).After-deref_mut in
-    let n = length c.args.bytes.now in let own = c.in_err-alloc.field-0.0 in
-    refused-own _ (is_there c.args.self.now c.args.id) c.from_residual-in_err-alloc.result own c.from_residual-in_err-alloc.ensures.1
+pub returns-in_err-name-clause-refused : goal.returns-in_err-name-clause-refused
+returns-in_err-name-clause-refused c =
+    let at = lent (goal.at.returns-in_err-name-clause-refused c).After-deref_mut in
+    let n = length c.args.bytes.now in let own = c.in_err-name.field-0.0 in
+    refused-own _ (is_there c.args.self.now c.args.id) c.from_residual-in_err-name.result own c.from_residual-in_err-name.ensures.1
     at.there (said _ _ _ _ at c.alloc.new.self c.index-deref_mut-id.result (λ a _. IsRefused (refusal_of a n) (growth_of a n) own)
-    c.in_err-alloc.ensures.refused)
+    c.in_err-name.ensures.refused)
 
-pub returns-in_err-alloc-clause-unchanged : goal.returns-in_err-alloc-clause-unchanged
-returns-in_err-alloc-clause-unchanged c = always_err c.from_residual-in_err-alloc.result
-    (unchanged _ _ _ _ (lent (goal.at.returns-in_err-alloc-clause-unchanged c).After-deref_mut) c.alloc.new.self c.index-deref_mut-id.result
-    c.in_err-alloc.ensures.unchanged)
+pub returns-in_err-name-clause-unchanged : goal.returns-in_err-name-clause-unchanged
+returns-in_err-name-clause-unchanged c = always_err c.from_residual-in_err-name.result
+    (unchanged _ _ _ _ (lent (goal.at.returns-in_err-name-clause-unchanged c).After-deref_mut) c.alloc.new.self c.index-deref_mut-id.result
+    c.in_err-name.ensures.unchanged)
 
 pub returns : goal.returns
 returns c =
-    let at = lent (goal.at.returns c).After-deref_mut in let told = c.in_ok-alloc.ensures in let bytes = c.args.bytes.now in
+    let at = lent (goal.at.returns c).After-deref_mut in let told = c.in_ok-name.ensures in let bytes = c.args.bytes.now in
     record {
-      taken = on-context _ _ _ _ at c.alloc.new.self c.index-deref_mut-id.result (Allocates (length bytes) bytes c.in_ok-alloc.field-0)
+      taken = on-context _ _ _ _ at c.alloc.new.self c.index-deref_mut-id.result (Allocates (length bytes) bytes c.in_ok-name.name)
           (record {
             admitted = told.admitted;
             taken = told.taken;
@@ -50,8 +50,7 @@ invariant_of-self-2 c =
     let new = c.alloc.new.self in let other = c.index-deref_mut-id.result in
     let read = read-changed c.self.inside at.are c.args.self.now at.view c.args.id at.there c.deref.result.now c.deref_mut.result.now other
     c.index-deref-id.result c.deref.ensures at.same c.index-deref-id.is in
-    let grown = c.in_ok-alloc.ensures.grown in let growth = c.growth_for-growth.ensures in
-    let less : held_by new ≤ held_by (get_or c.deref_mut.result.now c.args.id.slot other)
-    + c.growth_for-growth.result = omega (arith, grown, growth, ap (λ (a : Context). growth_of a (length c.args.bytes.now)) read) in
-    fields-written _ _ _ _ at new (fits-asked _ _ _ _ at new other c.growth_for-growth.result c.deref-2.result.now c.deref-2.ensures less
-    c.in_ok-check_growth.ensures)
+    let grown = c.in_ok-name.ensures.grown in let growth = c.growth_for-growth.ensures in
+    let moved : c.self.inside.held + c.growth_for-growth.result + held_by (get_or c.deref_mut.result.now c.args.id.slot other)
+    ≡ c.self.inside.held + held_by new = omega (arith, grown, growth, ap (λ (a : Context). growth_of a (length c.args.bytes.now)) read) in
+    fields-moved _ _ _ _ at new other _ moved c.in_ok-check_growth.ensures

@@ -1,8 +1,8 @@
-use Rattle.std.proofs.Common.{◌+◌, ◌≤◌, get_or, ap, arith}
+use Rattle.std.proofs.Common.{◌≡◌, ◌+◌, get_or, ap, arith}
 use Rattle.context_tree.proofs.Words.{always_err, IsRefused, refusal_of, growth_of, held_by, is_there, Context}
 use Rattle.block_memory.specs.Cells.{zeros}
 use Rattle.context_tree.specs.Calls.{Allocates}
-use Rattle.context_tree.proofs.TreeLaws.{IsLent, read-changed, fits-asked, said, on-context, unchanged, fields-written, refused-gone}
+use Rattle.context_tree.proofs.TreeLaws.{IsLent, read-changed, said, on-context, unchanged, fields-moved, refused-gone}
 use Rattle.context_tree.proofs.TreeLaws.{refused-own}
 use Rattle.context_tree.proofs.tree.Tree.alloc_zeroed.Goals.{After-deref_mut}
 use Rattle.context_tree.proofs.tree.Tree.alloc_zeroed.Goals as goal
@@ -15,24 +15,24 @@ pub returns-in_err-check-clause-refused : goal.returns-in_err-check-clause-refus
 returns-in_err-check-clause-refused c = refused-gone _ (is_there c.args.self.now c.args.id) c.from_residual.result _
     c.from_residual.ensures.1 c.in_err-check.ensures
 
-pub returns-in_err-alloc_zeroed-clause-refused : goal.returns-in_err-alloc_zeroed-clause-refused
-returns-in_err-alloc_zeroed-clause-refused c =
-    let at = lent (goal.at.returns-in_err-alloc_zeroed-clause-refused c).After-deref_mut in
-    let n = c.args.n in let own = c.in_err-alloc_zeroed.field-0.0 in
-    refused-own _ (is_there c.args.self.now c.args.id) c.from_residual-in_err-alloc_zeroed.result own
-    c.from_residual-in_err-alloc_zeroed.ensures.1 at.there (said _ _ _ _ at c.alloc_zeroed.new.self c.index-deref_mut-id.result
-    (λ a _. IsRefused (refusal_of a n) (growth_of a n) own) c.in_err-alloc_zeroed.ensures.refused)
+pub returns-in_err-name-clause-refused : goal.returns-in_err-name-clause-refused
+returns-in_err-name-clause-refused c =
+    let at = lent (goal.at.returns-in_err-name-clause-refused c).After-deref_mut in
+    let n = c.args.n in let own = c.in_err-name.field-0.0 in
+    refused-own _ (is_there c.args.self.now c.args.id) c.from_residual-in_err-name.result own
+    c.from_residual-in_err-name.ensures.1 at.there (said _ _ _ _ at c.alloc_zeroed.new.self c.index-deref_mut-id.result
+    (λ a _. IsRefused (refusal_of a n) (growth_of a n) own) c.in_err-name.ensures.refused)
 
-pub returns-in_err-alloc_zeroed-clause-unchanged : goal.returns-in_err-alloc_zeroed-clause-unchanged
-returns-in_err-alloc_zeroed-clause-unchanged c = always_err c.from_residual-in_err-alloc_zeroed.result
-    (unchanged _ _ _ _ (lent (goal.at.returns-in_err-alloc_zeroed-clause-unchanged c).After-deref_mut) c.alloc_zeroed.new.self
-    c.index-deref_mut-id.result c.in_err-alloc_zeroed.ensures.unchanged)
+pub returns-in_err-name-clause-unchanged : goal.returns-in_err-name-clause-unchanged
+returns-in_err-name-clause-unchanged c = always_err c.from_residual-in_err-name.result
+    (unchanged _ _ _ _ (lent (goal.at.returns-in_err-name-clause-unchanged c).After-deref_mut) c.alloc_zeroed.new.self
+    c.index-deref_mut-id.result c.in_err-name.ensures.unchanged)
 
 pub returns : goal.returns
 returns c =
-    let at = lent (goal.at.returns c).After-deref_mut in let told = c.in_ok-alloc_zeroed.ensures in let n = c.args.n in
+    let at = lent (goal.at.returns c).After-deref_mut in let told = c.in_ok-name.ensures in let n = c.args.n in
     record {
-      taken = on-context _ _ _ _ at c.alloc_zeroed.new.self c.index-deref_mut-id.result (Allocates n (zeros n) c.in_ok-alloc_zeroed.field-0)
+      taken = on-context _ _ _ _ at c.alloc_zeroed.new.self c.index-deref_mut-id.result (Allocates n (zeros n) c.in_ok-name.name)
           (record {
             admitted = told.admitted;
             taken = told.taken;
@@ -51,8 +51,7 @@ invariant_of-self-2 c =
     let new = c.alloc_zeroed.new.self in let other = c.index-deref_mut-id.result in
     let read = read-changed c.self.inside at.are c.args.self.now at.view c.args.id at.there c.deref.result.now c.deref_mut.result.now other
     c.index-deref-id.result c.deref.ensures at.same c.index-deref-id.is in
-    let grown = c.in_ok-alloc_zeroed.ensures.grown in let growth = c.growth_for-growth.ensures in
-    let less : held_by new ≤ held_by (get_or c.deref_mut.result.now c.args.id.slot other)
-    + c.growth_for-growth.result = omega (arith, grown, growth, ap (λ (a : Context). growth_of a (c.args.n)) read) in
-    fields-written _ _ _ _ at new (fits-asked _ _ _ _ at new other c.growth_for-growth.result c.deref-2.result.now c.deref-2.ensures less
-    c.in_ok-check_growth.ensures)
+    let grown = c.in_ok-name.ensures.grown in let growth = c.growth_for-growth.ensures in
+    let moved : c.self.inside.held + c.growth_for-growth.result + held_by (get_or c.deref_mut.result.now c.args.id.slot other)
+    ≡ c.self.inside.held + held_by new = omega (arith, grown, growth, ap (λ (a : Context). growth_of a (c.args.n)) read) in
+    fields-moved _ _ _ _ at new other _ moved c.in_ok-check_growth.ensures

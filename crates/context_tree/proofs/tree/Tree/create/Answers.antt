@@ -2,10 +2,10 @@ use Rattle.std.proofs.Common.{◌≡◌, ◌+◌, ◌≤◌, true, false, List, 
 use Rattle.std.specs.Prelude.{◌==◌}
 use Rattle.std.proofs.lemmas.Bool.{eq-eqb, ne_eqb}
 use Rattle.context_tree.proofs.Words.{always_err, new_context, placed, IsFull, TreeState, Stamped, Emptied, IsBounded, with_new, Context}
-use Rattle.context_tree.proofs.Words.{Link}
+use Rattle.context_tree.proofs.Words.{Link, held_by_all}
 use Rattle.std.proofs.lemmas.Result.{err_from_is_err_and}
 use Rattle.context_tree.specs.declared.error.TreeError.TheVariants.{StampsSpent}
-use Rattle.context_tree.proofs.TreeLaws.{stamp-low, stamps-made, empty-made, bounded-made, long-made, not-made, refused-made}
+use Rattle.context_tree.proofs.TreeLaws.{stamp-low, stamps-made, empty-made, bounded-made, held-made, long-made, not-made, refused-made}
 use Rattle.context_tree.proofs.tree.Tree.create.Goals.{Else-self}
 use Rattle.context_tree.proofs.tree.Tree.create.Goals as goal
 
@@ -31,6 +31,9 @@ invariant_of-self-2 c =
       bounded = subst IsBounded (sym contexts)
           (bounded-made t.links t.contexts.items t.last slot was.low c.self.invariant.long link it c.args.kind c.in_ok-context.ensures.1
           was.fresh c.self.invariant.empty c.self.invariant.bounded);
+      held = c.self.invariant.held ∙ sym (ap held_by_all contexts
+          ∙ held-made t.links t.contexts.items t.last slot was.low c.self.invariant.long link it c.args.kind c.in_ok-context.ensures.1
+          was.fresh c.self.invariant.empty);
     }
 
 pub returns-in_err-check-clause-refused : goal.returns-in_err-check-clause-refused

@@ -3,7 +3,7 @@ use Rattle.std.specs.Prelude.{IsTrue}
 use Rattle.std.proofs.lemmas.Bool.{not-true}
 use Rattle.context_tree.proofs.Words.{always_err, can_free, has_chunk, is_there, Context}
 use Rattle.context_tree.specs.Calls.{Frees}
-use Rattle.context_tree.proofs.TreeLaws.{IsLent, old-is, fits-grown, said, on-context, unchanged, fields-written, refused-gone, refused-own}
+use Rattle.context_tree.proofs.TreeLaws.{IsLent, old-is, old-held, said, on-context, unchanged, fields-moved, refused-gone, refused-own}
 use Rattle.context_tree.proofs.tree.Tree.free.Goals.{After-deref_mut}
 use Rattle.context_tree.proofs.tree.Tree.free.Goals as goal
 
@@ -17,12 +17,27 @@ free-requires c =
     c.index-deref_mut-id.result c.deref_mut.ensures.value in
     subst (λ (a : Context). IsTrue (has_chunk a c.args.name)) (sym old) (c.requires c.in_ok-check.ensures)
 
+pub overflow_sub-self : goal.overflow_sub-self
+overflow_sub-self c =
+    let at = lent (goal.at.overflow_sub-self c).After-deref_mut in
+    let less = old-held _ _ _ _ at c.free.new.self c.index-deref_mut-id.result in
+    omega (arith, less, c.held-before.ensures)
+
 pub invariant_of-self-2 : goal.invariant_of-self-2
 invariant_of-self-2 c =
     let at = lent (goal.at.invariant_of-self-2 c).After-deref_mut in
     let new = c.free.new.self in let other = c.index-deref_mut-id.result in
-    fields-written _ _ _ _ at new (fits-grown _ _ _ _ at new other 0 (omega (arith, c.in_ok-free.ensures.most))
-    (omega (arith, at.are.bounded)))
+    let less = old-held _ _ _ _ at new other in
+    let before = c.held-before.ensures in let after = c.held.ensures in let most = c.in_ok-free.ensures.most in
+    fields-moved _ _ _ _ at new other _ (omega (arith, less, before, after)) (omega (
+      arith,
+      less,
+      before,
+      after,
+      most,
+      at.are.held,
+      at.are.bounded,
+    ))
 
 pub returns-in_err-check-clause-refused : goal.returns-in_err-check-clause-refused
 returns-in_err-check-clause-refused c = refused-gone _ (is_there c.args.self.now c.args.id) c.from_residual.result _

@@ -1,33 +1,35 @@
-use Rattle.std.proofs.Common.{◌≡◌, List, Option, None, get_or, refl, ap, ◌∙◌}
+use Rattle.std.proofs.Common.{◌≡◌, List, Option, None, get_or, refl, ap, ◌∙◌, arith}
 use Rattle.std.proofs.lemmas.Bool.{cond-false}
 use Rattle.context_tree.proofs.Words.{no_context, is_under, TreeState, has_stamp, is_there, context_at, without_slots, Context, Link}
 use Rattle.context_tree.proofs.Clearing.{get_or-cleared}
 use Rattle.context_tree.specs.Lemmas.Forest.{not-under-itself}
-use Rattle.context_tree.proofs.TreeLaws.{AreGivenUp, given-long, all-given, given-up, fields-given}
-use Rattle.context_tree.proofs.tree.Tree.prune.Goals.{After-give_up_free}
+use Rattle.context_tree.proofs.TreeLaws.{AreGivenUp, given-less, all-given, given-up, fields-given}
+use Rattle.context_tree.proofs.tree.Tree.prune.Goals.{After-prune}
 use Rattle.context_tree.proofs.tree.Tree.prune.Goals as goal
 
 -- the contexts of the links that were given up
-up : (c : After-give_up_free) → AreGivenUp c.self.inside (is_under c.self.inside.links c.args.id.slot) c.prune.new.self
-    c.deref_mut.result.now c.give_up_free.new.contexts
+up : (c : After-prune) → AreGivenUp c.self.inside (is_under c.self.inside.links c.args.id.slot) c.prune.new.self
+    c.deref_mut.result.now c.give_up_below-given.new.contexts c.give_up_below-given.result
 up c = record {
   are = c.self.invariant;
   links = c.prune.ensures;
   same = c.deref_mut.ensures.value;
-  as-long = c.give_up_free.auto.contexts;
-  told = c.give_up_free.ensures;
+  told = c.give_up_below-given.ensures.contexts;
+  sum = c.give_up_below-given.ensures.given;
 }
 
-pub give_up_free-requires : goal.give_up_free-requires
-give_up_free-requires c = given-long c.self.inside c.self.invariant (is_under c.self.inside.links c.args.id.slot) c.prune.new.self
-    c.deref_mut.result.now c.prune.ensures c.deref_mut.ensures.value
+pub overflow_sub-self : goal.overflow_sub-self
+overflow_sub-self c = given-less _ _ _ _ _ _ (up (goal.at.overflow_sub-self c).After-prune)
 
 pub invariant_of-self : goal.invariant_of-self
-invariant_of-self c = fields-given _ _ _ _ _ (up (goal.at.invariant_of-self c).After-give_up_free)
+invariant_of-self c =
+    let gone = up (goal.at.invariant_of-self c).After-prune in
+    let less = given-less _ _ _ _ _ _ gone in
+    fields-given _ _ _ _ _ _ gone _ (omega (arith, less))
 
 pub returns-clause-gone : goal.returns-clause-gone
 returns-clause-gone c =
-    given-up _ _ _ _ _ (up (goal.at.returns-clause-gone c).After-give_up_free)
+    given-up _ _ _ _ _ _ (up (goal.at.returns-clause-gone c).After-prune)
     ∙ ap (λ (t : TreeState). without_slots t (is_under t.links c.args.id.slot)) c.self.view_is
 
 pub returns-clause-there : goal.returns-clause-there
@@ -43,7 +45,7 @@ pub returns-clause-same : goal.returns-clause-same
 returns-clause-same c =
     let x = c.self.inside in let slot = c.args.id.slot in
     ap (λ (cs : List Context). get_or cs slot no_context)
-    (all-given _ _ _ _ _ (up (goal.at.returns-clause-same c).After-give_up_free))
+    (all-given _ _ _ _ _ _ (up (goal.at.returns-clause-same c).After-prune))
     ∙ get_or-cleared (is_under x.links slot) no_context x.contexts.items slot
     ∙ cond-false (is_under x.links slot slot) no_context (get_or x.contexts.items slot no_context)
     (not-under-itself x.links c.is_forest.ensures slot slot refl)
