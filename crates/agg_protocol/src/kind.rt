@@ -1,9 +1,10 @@
 //! The aggregate functions by name (PostgreSQL 17, 9.21 Aggregate Functions).
 
-ghost use Rattle.std.specs.Prelude.{◌≡◌, option_map, find};
+ghost use Rattle.std.specs.Prelude.{◌≡◌, option_map, find, Contains};
 ghost use Rattle.packed_rows.specs.View.{kind_of};
-ghost use Rattle.agg_protocol.specs.Signatures.{signature, function_named, is_named};
-ghost use Rattle.agg_protocol.specs.Kinds.{function_of, argument_of, kind_width};
+ghost use Rattle.agg_protocol.specs.Signatures.{signature, functions, function_named, is_named};
+ghost use Rattle.agg_protocol.specs.Kinds.{function_of, functions_of, argument_of, kind_width};
+ghost use Rattle.agg_protocol.specs.declared.kind.AggKind.{AggKind};
 
 use packed_rows::ValueKind;
 
@@ -153,3 +154,9 @@ fn first_named(kinds: &[AggKind], name: &str) -> Option<AggKind>
 {
     kinds.iter().copied().find(|kind| kind.is_named(name))
 }
+
+/// [`AggKind::ALL`] has every function, in the order of their numbers.
+pub fn all_functions()
+    ensures in_order { functions_of AggKind.ALL ≡ functions }
+    ensures every { (kind : AggKind) → Contains AggKind.ALL kind }
+{}

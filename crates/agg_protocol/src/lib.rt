@@ -17,7 +17,7 @@ ghost use Rattle.agg_protocol.specs.States.{Shape, IsState, Denotes, shape_of, w
 
 mod kind;
 
-pub use crate::kind::{AggKind, Argument, Signature};
+pub use crate::kind::{AggKind, Argument, Signature, all_functions};
 use packed_rows::Value;
 use thiserror::Error;
 

@@ -1,5 +1,8 @@
 //! The commands on files, by their words.
 
+ghost use Rattle.std.specs.Prelude.{◌≡◌};
+ghost use Rattle.command_words.specs.Subcommands.{subcommand_named, takes_limit, aggregates};
+
 use crate::{BATCH, IN, NO_CLOBBER, OUT, PROGRESS, SPILL};
 use clap::ArgMatches;
 use std::alloc::{AllocError, Global};
@@ -16,7 +19,9 @@ pub enum Subcommand {
 
 impl Subcommand {
     /// The command of a name.
-    pub fn named(name: &str) -> Option<Subcommand> {
+    pub fn named(name: &str) -> Option<Subcommand>
+        ensures { result ≡ subcommand_named name.now }
+    {
         match name {
             "new" => Some(Subcommand::New),
             "feed" => Some(Subcommand::Feed),
@@ -29,7 +34,9 @@ impl Subcommand {
 
     /// Whether it takes a limit and a file for what is spilled. An answer takes both, and they bound nothing: it merges groups, and
     /// needs no table.
-    pub fn takes_limit(self) -> bool {
+    pub fn takes_limit(self) -> bool
+        ensures { result ≡ takes_limit self }
+    {
         match self {
             Subcommand::Feed | Subcommand::Merge | Subcommand::Answer => true,
             Subcommand::New | Subcommand::Known => false,
@@ -37,7 +44,9 @@ impl Subcommand {
     }
 
     /// Whether it aggregates, and so wants a seed, and can tell what that took.
-    pub fn aggregates(self) -> bool {
+    pub fn aggregates(self) -> bool
+        ensures { result ≡ aggregates self }
+    {
         matches!(self, Subcommand::Feed | Subcommand::Merge)
     }
 

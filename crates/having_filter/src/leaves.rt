@@ -13,7 +13,7 @@ ghost use Rattle.having_filter.specs.Plans.{source_leaf};
 
 use crate::plan::Source;
 use crate::truth::truth;
-use crate::value::{DiskFrame, value};
+use crate::value::{Leaves, value};
 use agg_protocol::ResultValue;
 use packed_rows::Value;
 use query_checks::{AggCall, Cond};
@@ -24,7 +24,7 @@ pub(crate) struct RowLeaves<'a> {
     pub(crate) row: &'a [Value<'a>],
 }
 
-impl<'a> DiskFrame<usize> for RowLeaves<'a> {
+impl<'a> Leaves<usize> for RowLeaves<'a> {
     ghost outcome = { λ leaves form. value_of (column_of (row_of leaves.row.now)) (column_leaf form) };
 
     fn column(&self, column: &usize) -> ResultValue<'_> {
@@ -54,7 +54,7 @@ pub(crate) struct GroupLeaves<'a> {
     pub(crate) results: &'a [ResultValue<'a>],
 }
 
-impl<'a> DiskFrame<Source> for GroupLeaves<'a> {
+impl<'a> Leaves<Source> for GroupLeaves<'a> {
     ghost outcome = { λ leaves form. value_of (outcome_at (map outcome_of leaves.key.now)
         (map outcome_of leaves.results.now)) (source_leaf form) };
 
@@ -79,7 +79,7 @@ fn is_true(truth: Option<bool>) -> bool
 }
 
 /// Whether a condition is true, and not false or unknown. Where there is none, it is.
-pub(crate) fn is_met<C, L: DiskFrame<C>>(condition: &Option<Cond<C>>, leaves: &L) -> bool
+pub(crate) fn is_met<C, L: Leaves<C>>(condition: &Option<Cond<C>>, leaves: &L) -> bool
     ensures { result ≡ is_met (L.outcome leaves.now)
         (option_map (λ c. condition_by At (form_of c)) condition.now) }
 {

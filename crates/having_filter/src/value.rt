@@ -12,7 +12,7 @@ use agg_protocol::ResultValue;
 use query_checks::{AggCall, Cond};
 
 /// The values that the columns and calls of a condition have.
-pub(crate) trait DiskFrame<C> {
+pub(crate) trait Leaves<C> {
     // The value of each column and call.
     ghost outcome: { Self → Form C → Outcome };
 
@@ -25,11 +25,8 @@ pub(crate) trait DiskFrame<C> {
         ensures { outcome_of result ≡ outcome self.now (call_form call.now) };
 }
 
-/// The value of a condition, by three-valued logic.
-pub(crate) fn value<'a, C, L: DiskFrame<C>>(
-    condition: &'a Cond<C>,
-    leaves: &'a L,
-) -> ResultValue<'a>
+/// The value of a condition, by three-valued logic. A side of AND or OR that decides by itself is the last one that is looked at.
+pub(crate) fn value<'a, C, L: Leaves<C>>(condition: &'a Cond<C>, leaves: &'a L) -> ResultValue<'a>
     ensures { outcome_of result ≡
         value_of (L.outcome leaves.now) (condition_by At (form_of condition.now)) }
 {
@@ -41,8 +38,14 @@ pub(crate) fn value<'a, C, L: DiskFrame<C>>(
         Cond::Boolean(truth) => ResultValue::Boolean(*truth),
         Cond::Null => ResultValue::Null,
         Cond::Not(c) => as_value(not(truth(value(c, leaves)))),
-        Cond::Or(c, d) => as_value(or(truth(value(c, leaves)), truth(value(d, leaves)))),
-        Cond::And(c, d) => as_value(and(truth(value(c, leaves)), truth(value(d, leaves)))),
+        Cond::Or(c, d) => match truth(value(c, leaves)) {
+            Some(true) => ResultValue::Boolean(true),
+            first => as_value(or(first, truth(value(d, leaves)))),
+        },
+        Cond::And(c, d) => match truth(value(c, leaves)) {
+            Some(false) => ResultValue::Boolean(false),
+            first => as_value(and(first, truth(value(d, leaves)))),
+        },
         Cond::Compare(comparison, c, d) => {
             as_value(compare(*comparison, value(c, leaves), value(d, leaves)))
         }

@@ -28,8 +28,8 @@ fn most_bytes(kind: ValueKind, field: &[u8]) -> usize
     }
 }
 
-/// Room for the packing of fields: no more than nulls leave over.
-fn room_for(kinds: &[ValueKind], fields: &[&[u8]]) -> usize {
+/// How many bytes the packing of fields has at most: what nulls leave over is not used.
+fn packed_len(kinds: &[ValueKind], fields: &[&[u8]]) -> usize {
     let mut room: usize = 0;
     for (kind, field) in kinds.iter().zip(fields) {
         room = room.saturating_add(most_bytes(*kind, field));
@@ -46,7 +46,7 @@ pub fn pack_row(alloc: Global, schema: &Schema, fields: &[&[u8]]) -> Result<Vec<
     if fields.len() != schema.width() {
         return Err(RowError::WrongWidth);
     }
-    let mut out = Vec::with_capacity(alloc, room_for(schema.kinds(), fields))?;
+    let mut out = Vec::with_capacity(alloc, packed_len(schema.kinds(), fields))?;
     for (column, kind) in schema.kinds().iter().enumerate() {
         let Some(value) = read_value(fields[column], *kind) else {
             return Err(RowError::BadField { column });

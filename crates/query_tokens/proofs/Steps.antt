@@ -1,5 +1,5 @@
 -- Reading tokens one after the other, as a loop does.
-use Rattle.std.proofs.Common.{◌≡◌, ℕ, ◌+◌, ◌-◌, ◌≤◌, ◌<◌, true, false, List, [], ◌∷◌, ◌++◌, length, get_or, drop, Result, Ok, Err, refl}
+use Rattle.std.proofs.Common.{◌≡◌, ℕ, zero, suc, subst, ◌+◌, ◌-◌, ◌≤◌, ◌<◌, Bool, true, false, List, [], ◌∷◌, ◌++◌, length, get_or, drop, Result, Ok, Err, refl}
 use Rattle.std.proofs.Common.{sym, ap, ◌∙◌, append_assoc, arith}
 use Rattle.std.proofs.lemmas.List.{length-drop}
 use Rattle.query_tokens.specs.declared.fault.Fault.{Fault}
@@ -7,10 +7,10 @@ use Rattle.query_tokens.specs.declared.fault.TokenError.{TokenError}
 use Rattle.query_tokens.specs.declared.fault.TokenError.TheVariants as errors
 use Rattle.query_tokens.specs.Words.{Lexeme, Placed}
 use Rattle.query_tokens.specs.Bytes.{is_space}
-use Rattle.query_tokens.specs.Tokens.{◌>>=◌, Fails, word_at, tokens_at}
+use Rattle.query_tokens.specs.Tokens.{◌>>=◌, Fails, word_at, tokens_at, begins_with}
 use Rattle.std.proofs.lemmas.Bool.Decides.{nat_tests}
 use Rattle.std.proofs.lemmas.Grind.{common_steps}
-use Rattle.query_tokens.specs.Lemmas.Steps.{passes, word_end}
+use Rattle.query_tokens.specs.Lemmas.Steps.{passes, begun_passes, word_end}
 
 -- what was read before, and what is still read
 abbrev pub with_front : List Placed → Result (List Placed) Fault → Result (List Placed) Fault
@@ -80,3 +80,54 @@ pub more_left : (size : ℕ) (front : List Placed) (rest : List ℕ) (total : Re
 unfolding tokens_at
 more_left size front [] total ts some solid so_far e = absurd (omega (arith, some))
 more_left size front (b ∷ bs) total ts some solid so_far e = grind (arith, nat_tests, common_steps)
+
+begins_none : (at : ℕ) (rest : List ℕ) → begins_with 0 0 at rest ≡ true
+unfolding begins_with
+begins_none at rest = refl
+
+begins_past : (tokens size : ℕ) (rest : List ℕ) (total : Bool) → 0 < length rest → length rest ≤ size
+    → is_space (get_or rest 0 0) ≡ true → begins_with tokens 0 (size - length rest) rest ≡ total
+    → begins_with tokens 0 (size - length (drop 1 rest)) (drop 1 rest) ≡ total
+unfolding begins_with
+begins_past tokens size [] total some within blank so_far = absurd (omega (arith, some))
+begins_past zero size (b ∷ bs) total some within blank so_far = so_far
+begins_past (suc k) size (b ∷ bs) total some within blank so_far = grind (arith, nat_tests, common_steps)
+
+begins_behind : (tokens size : ℕ) (rest : List ℕ) (w : Lexeme) (after : List ℕ) (total : Bool) → 0 < length rest
+    → length rest ≤ size → is_space (get_or rest 0 0) ≡ false → word_at (size - length rest) rest ≡ Ok (w, after)
+    → begins_with (suc tokens) 0 (size - length rest) rest ≡ total → begins_with tokens 0 (size - length after) after ≡ total
+unfolding begins_with
+begins_behind tokens size [] w after total some within solid h so_far = absurd (omega (arith, some))
+begins_behind tokens size (b ∷ bs) w after total some within solid h so_far =
+    let at = size - length (b ∷ bs) in
+    let e = word_end at b bs w after h in
+    let len : length after ≡ length bs - e.len = ap length e.rest_is ∙ length-drop e.len bs in
+    let skip : length bs - length after ≡ e.len = omega (arith, len, e.within) in
+    let here : at + 1 + e.len ≡ size - length after = omega (arith, len, e.within, within) in
+    let rest : begins_with tokens (length bs - length after) (at + 1) bs
+    ≡ begins_with tokens 0 (size - length after) after = rw skip (begun_passes tokens e.len (at + 1) bs ∙ rw (here, ← e.rest_is) refl) in
+    let one : begins_with (suc tokens) 0 at (b ∷ bs) ≡ begins_with tokens 0 (size - length after) after = rw (solid, h, rest) refl in
+    sym one ∙ so_far
+
+-- whether a text begins with so many tokens is whether the rest begins with those that are left
+abbrev pub Begins : ℕ → ℕ → ℕ → List ℕ → Bool → Type 0
+Begins most count size rest total = begins_with (most - count) 0 (size - length rest) rest ≡ total
+
+pub begins_past_space : (most count size : ℕ) (rest : List ℕ) (total : Bool) → 0 < length rest
+    → length rest ≤ size → is_space (get_or rest 0 0) ≡ true → Begins most count size rest total
+    → Begins most count size (drop 1 rest) total
+begins_past_space most count size rest total some within blank so_far =
+    begins_past (most - count) size rest total some within blank so_far
+
+pub begins_further : (most count size : ℕ) (rest : List ℕ) (w : Lexeme) (after : List ℕ) (total : Bool) → count < most
+    → 0 < length rest → length rest ≤ size → is_space (get_or rest 0 0) ≡ false
+    → word_at (size - length rest) rest ≡ Ok (w, after) → Begins most count size rest total
+    → Begins most (count + 1) size after total
+begins_further most count size rest w after total low some within solid h so_far =
+    let left : most - count ≡ suc (most - (count + 1)) = omega (arith, low) in
+    begins_behind (most - (count + 1)) size rest w after total some within solid h
+    (subst (λ n. begins_with n 0 (size - length rest) rest ≡ total) left so_far)
+
+pub begins_all : (most count size : ℕ) (rest : List ℕ) (total : Bool) → count ≡ most → Begins most count size rest total → total ≡ true
+begins_all most count size rest total all so_far =
+    sym so_far ∙ ap (λ n. begins_with n 0 (size - length rest) rest) (omega (arith, all)) ∙ begins_none (size - length rest) rest

@@ -29,6 +29,11 @@ abbrev pub Gives : {X Y : Type 0} → (X → Y) → Result X TokenError → Resu
 Gives view (Ok x) read = read ≡ Ok (view x)
 Gives view (Err e) read = Fails e read
 
+-- whether something was read, and what holds of it does
+abbrev pub is_read_and : {A : Type 0} → Result A Fault → (A → Bool) → Bool
+is_read_and (Ok x) holds = holds x
+is_read_and (Err e) holds = false
+
 -- a name: as many bytes as continue it, in lower case (4.1.1 Identifiers and Key Words; a longer one than there may be
 -- is refused and not cut: own)
 unfoldable pub name_at : ℕ → List ℕ → Result (Lexeme × List ℕ) Fault
@@ -119,3 +124,13 @@ tokens_at zero at (b ∷ bs) =
 -- the tokens of a whole text, or its first fault
 abbrev pub tokens_in : List ℕ → Result (List Placed) Fault
 tokens_in bytes = tokens_at 0 0 bytes
+
+-- whether bytes that stand at a place begin with so many tokens, of which none is a fault, whatever stands behind them; the first
+-- `within` of these bytes belong to a token that has been read (own)
+unfoldable pub begins_with : ℕ → ℕ → ℕ → List ℕ → Bool
+begins_with zero within at bytes = true
+begins_with (suc tokens) within at [] = false
+begins_with (suc tokens) (suc within) at (b ∷ bs) = begins_with (suc tokens) within (at + 1) bs
+begins_with (suc tokens) zero at (b ∷ bs) =
+    if is_space b then begins_with (suc tokens) 0 (at + 1) bs else
+    is_read_and (word_at at (b ∷ bs)) (λ w. begins_with tokens (length bs - length w.1) (at + 1) bs)

@@ -9,7 +9,7 @@ ghost use Rattle.std.specs.Str.{all_ascii_digits};
 ghost use Rattle.query_tokens.specs.Bytes.{begins_name, first_is};
 ghost use Rattle.query_tokens.specs.Spelling.{IsLexeme};
 ghost use Rattle.query_tokens.specs.Tokens.{tokens_in, word_at, name_at, integer_at, text_at, symbol_at, string_content, integer_of};
-ghost use Rattle.query_tokens.specs.Tokens.{number_after, Fails, Gives};
+ghost use Rattle.query_tokens.specs.Tokens.{number_after, begins_with, Fails, Gives};
 ghost use Rattle.query_tokens.specs.Words.{Placed, lexeme_of, all_placed};
 
 use crate::fault::{Fault, TokenError};
@@ -186,8 +186,8 @@ pub fn tokens(alloc: Global, text: &str) -> Result<Vec<Token>, TokenError>
     }
 }
 
-/// The tokens of a text as [`tokens`] gives them, or `None` where it has more than `most` of them: then nothing behind the
-/// first `most` is read, so that no more memory is taken than for these.
+/// The tokens of a text as [`tokens`] gives them, or `None` where it has more than `most` of them: then the first `most` were read
+/// without a fault, and nothing behind them, so that no more memory is taken than for these.
 ///
 /// # Errors
 ///
@@ -200,6 +200,7 @@ pub fn tokens_up_to(
     ensures exact { IfOk result (λ found. IfSome found (λ v. tokens_in text.now ≡ Ok (all_placed v.items))) }
     ensures legal { IfOk result (λ found. IfSome found (λ v. All (λ t. IsLexeme (lexeme_of t.word)) v.items)) }
     ensures more { IfOk result (λ found. IfNone found ((ts : List Placed) → tokens_in text.now ≡ Ok ts → most < length ts)) }
+    ensures first { IfOk result (λ found. IfNone found (begins_with most 0 0 text.now ≡ true)) }
     ensures longer { IfOk result (λ found. IfNone found (most < length text.now)) }
     ensures refused { IfErr result (λ error. Fails error (tokens_in text.now)) }
 {

@@ -1,5 +1,5 @@
 -- The bytes of a token that was read are passed over, and what a reader leaves is an end of the bytes.
-use Rattle.std.proofs.Common.{◌≡◌, ℕ, zero, suc, ◌+◌, ◌-◌, ◌≤◌, Bool, true, false, cond, ltb, List, [], ◌∷◌, length, drop, take, map}
+use Rattle.std.proofs.Common.{◌≡◌, ℕ, zero, suc, ◌+◌, ◌≤◌, Bool, true, false, cond, ltb, List, [], ◌∷◌, length, drop, take, map}
 use Rattle.std.proofs.Common.{Option, Some, None, Result, Ok, Err, refl, ap, ◌∙◌, arith}
 use Rattle.query_tokens.specs.declared.fault.Fault.{Fault}
 use Rattle.query_tokens.specs.declared.fault.Fault.TheVariants.{Syntax}
@@ -12,7 +12,7 @@ use Rattle.grouping_model.specs.declared.limits.TheConstants.{MAX_NAME_LEN}
 use Rattle.query_tokens.specs.declared.word.Symbol.{Symbol}
 use Rattle.query_tokens.specs.Bytes.{begins_name, is_in_name, first_is, symbol_of_one, symbol_of_two}
 use Rattle.query_tokens.specs.Tokens.{number_after, integer_of, name_at, integer_at, integer_or_fault, and_before, string_content}
-use Rattle.query_tokens.specs.Tokens.{text_or_fault, text_at, symbol_or_fault, longest_symbol, symbol_at, word_at, tokens_at}
+use Rattle.query_tokens.specs.Tokens.{text_or_fault, text_at, symbol_or_fault, longest_symbol, symbol_at, word_at, tokens_at, begins_with}
 
 -- the bytes of a token that has been read are passed over
 pub passes : (within at : ℕ) (bytes : List ℕ) → tokens_at within at bytes ≡ tokens_at 0 (at + within) (drop within bytes)
@@ -20,6 +20,15 @@ unfolding tokens_at
 passes zero at bytes = ap (λ (k : ℕ). tokens_at 0 k bytes) (omega arith)
 passes (suc n) at [] = refl
 passes (suc n) at (b ∷ bs) = passes n (at + 1) bs ∙ ap (λ (k : ℕ). tokens_at 0 k (drop n bs)) (omega arith)
+
+pub begun_passes : (tokens within at : ℕ) (bytes : List ℕ)
+    → begins_with tokens within at bytes ≡ begins_with tokens 0 (at + within) (drop within bytes)
+unfolding begins_with
+begun_passes zero within at bytes = refl
+begun_passes (suc k) zero at bytes = ap (λ (n : ℕ). begins_with (suc k) 0 n bytes) (omega arith)
+begun_passes (suc k) (suc n) at [] = refl
+begun_passes (suc k) (suc n) at (b ∷ bs) =
+    begun_passes (suc k) n (at + 1) bs ∙ ap (λ (m : ℕ). begins_with (suc k) 0 m (drop n bs)) (omega arith)
 
 -- what a reader leaves is an end of the bytes
 pub record IsEnd (bytes rest : List ℕ) : Type 0 where

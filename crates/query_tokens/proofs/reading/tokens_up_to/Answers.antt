@@ -4,9 +4,9 @@ use Rattle.std.proofs.lemmas.List.{map_push, length-append, length-drop, length-
 use Rattle.query_tokens.specs.declared.word.Token.{Token}
 use Rattle.query_tokens.specs.Words.{lexeme_of, placed_of, all_placed}
 use Rattle.query_tokens.specs.Bytes.{is_space}
-use Rattle.query_tokens.specs.Tokens.{tokens_in}
+use Rattle.query_tokens.specs.Tokens.{tokens_in, begins_with}
 use Rattle.query_tokens.specs.Lemmas.Legal.{tokens_legal}
-use Rattle.query_tokens.proofs.Steps.{passes_space, goes_on, shorter, ends, is_done, more_left}
+use Rattle.query_tokens.proofs.Steps.{passes_space, goes_on, shorter, ends, is_done, more_left, begins_past_space, begins_further, begins_all}
 use Rattle.query_tokens.proofs.reading.tokens_up_to.Goals as goal
 
 pub loop-rest-preserved-then-is_space : goal.loop-rest-preserved-then-is_space
@@ -20,6 +20,10 @@ loop-rest-preserved-then-is_space c =
       few = rw back (omega (arith, length-drop 1 rest, c.loop-rest.invariant.few, some));
       told = rw back (passes_space (length c.args.text.now) (all_placed c.loop-rest.found.items) rest (tokens_in c.args.text.now) some
           (omega (arith, c.loop-rest.invariant.few)) blank c.loop-rest.invariant.told);
+      up_to = c.loop-rest.invariant.up_to;
+      begun = rw back (begins_past_space c.args.most (length c.loop-rest.found.items) (length c.args.text.now) rest
+          (begins_with c.args.most 0 0 c.args.text.now) some (omega (arith, c.loop-rest.invariant.few)) blank
+          c.loop-rest.invariant.begun);
     }
 
 pub loop-rest-preserved : goal.loop-rest-preserved
@@ -27,6 +31,8 @@ loop-rest-preserved c =
     let rest = c.loop-rest.rest.now in
     let some : 0 < length rest = rw (← c.as_bytes.ensures.value) c.in-len1-up.len_at_least in
     let solid : is_space (get_or rest 0 0) ≡ false = rw (← c.as_bytes.ensures.value) (sym c.is_space.ensures ∙ c.if-is_space.false) in
+    let low : length c.loop-rest.found.items < c.args.most =
+    omega (arith, c.loop-rest.invariant.up_to, c.len.ensures, c.if-len-most.false) in
     let at = length c.args.text.now - length rest in
     let token : Token = record { at = at; word = c.in_ok-word.word } in
     let e : all_placed c.push.new.self.items ≡ all_placed c.loop-rest.found.items ++ placed_of token
@@ -44,6 +50,11 @@ loop-rest-preserved c =
       told = rw e (goes_on (length c.args.text.now) (all_placed c.loop-rest.found.items) rest (lexeme_of c.in_ok-word.word)
           c.in_ok-word.after.now (tokens_in c.args.text.now) some (omega (arith, c.loop-rest.invariant.few)) solid c.in_ok-word.ensures
           c.loop-rest.invariant.told);
+      up_to = rw c.in_ok-push.ensures.items (omega (arith, length-append c.loop-rest.found.items (token ∷ []), low));
+      begun = rw c.in_ok-push.ensures.items (rw (length-append c.loop-rest.found.items (token ∷ []))
+          (begins_further c.args.most (length c.loop-rest.found.items) (length c.args.text.now) rest (lexeme_of c.in_ok-word.word)
+          c.in_ok-word.after.now (begins_with c.args.most 0 0 c.args.text.now) low some
+          (omega (arith, c.loop-rest.invariant.few)) solid c.in_ok-word.ensures c.loop-rest.invariant.begun));
     }
 
 pub loop-rest-smaller : goal.loop-rest-smaller
@@ -77,6 +88,11 @@ returns-then-len-most-clause-longer c =
     let rest = c.loop-rest.rest.now in
     let some : 0 < length rest = rw (← c.as_bytes.ensures.value) c.in-len1-up.len_at_least in
     omega (arith, some, c.loop-rest.invariant.few, c.len.ensures, c.if-len-most.true)
+
+pub returns-then-len-most-clause-first : goal.returns-then-len-most-clause-first
+returns-then-len-most-clause-first c =
+    begins_all c.args.most (length c.loop-rest.found.items) (length c.args.text.now) c.loop-rest.rest.now
+    (begins_with c.args.most 0 0 c.args.text.now) (omega (arith, c.len.ensures, c.if-len-most.true)) c.loop-rest.invariant.begun
 
 pub returns-clause-exact : goal.returns-clause-exact
 returns-clause-exact c =
