@@ -13,7 +13,7 @@ use Rattle.std.specs.Prelude.{◌∷◌, Option, Some, None}
 use Rattle.std.proofs.Common.{◌∙◌, sym, ap, subst, inl, inr, arith}
 use Rattle.std.specs.Ordering.{eq_by_cmp, nat_cmp}
 use Rattle.origin_prefix.specs.Parts.{Batches, rows_at}
-use Rattle.origin_prefix.specs.Joins.{either, DiffersAt}
+use Rattle.origin_prefix.specs.Joins.{either, DiffersAt, AreAmong}
 use Rattle.origin_prefix.specs.Lemmas.ByNumber.{numbers, some_is, at_head, behind_head, none_found, above_first}
 use Rattle.origin_prefix.specs.Lemmas.Lists.{is_itself, is_same, is_other, same_or_other}
 
@@ -185,3 +185,25 @@ differs_behind above one other n d =
 pub either_none : {X : Type 0} (o : Option X) → either o None ≡ o
 either_none None = refl
 either_none (Some x) = refl
+
+-- ---- batches that are among others
+
+-- those behind a number are where all of them are
+pub among_behind : (above : ℕ) (early others : Batches) → AreAmong above (behind_number above early) others → AreAmong above early others
+among_behind above early others among number low rows there =
+    let test : nat_lt above number ≡ true = grind (arith, low) in
+    among number low rows (found_behind above early number ∙ ap (λ b. if b then rows_at early number else None) test ∙ there)
+
+-- one batch more is
+pub among_more : (above number : ℕ) (rows : List (List ℕ)) (rest others : Batches) → rows_at others number ≡ Some rows
+    → AreAmong above rest others → AreAmong above ((number, rows) ∷ rest) others
+among_more above number rows rest others has among n low those there = go (same_or_other n number)
+  where
+    go : (n ≡ number) ⊎ (n ≢ number) → rows_at others n ≡ Some those
+    go (inl same) =
+        ap (rows_at others) same ∙ has ∙ ap Some (some_is rows those (sym (at_head number rows rest)
+        ∙ ap (rows_at ((number, rows) ∷ rest)) (sym same) ∙ there))
+    go (inr apart) = among n low those (sym (behind_head n number rows rest apart) ∙ there)
+
+pub among_none : (above : ℕ) (others : Batches) → AreAmong above [] others
+among_none above others number low rows there = absurd (true≢false (sym (ap is_some there)))

@@ -1,6 +1,7 @@
 -- What two parts give that are joined.
-use Rattle.std.specs.Prelude.{◌≡◌, ℕ, ◌<◌, nat_lt, Bool, true, List, [], None, if◌then◌else◌, Result, Ok, Err, IsErrAnd}
+use Rattle.std.specs.Prelude.{◌≡◌, ◌↔◌, ℕ, ◌<◌, ◌≤◌, nat_lt, Bool, true, false, IsTrue, List, [], None, if◌then◌else◌, Result, Ok, Err, IsErrAnd}
 use Rattle.std.proofs.Common.{◌∙◌, sym, subst, ap, arith}
+use Rattle.std.proofs.lemmas.Bool.{true≢false}
 use Rattle.std.specs.List.{AllByRecursion}
 use Rattle.std.specs.List.Sorted.{IsStrictlySortedBy}
 use Rattle.std.specs.Ordering.{nat_cmp}
@@ -9,7 +10,7 @@ use Rattle.grouping_model.specs.Datum.{Kind}
 use Rattle.packed_rows.specs.Columns.{kinds}
 use Rattle.query_checks.specs.Checks.{Checked}
 use Rattle.origin_prefix.specs.Parts.{Batches, Part, rows_at, IsEarly, IsBehind, IsOpen, IsPartOf}
-use Rattle.origin_prefix.specs.Joins.{either, Unites, Joining, JoinTells}
+use Rattle.origin_prefix.specs.Joins.{either, Unites, Joining, JoinTells, AreAmong, Includes}
 use Rattle.origin_prefix.specs.declared.error.JoinError.{JoinError}
 use Rattle.origin_prefix.specs.Lemmas.ByNumber.{numbers}
 
@@ -81,3 +82,19 @@ refused_joining honest query a b (Err e) error given tells = record {
   agree = tt;
   tells = subst (λ why. JoinTells why a b) (sym given) tells;
 }
+
+-- a part that is seen by its fields includes another one or not
+pub includes_seen : (b : Bool) (own mine those theirs : Part) → own ≡ mine → those ≡ theirs → IsTrue b ↔ Includes own those
+    → IsTrue b ↔ Includes mine theirs
+includes_seen b own mine those theirs view their_view is =
+    subst (λ (p : Part). IsTrue b ↔ Includes p theirs) view (subst (λ (p : Part). IsTrue b ↔ Includes own p) their_view is)
+
+pub includes_not : (own those : Part) → (Includes own those → ⊥) → IsTrue false ↔ Includes own those
+includes_not own those never = (λ t. absurd (true≢false (sym t)), λ has. absurd (never has))
+
+pub includes_where : (b : Bool) (own those : Part) → those.prefix ≤ own.prefix → (own.prefix ≡ those.prefix → own.run ≡ those.run)
+    → IsTrue b ↔ AreAmong own.prefix those.early own.early → IsTrue b ↔ Includes own those
+includes_where b own those long groups early = (
+  λ t. record { longer = long; groups = groups; early = early.0 t },
+  λ has. early.1 has.early,
+)

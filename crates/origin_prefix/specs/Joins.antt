@@ -1,5 +1,5 @@
 -- What becomes of two parts of one origin that are joined. All of this is our own.
-use Rattle.std.specs.Prelude.{◌≡◌, ◌≢◌, ℕ, ◌<◌, ◌⊎◌, max, nat_lt, Bool, List, map, Option, Some, None}
+use Rattle.std.specs.Prelude.{◌≡◌, ◌≢◌, ℕ, ◌<◌, ◌≤◌, ◌⊎◌, max, nat_lt, Bool, List, map, Option, Some, None}
 use Rattle.std.specs.Prelude.{if◌then◌else◌, Result, IfOk, IfErr, OnOk}
 use Rattle.std.specs.List.{AllByRecursion}
 use Rattle.std.specs.List.Sorted.{IsStrictlySortedBy}
@@ -65,6 +65,18 @@ pub record Unites (prefix : ℕ) (a b : Part) (behind : Batches) : Type 0 where
   pub above : AllByRecursion (λ (batch : ℕ × List (List ℕ)). prefix < batch.0) behind
   pub rows : (number : ℕ) → prefix < number → rows_at behind number ≡ either (rows_at a.early number) (rows_at b.early number)
 
+-- the batches of some behind a number are among others, with the same rows
+abbrev pub AreAmong : ℕ → Batches → Batches → Type 0
+AreAmong above some others =
+    (number : ℕ) → above < number → (rows : List (List ℕ)) → rows_at some number ≡ Some rows → rows_at others number ≡ Some rows
+
+-- a part includes another one: its prefix is as long at least, with the same groups where both are as long, and it has the early batches
+-- of the other that are behind its prefix
+pub record Includes (own other : Part) : Type 0 where
+  pub longer : other.prefix ≤ own.prefix
+  pub groups : own.prefix ≡ other.prefix → own.run ≡ other.run
+  pub early : AreAmong own.prefix other.early own.early
+
 -- what two parts give that are joined: the longer prefix's groups, and the early batches of both, as far as they follow, folded
 pub record Joins (honest : Bool) (query : Query) (a b new : Part) : Type 0 where
   pub behind : Batches
@@ -87,3 +99,9 @@ pub record UniteIsCounted (long short : Part) (query : Query) (setting : Setting
 
 abbrev pub JoinIsCounted : (a b : Part) → Query → Setting → Work → ℕ → Work → ℕ → Type 0
 JoinIsCounted a b = UniteIsCounted (longer a b) (shorter a b)
+
+-- a part stays where it is joined with another one: both agree, they give it again, and nothing is aggregated
+pub record StaysJoined (query : Checked) (own other : Part) : Type 0 where
+  pub joins : (honest : Bool) → Joins honest (meaning query) own other own
+  pub agree : ¬ (PartsDisagree own other)
+  pub counted : (setting : Setting) (work : Work) (writes : ℕ) → JoinIsCounted own other (meaning query) setting work writes work writes

@@ -6,3 +6,4 @@ pub mod CountLaws
 pub mod DeliverLaws
 pub mod TellingLaws
 pub mod FittingLaws
+pub mod IncludedLaws

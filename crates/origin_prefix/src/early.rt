@@ -9,7 +9,7 @@ ghost use Rattle.origin_prefix.specs.Parts.{rows_at, IsBehind, following, rows_f
 ghost use Rattle.grouping_model.specs.Datum.{Kind};
 ghost use Rattle.std.specs.List.Sorted.{IsStrictlySortedBy};
 ghost use Rattle.std.specs.Ordering.{nat_cmp};
-ghost use Rattle.origin_prefix.specs.Joins.{either, IsFirstDifference};
+ghost use Rattle.origin_prefix.specs.Joins.{either, IsFirstDifference, AreAmong};
 ghost use Rattle.std.specs.Option.{option_copied};
 
 use batch_reader::PackedRows;
@@ -102,6 +102,32 @@ fn differs_from(rows: &PackedRows, found: Option<&PackedRows>) -> bool
 {
     match found {
         Some(those) => !rows.same_rows(those),
+        None => false,
+    }
+}
+
+/// Whether the early batches behind a number are among others, with the same rows.
+pub(crate) fn are_among(
+    number: u32,
+    early: &BTreeMap<u32, PackedRows>,
+    others: &BTreeMap<u32, PackedRows>,
+) -> bool
+    ensures { IsTrue result ↔ AreAmong number early.now.entries others.now.entries }
+{
+    for (next, rows) in early.range((Excluded(number), Unbounded)) {
+        if !has_rows(others.get(next), rows) {
+            return false;
+        }
+    }
+    true
+}
+
+/// Whether there are rows, and these.
+fn has_rows(found: Option<&PackedRows>, rows: &PackedRows) -> bool
+    ensures { IsTrue result ↔ (option_copied found.entry ≡ Some rows.now) }
+{
+    match found {
+        Some(those) => rows.same_rows(those),
         None => false,
     }
 }

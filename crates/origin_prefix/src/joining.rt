@@ -1,14 +1,14 @@
 //! Joining two parts of one origin.
 
-ghost use Rattle.std.specs.Prelude.{◌≡◌, ◌≤◌, ℕ, Option, IfOk, IfErr};
+ghost use Rattle.std.specs.Prelude.{◌≡◌, ◌≤◌, ◌↔◌, ℕ, Option, IfOk, IfErr, IsTrue};
 ghost use Rattle.having_filter.specs.Meaning.{meaning};
 ghost use Rattle.hash_agg.specs.Ran.{Ran, ended};
 ghost use Rattle.origin_prefix.specs.Errors.{join_ended};
 ghost use Rattle.origin_prefix.specs.Parts.{Batches, IsPartOf, Drains};
-ghost use Rattle.origin_prefix.specs.Joins.{PartsDisagree, DisagreeAt, Joining, JoinIsCounted, Unites, UniteIsCounted};
+ghost use Rattle.origin_prefix.specs.Joins.{PartsDisagree, DisagreeAt, Joining, JoinIsCounted, Unites, UniteIsCounted, Includes};
 ghost use Rattle.origin_prefix.specs.declared.error.JoinError.TheVariants.{OriginDisagrees};
 
-use crate::early::{copy_above, first_difference};
+use crate::early::{are_among, copy_above, first_difference};
 use crate::error::JoinError;
 use crate::part::OriginPart;
 use hash_agg::{KeyHash, Means, SpillError, TapeDisk, Work};
@@ -39,6 +39,21 @@ impl OriginPart {
             return Ok(other.united(self, query, means, disk, work)?);
         }
         Ok(self.united(other, query, means, disk, work)?)
+    }
+
+    /// Whether this part includes another one of the origin: then both agree, and joined they give this part again, so that a caller need
+    /// not copy it. That is so where the other's prefix is not longer, has the same groups if it is as long, and its early batches behind the
+    /// prefix are early here too.
+    pub fn includes(&self, other: &OriginPart) -> bool
+        ensures { IsTrue result ↔ Includes self.now other.now }
+    {
+        if other.prefix > self.prefix {
+            return false;
+        }
+        if other.prefix == self.prefix && !self.run.same_groups(&other.run) {
+            return false;
+        }
+        are_among(self.prefix, &other.early, &self.early)
     }
 
     /// Refuses parts that disagree, and tells where they do first.

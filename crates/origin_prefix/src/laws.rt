@@ -12,7 +12,7 @@ ghost use Rattle.query_checks.specs.Checks.{Checked};
 ghost use Rattle.having_filter.specs.Meaning.{meaning};
 ghost use Rattle.origin_prefix.specs.Fitting.{FitsOrigin};
 ghost use Rattle.origin_prefix.specs.Parts.{Part, tells, IsPartOf, Delivers, Disagrees};
-ghost use Rattle.origin_prefix.specs.Joins.{Joins, PartsDisagree};
+ghost use Rattle.origin_prefix.specs.Joins.{Joins, PartsDisagree, Includes, StaysJoined};
 
 /// What a part tells after a batch was delivered is that number more, and what joined parts tell is what either tells.
 pub fn told_numbers()
@@ -42,4 +42,9 @@ pub fn fitting_parts()
     ensures agree { (query : Checked) (world : World) (origin : ℕ) (a b : Part) →
         FitsOrigin (meaning query) world origin a → FitsOrigin (meaning query) world origin b →
         ¬ (PartsDisagree a b) }
+{}
+
+/// A part that includes another one stays where it is joined with that.
+pub fn included_parts()
+    ensures { (query : Checked) (own other : Part) → IsPartOf query own → Includes own other → StaysJoined query own other }
 {}
