@@ -1,9 +1,11 @@
 /* For bin/try_library: calls each function of the library, and holds what it answers to what it has to. It says the line of the first check
- * that fails, and its status is 1 then, else 0. Where it is told so, it goes on behind want of memory, which each call may tell, and says
- * 'refused' then; nothing may be lost in either case.
+ * that fails, and its status is 1 then, else 0. With the word 'refused' it ends where a call tells want of memory, and says so; then
+ * all memory has to be given back by the end, which malloc tells where it has no cache of a thread (glibc.malloc.tcache_count=0).
  */
+#define _GNU_SOURCE
 #include "agg.h"
 
+#include <malloc.h>
 #include <stdio.h>
 #include <stdlib.h>
 #include <string.h>
@@ -16,18 +18,15 @@
 static agg_slot one = AGG_SLOT_INIT, two = AGG_SLOT_INIT;
 static int refused;
 
-static int end(int status) {
-    agg_close(&one);
-    agg_close(&two);
-    return status;
-}
+/* How a part ended. */
+enum { GO_ON, FAILED, REFUSED };
 
 /* A check that has to hold. */
 #define CHECK(holds) \
     do { \
         if (!(holds)) { \
             printf("line %d: %s\n", __LINE__, #holds); \
-            return end(1); \
+            return FAILED; \
         } \
     } while (0)
 
@@ -36,16 +35,15 @@ static int end(int status) {
     do { \
         uint32_t told = (call); \
         if (told == AGG_NO_MEMORY && refused) { \
-            puts("refused"); \
-            return end(0); \
+            return REFUSED; \
         } \
         if (told != (status)) { \
             printf("line %d: %s is %u\n", __LINE__, #call, told); \
-            return end(1); \
+            return FAILED; \
         } \
     } while (0)
 
-static uint8_t buffer[65536];
+static uint8_t buffer[65536], kept[65536];
 
 /* Whether what was told last of a slot is a text. */
 static int told(agg_slot *slot, const char *text) {
@@ -72,7 +70,7 @@ static int empty_slots(void) {
     CHECK(agg_columns(&one, &wanted) == AGG_NOT_OPEN && agg_reason(&one, &place, &wanted) == AGG_NOT_OPEN);
     CHECK(agg_fetch(&one, buffer, sizeof buffer, &wanted) == AGG_NOT_OPEN && wanted == 0);
     CHECK(agg_close(&one) == AGG_NOT_OPEN && agg_close(&one) == AGG_NOT_OPEN);
-    return 0;
+    return GO_ON;
 }
 
 static int refusals_of_new(void) {
@@ -90,7 +88,7 @@ static int refusals_of_new(void) {
     CALL(AGG_NOT_A_SUMMARY, agg_load(&one, TEXT("no summary"), 65536, SEEDS));
     CALL(AGG_TRUNCATED, agg_load(&one, TEXT("AGGSUM02"), 65536, SEEDS));
     CALL(AGG_LIMIT_OUT_OF_RANGE, agg_load(&one, TEXT("AGGSUM02"), 0, SEEDS));
-    return 0;
+    return GO_ON;
 }
 
 static int feeding(void) {
@@ -137,7 +135,7 @@ static int feeding(void) {
     CHECK(rows == 4 && told(&one, "c,count,s\n\"a,b\",1,\\N\nbergen,1,7\noslo,3,4\n\\N,1,4\n"));
     CALL(AGG_DONE, agg_answer(&one, true, &rows, &wanted));
     CHECK(rows == 4 && begins(&one, "c "));
-    return 0;
+    return GO_ON;
 }
 
 static int merging(void) {
@@ -147,8 +145,9 @@ static int merging(void) {
     CHECK(agg_merge(&one, &two) == AGG_NOT_OPEN && agg_merge(&two, &one) == AGG_NOT_OPEN);
     CHECK(agg_merge(&one, &one) == AGG_NOT_OPEN);
     CALL(AGG_DONE, agg_save(&one, &length));
-    uint8_t *file = malloc(length);
-    CHECK(file && agg_fetch(&one, file, length, &wanted) == AGG_DONE && wanted == length);
+    CHECK(length <= sizeof kept);
+    uint8_t *file = kept;
+    CHECK(agg_fetch(&one, file, length, &wanted) == AGG_DONE && wanted == length);
     CALL(AGG_DONE, agg_load(&two, file, length, 65536, SEEDS));
     CALL(AGG_DONE, agg_save(&two, &again));
     CHECK(again == length && agg_fetch(&two, buffer, sizeof buffer, &wanted) == AGG_DONE && !memcmp(buffer, file, length));
@@ -158,13 +157,10 @@ static int merging(void) {
     CALL(AGG_DONE, agg_merge_bytes(&two, file, length));
     CALL(AGG_NOT_A_SUMMARY, agg_merge_bytes(&two, TEXT("no summary")));
     CALL(AGG_TRAILING, agg_merge_bytes(&two, buffer, length + 1));
-    free(file);
     CALL(AGG_DONE, agg_save(&one, &wanted));
     CALL(AGG_DONE, agg_save(&two, &length));
     CHECK(wanted == length && agg_fetch(&one, buffer, sizeof buffer, &wanted) == AGG_DONE);
-    uint8_t *other = malloc(length);
-    CHECK(other && agg_fetch(&two, other, length, &wanted) == AGG_DONE && !memcmp(buffer, other, length));
-    free(other);
+    CHECK(length <= sizeof kept && agg_fetch(&two, kept, length, &wanted) == AGG_DONE && !memcmp(buffer, kept, length));
     CALL(AGG_DONE, agg_known(&one, &wanted));
     CHECK(told(&one, "origin 3 upto 3\norigin 4 upto 1\n"));
     CHECK(agg_close(&two) == AGG_DONE && agg_close(&two) == AGG_NOT_OPEN);
@@ -174,7 +170,7 @@ static int merging(void) {
     CHECK(place.kind == AGG_PLACE_NONE && wanted > 0);
     CALL(AGG_DONE, agg_known(&one, &wanted));
     CHECK(told(&one, "origin 3 upto 3\norigin 4 upto 1\n"));
-    return 0;
+    return GO_ON;
 }
 
 static int names(void) {
@@ -183,12 +179,24 @@ static int names(void) {
     CHECK(agg_status_name(AGG_NO_MEMORY, buffer, 7, &wanted) == AGG_TOO_SHORT && wanted == 8);
     CHECK(agg_status_name(5, buffer, 8, &wanted) == AGG_NO_SUCH_NAME && agg_status_name(4294967295, buffer, 8, &wanted) == AGG_NO_SUCH_NAME);
     CHECK(agg_version(buffer, sizeof buffer, &wanted) == AGG_DONE && wanted == 5);
-    return 0;
+    return GO_ON;
 }
 
 int main(int count, char **words) {
+    static int (*const parts[])(void) = {names, empty_slots, refusals_of_new, feeding, merging};
     refused = count > 1 && !strcmp(words[1], "refused");
-    if (names() || empty_slots() || refusals_of_new() || feeding() || merging()) return 1;
-    puts("done");
-    return end(0);
+    setvbuf(stdout, NULL, _IONBF, 0);
+    free(strdup("malloc has begun"));
+    size_t before = mallinfo2().uordblks;
+    int ended = GO_ON;
+    for (size_t part = 0; part < sizeof parts / sizeof *parts && ended == GO_ON; part++) ended = parts[part]();
+    agg_close(&one);
+    agg_close(&two);
+    if (refused && mallinfo2().uordblks != before) {
+        printf("%zu bytes are lost\n", mallinfo2().uordblks - before);
+        return FAILED;
+    }
+    if (ended == FAILED) return FAILED;
+    puts(ended == REFUSED ? "refused" : "done");
+    return GO_ON;
 }

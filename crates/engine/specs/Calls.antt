@@ -1,6 +1,6 @@
--- What the calls of a session do, and those of a caller from outside. All of this is our own; each calls what a command does by its name.
+-- What the calls of a session do, each by what a command does. All of this is our own.
 use Rattle.std.specs.Prelude.{◌≡◌, ◌≢◌, ◌<◌, ◌≤◌, ◌⊎◌, ℕ, Bool, true, List, [], length, decimal, Option, Some, None, Result, Ok, Err}
-use Rattle.std.specs.Prelude.{IsOk, IsUtf8}
+use Rattle.std.specs.Prelude.{IsUtf8}
 use Rattle.grouping_model.specs.Aggregates.{Outcome}
 use Rattle.grouping_model.specs.Answer.{answer}
 use Rattle.grouping_model.specs.World.{World, IsWorld}
@@ -22,12 +22,7 @@ use Rattle.replies.specs.declared.refusal.Refusal.TheVariants.{NoMemory, BadComm
 use Rattle.replies.specs.declared.showing.Format.{Format}
 use Rattle.command_replicas.specs.Commands.{IsNew, IsNotNew, IsTooLong}
 use Rattle.command_replicas.specs.Results.{Feeds, LoadsFile, MergesFile}
-use Rattle.engine.specs.Sessions.{SessionState, KeptState}
-use Rattle.engine.specs.Statuses.{status_of, told_by}
-use Rattle.engine.specs.declared.status.Status.{Status}
-use Rattle.engine.specs.declared.status.Status.TheVariants.{NotOpen, AlreadyOpen}
-
--- ---- a session
+use Rattle.engine.specs.Sessions.{SessionState}
 
 -- a limit is out of its range
 pub record IsNoLimit (limit : ℕ) (why : Refusal) : Type 0 where
@@ -85,35 +80,3 @@ pub record IsTableOf (format : Format) (held : Held) (rows : ℕ) (text : List �
       → (rows ≡ length (answer (meaning held.query) world (told held.parts)))
       × (text ≡ text_of format held.query (answer (meaning held.query) world (told held.parts)))
   pub shown : (shown : List (List Outcome)) × ((rows ≡ length shown) × (text ≡ text_of format held.query shown))
-
--- ---- what is kept between the calls of a caller from outside
-
--- a call that wants a session: where none is open that is told and nothing changes; else the session does so, and a refusal is told by
--- its status
-abbrev pub OnSession : {T : Type 0} → (does : SessionState → SessionState → Result T Refusal → Type 0) → (old new : Option SessionState)
-    → Result T Status → Type 0
-OnSession does None new result = (new ≡ None) × (result ≡ Err NotOpen)
-OnSession {T = T} does (Some old) new result = (session : SessionState) × (outcome : Result T Refusal) × (new ≡ Some session)
-    × does old session outcome × (result ≡ told_by outcome)
-
--- a call that opens a session: where one is open that is told and nothing changes; else one is made, or why it is not
-abbrev pub OpensBy : {T : Type 0} → (makes : Result SessionState Refusal → Type 0) → (old new : Option SessionState) → Result T Status
-    → Type 0
-OpensBy makes (Some old) new result = (new ≡ Some old) × (result ≡ Err AlreadyOpen)
-OpensBy makes None (Some new) result = makes (Ok new) × IsOk result
-OpensBy makes None None result = (why : Refusal) × makes (Err why) × (result ≡ Err (status_of why))
-
--- a call that asks a session, which stays as it is: what is answered is told
-abbrev pub Asks : {T : Type 0} → (tells : Held → List ℕ → T → Type 0) → (refuses : Held → Refusal → Type 0) → (told : List ℕ)
-    → SessionState → SessionState → Result T Refusal → Type 0
-Asks tells refuses told old new (Ok answered) = (new ≡ old) × tells old.held told answered
-Asks tells refuses told old new (Err why) = (new ≡ old) × refuses old.held why
-
--- it is refused for want of memory alone
-abbrev pub ForMemory : Held → Refusal → Type 0
-ForMemory held why = why ≡ NoMemory
-
--- a call that merges what another caller keeps: where that has no session, this is told and nothing changes
-abbrev pub MergesWith : {T : Type 0} → Option SessionState → (old new : Option SessionState) → Result T Status → Type 0
-MergesWith None old new result = (new ≡ old) × (result ≡ Err NotOpen)
-MergesWith (Some other) old new result = OnSession (MergesSession other) old new result

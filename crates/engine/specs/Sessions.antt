@@ -1,17 +1,8 @@
--- What a session holds, and what is kept between the calls of a caller from outside. All of this is our own.
-use Rattle.std.specs.Prelude.{ℕ, List, [], Option, None}
+-- What a session holds. All of this is our own.
+use Rattle.std.specs.Prelude.{ℕ}
 use Rattle.replica_merge.specs.Replicas.{Held}
 
 -- a replica, and the limit of its aggregations
 pub record SessionState : Type 0 where
   pub held : Held
   pub limit : ℕ
-
--- the session, if one is open, and what was told last, until it is fetched
-pub record KeptState : Type 0 where
-  pub session : Option SessionState
-  pub told : List ℕ
-
--- no session is open, and nothing was told
-abbrev pub nothing : KeptState
-nothing = record { session = None; told = [] }

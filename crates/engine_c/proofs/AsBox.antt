@@ -6,8 +6,8 @@ use Rattle.std_alloc.proofs.BoxSteps.Form.{Bx}
 use Rattle.std_heap.specs.contracts.Global as Heap
 use Rattle.std_heap.specs.contracts.GlobalAllocator.TheImpl.{ghosts, dict}
 use Rattle.std_heap.proofs.Global.TheLaws as heap
-use Rattle.engine.specs.contracts.kept.Kept as Kept
-use Rattle.engine.proofs.kept.Kept.TheLaws as kept
+use Rattle.engine_calls.specs.contracts.kept.Kept as Kept
+use Rattle.engine_calls.proofs.kept.Kept.TheLaws as kept
 use Rattle.engine_c.specs.contracts.parts.Parts as Parts
 use Rattle.engine_c.specs.contracts.handle.Handle as Handle
 

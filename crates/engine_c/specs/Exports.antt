@@ -6,8 +6,9 @@ use Rattle.replica_merge.specs.Replicas.{Held}
 use Rattle.replies.specs.declared.refusal.Refusal.{Refusal}
 use Rattle.replies.specs.declared.showing.Format.{Format}
 use Rattle.replies.specs.declared.showing.Format.TheVariants.{Csv, Aligned}
-use Rattle.engine.specs.Calls.{OnSession, Asks}
-use Rattle.engine.specs.Sessions.{SessionState, KeptState, nothing}
+use Rattle.engine_calls.specs.Calls.{OnSession, Asks}
+use Rattle.engine.specs.Sessions.{SessionState}
+use Rattle.engine_calls.specs.Keeping.{KeptState, nothing}
 use Rattle.engine.specs.Statuses.{number_told}
 use Rattle.engine.specs.declared.status.Status.{Status}
 use Rattle.engine_c.specs.declared.delivery.Delivery.{Delivery}

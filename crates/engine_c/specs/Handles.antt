@@ -7,7 +7,7 @@ use Rattle.std.specs.declared.option.Option.TheVariants.{None, Some}
 use Rattle.std.specs.declared.alloc.Global.{Global}
 use Rattle.std.specs.contracts.impls.GlobalAllocator.TheImpl.{ghosts}
 use Rattle.std.specs.Box.Ownership.{box_owns}
-use Rattle.engine.specs.contracts.kept.Kept.{the_row}
+use Rattle.engine_calls.specs.contracts.kept.Kept.{the_row}
 
 abbrev pub Content : Type 0
 Content = the_row.Denot

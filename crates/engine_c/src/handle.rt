@@ -1,11 +1,11 @@
 //! Handles: nothing, or a box of what is kept, of which C sees the pointer.
 
 ghost use Rattle.std.specs.Prelude.{◌≡◌, Option, None, Some, IsSome};
-ghost use Rattle.engine.specs.Sessions.{KeptState};
+ghost use Rattle.engine_calls.specs.Keeping.{KeptState};
 ghost use Rattle.engine_c.specs.Handles.{handle_owns, content_coded};
 
 use crate::parts::Parts;
-use engine::Kept;
+use engine_calls::Kept;
 use std::alloc::Global;
 use std::marker::Model;
 use std::ptr::null_mut;

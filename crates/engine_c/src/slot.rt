@@ -5,7 +5,7 @@ ghost use Rattle.engine_c.specs.Exports.{kept_by};
 
 use crate::handle::Handle;
 use crate::parts::Parts;
-use engine::Kept;
+use engine_calls::Kept;
 use std::alloc::{AllocError, Global};
 use std::mem::replace;
 

@@ -9,15 +9,14 @@ ghost use Rattle.query_checks.specs.Spelling.{spelling};
 ghost use Rattle.replica_merge.specs.Replicas.{told};
 ghost use Rattle.replies.specs.Text.{origins_text};
 ghost use Rattle.command_replicas.specs.Commands.{IsTooLong};
-ghost use Rattle.engine.specs.Sessions.{nothing};
+ghost use Rattle.engine_calls.specs.Keeping.{nothing};
 ghost use Rattle.engine.specs.Statuses.{status_of};
-ghost use Rattle.engine.specs.Calls.{OnSession, OpensBy, Asks, ForMemory, MergesWith, Creates, Loads, FeedsSession, batch_of};
-ghost use Rattle.engine.specs.Calls.{MergesFileSession, IsFileOf, IsTableOf};
+ghost use Rattle.engine.specs.Calls.{Creates, Loads, FeedsSession, batch_of, MergesFileSession, IsFileOf, IsTableOf};
+ghost use Rattle.engine_calls.specs.Calls.{OnSession, OpensBy, Asks, ForMemory, MergesWith};
 
 use crate::place::Place;
 use crate::reasons::{sentence, texts_reason};
-use crate::session::Session;
-use crate::status::Status;
+use engine::{Session, Status};
 use fault_sentences::Reason;
 use file_sentences::{FileKind, file_reason, saving_reason, summary_reason};
 use hash_agg::Seed;
@@ -37,8 +36,8 @@ pub struct Kept {
 }
 
 impl Model for Kept {
-    ghost use Rattle.engine.specs.Sessions.{KeptState};
-    ghost use Rattle.engine.specs.Coding.{coded_kept};
+    ghost use Rattle.engine_calls.specs.Keeping.{KeptState};
+    ghost use Rattle.engine_calls.specs.Coding.{coded_kept};
 
     ghost Value = { KeptState };
 
