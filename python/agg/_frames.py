@@ -18,7 +18,8 @@ _INT, _UINT, _FLOAT, _BOOL, _STRING, _CATEGORICAL = 0, 1, 2, 20, 21, 23
 _NULL_NAN, _NULL_SENTINEL, _NULL_BITS, _NULL_BYTES = 1, 2, 3, 4
 _CPU = 1
 _CODES = {
-    (_INT, 8): "b", (_INT, 16): "h", (_INT, 32): "i", (_INT, 64): "q", (_UINT, 8): "B", (_UINT, 16): "H", (_UINT, 32): "I", (_UINT, 64): "Q",
+    (_INT, 8): "b", (_INT, 16): "h", (_INT, 32): "i", (_INT, 64): "q",
+    (_UINT, 8): "B", (_UINT, 16): "H", (_UINT, 32): "I", (_UINT, 64): "Q",
     (_FLOAT, 32): "f", (_FLOAT, 64): "d", (_BOOL, 8): "B",
 }  # fmt: skip
 

@@ -27,7 +27,8 @@ class _NoField(Exception):
 def _bigint(value: Any) -> str:
     if not isinstance(value, bool) and type(value).__name__ not in ("bool_", "bool"):
         try:
-            number = operator.index(value)
+            # Also of a class above int, whose text may be another.
+            number = int(operator.index(value))
         except TypeError:
             pass
         else:

@@ -134,8 +134,9 @@ class Summary:
         """Feeds the batch of an origin, 0 to 1,023, and a number, 1 to 4,294,967,295.
 
         `rows` are tuples, or other sequences, with a value for each column in order; or dicts with each column's; or a data frame, of any
-        library that has the interchange protocol, with columns of these names. A bigint is an int, a boolean a bool, a text a str, a null
-        None. Of a data frame a float that is an integer is taken, and NaN as a null. The text `\\N` can't be fed, since it is a null's field.
+        library that has the interchange protocol, with columns of these names. A bigint is an int, a boolean a bool, a text a str, and a
+        null None. Of a data frame a float that is an integer is taken too, and NaN as a null. The text `\\N` can't be fed: it is how a
+        null is written.
         """
         head = _number(origin, 32), _number(number, 32)
         if None in head:

@@ -32,7 +32,8 @@ class Place(NamedTuple):
 class Refused(Exception):
     """A call that was refused. Nothing has changed.
 
-    `name` is the refusal's name, `status` its number, `sentence` why, `place` where, and `path` the batch file of which it was said, or None.
+    `name` is the refusal's name, `status` its number, `sentence` why, and `place` where. `path` is the batch file of which it was said, if
+    `agg.dask` read one, and else None.
     """
 
     status: int = 0
@@ -250,9 +251,9 @@ class InputTooLong(RefusedFile):
 
 
 _CLASSES: Tuple[Type[Refused], ...] = (
-    NoMemory, BadCommand, LimitOutOfRange, BadSchema, Syntax, NumberTooLarge, NoSuchColumn, NotGrouped, TypeMismatch, AggregateHere, TooMany,
-    TooDeep, AmbiguousOrder, BadBatchHead, TooManyRows, RowCount, WrongWidth, BadField, NotASummary, Truncated, Trailing, NotCanonical,
-    OutOfRange, BadPacked, BadState, DifferentQuery, OriginDisagrees, InputTooLong,
+    NoMemory, BadCommand, LimitOutOfRange, BadSchema, Syntax, NumberTooLarge, NoSuchColumn, NotGrouped, TypeMismatch, AggregateHere,
+    TooMany, TooDeep, AmbiguousOrder, BadBatchHead, TooManyRows, RowCount, WrongWidth, BadField, NotASummary, Truncated, Trailing,
+    NotCanonical, OutOfRange, BadPacked, BadState, DifferentQuery, OriginDisagrees, InputTooLong,
 )  # fmt: skip
 
 BY_STATUS: Dict[int, Type[Refused]] = {one.status: one for one in _CLASSES}

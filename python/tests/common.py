@@ -7,7 +7,8 @@ import agg
 COLUMNS = "city text, amount bigint, paid boolean"
 QUERY = "SELECT city, count(*), sum(amount) AS total, min(amount), bool_and(paid) FROM batches GROUP BY city"
 
-TEXTS = ["oslo", "bergen", "", " ", "a,b", 'a"b', '"', "a\nb", "a\rb", "\r\n", "\ufeff", "\ufeffx", "\\", "\\n", "null", "NULL", "å", "\U0001f600", "t", "x" * 255]
+TEXTS = ["oslo", "bergen", "", " ", "a,b", 'a"b', '"', "a\nb", "a\rb", "\r\n", "\ufeff", "\ufeffx", "\\", "\\n", "null", "NULL", "t", "1"]
+TEXTS += ["å", "\U0001f600", "x" * 255]
 NUMBERS = [0, 1, -1, 7, 2**63 - 1, -(2**63), None]
 FLAGS = [True, False, None]
 

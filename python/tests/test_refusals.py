@@ -40,6 +40,10 @@ BATCHES = [
 ]
 
 
+# Those that are no refusal, and those that no call of the library answers.
+NO_CLASS = {"TooShort", "NotOpen", "AlreadyOpen", "NoSuchName", "NameTaken", "TapeFault", "TapeDamaged", "ReadFault", "WriteFault"}
+
+
 class Refusals(unittest.TestCase):
     def held(self, why, kind, place):
         self.assertIs(type(why), kind)
@@ -112,8 +116,7 @@ class Refusals(unittest.TestCase):
                 self.assertEqual(kind.__name__, name)
                 self.assertTrue(kind.__doc__)
             elif name:
-                # Those that no call of the library answers, and those that are no refusal.
-                self.assertIn(name, {"TooShort", "NotOpen", "AlreadyOpen", "NoSuchName", "NameTaken", "TapeFault", "TapeDamaged", "ReadFault", "WriteFault"})
+                self.assertIn(name, NO_CLASS)
         self.assertEqual(_library.status_name(5), "")
 
     def test_no_memory_and_what_is_unknown(self):
