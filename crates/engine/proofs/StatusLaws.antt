@@ -1,0 +1,77 @@
+-- The status of a refusal has its name.
+use Rattle.std.specs.Prelude.{◌≡◌, refl}
+use Rattle.query_checks.specs.Names.{query_name}
+use Rattle.query_checks.specs.declared.error.QueryError.{QueryError}
+use Rattle.query_checks.specs.declared.error.QueryError.TheVariants as query
+use Rattle.group_parser.specs.Names.{parse_name}
+use Rattle.group_parser.specs.declared.error.ParseError.{ParseError}
+use Rattle.group_parser.specs.declared.error.ParseError.TheVariants as parse
+use Rattle.batch_reader.specs.Names.{batch_name}
+use Rattle.batch_reader.specs.declared.error.BatchError.{BatchError}
+use Rattle.batch_reader.specs.declared.error.BatchError.TheVariants as batch
+use Rattle.summary_codec.specs.Names.{summary_name}
+use Rattle.summary_codec.specs.declared.error.SummaryError.{SummaryError}
+use Rattle.summary_codec.specs.declared.error.SummaryError.TheVariants as summary
+use Rattle.replies.specs.Text.{refusal_name, run_name}
+use Rattle.replies.specs.declared.error.RunError.{RunError}
+use Rattle.replies.specs.declared.error.RunError.TheVariants as stop
+use Rattle.replies.specs.declared.refusal.Refusal.{Refusal}
+use Rattle.replies.specs.declared.refusal.Refusal.TheVariants as refuse
+use Rattle.engine.specs.Statuses.{status_name, status_of, query_status, parse_status, batch_status, summary_status, run_status}
+
+query_name_is : (e : QueryError) → status_name (query_status e) ≡ query_name e
+query_name_is query.NoMemory = refl
+query_name_is query.NoSuchColumn = refl
+query_name_is query.NotGrouped = refl
+query_name_is query.TypeMismatch = refl
+query_name_is query.AggregateHere = refl
+query_name_is query.TooMany = refl
+query_name_is query.TooDeep = refl
+query_name_is query.AmbiguousOrder = refl
+
+parse_name_is : (e : ParseError) → status_name (parse_status e) ≡ parse_name e
+parse_name_is (parse.Syntax at) = refl
+parse_name_is parse.NumberTooLarge = refl
+parse_name_is (parse.Query error) = query_name_is error
+
+batch_name_is : (e : BatchError) → status_name (batch_status e) ≡ batch_name e
+batch_name_is batch.NoMemory = refl
+batch_name_is batch.BadBatchHead = refl
+batch_name_is batch.TooManyRows = refl
+batch_name_is batch.RowCount = refl
+batch_name_is (batch.WrongWidth row) = refl
+batch_name_is (batch.BadField row column) = refl
+
+summary_name_is : (e : SummaryError) → status_name (summary_status e) ≡ summary_name e
+summary_name_is summary.NoMemory = refl
+summary_name_is summary.NotASummary = refl
+summary_name_is summary.Truncated = refl
+summary_name_is summary.Trailing = refl
+summary_name_is summary.NotCanonical = refl
+summary_name_is summary.OutOfRange = refl
+summary_name_is summary.BadSchema = refl
+summary_name_is summary.BadPacked = refl
+summary_name_is summary.BadState = refl
+summary_name_is (summary.Query error) = parse_name_is error
+
+run_name_is : (e : RunError) → status_name (run_status e) ≡ run_name e
+run_name_is stop.NoMemory = refl
+run_name_is stop.InputTooLong = refl
+run_name_is stop.ReadFault = refl
+run_name_is stop.WriteFault = refl
+
+pub name_is : (why : Refusal) → status_name (status_of why) ≡ refusal_name why
+name_is refuse.NoMemory = refl
+name_is refuse.BadSchema = refl
+name_is (refuse.Limit error) = refl
+name_is (refuse.Query error) = parse_name_is error
+name_is (refuse.Batch error) = batch_name_is error
+name_is (refuse.Summary error) = summary_name_is error
+name_is refuse.DifferentQuery = refl
+name_is (refuse.OriginDisagrees origin number) = refl
+name_is refuse.TapeFault = refl
+name_is refuse.TapeDamaged = refl
+name_is (refuse.Run error) = run_name_is error
+name_is refuse.BadCommand = refl
+name_is refuse.NoSuchName = refl
+name_is refuse.NameTaken = refl

@@ -1,0 +1,11 @@
+-- What a session holds as plain parts, which tell two of them apart. All of this is our own.
+use mathlib.Core.Path.{refl}
+use base.Stored.{Coded}
+use Rattle.std.specs.Prelude.{ℕ}
+use Rattle.std.specs.Coded.{code_by, coded×, coded_ℕ}
+use Rattle.replica_merge.specs.Coding.{coded_held}
+use Rattle.replica_merge.specs.Replicas.{Held}
+use Rattle.engine.specs.Sessions.{SessionState}
+
+abbrev pub coded_session : Coded SessionState
+coded_session = code_by (Held × ℕ) (coded× coded_held coded_ℕ) (λ s. (s.held, s.limit)) (λ p. record { held = p.0; limit = p.1 }) (λ _. refl)

@@ -1,0 +1,4 @@
+pub mod Sessions
+pub mod Coding
+pub mod Statuses
+pub mod Calls

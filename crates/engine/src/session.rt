@@ -1,0 +1,243 @@
+//! A session: a replica with its executor.
+
+ghost use Rattle.std.specs.Prelude.{◌≡◌, ◌≢◌, IfOk, IfErr, OnErr, string_bytes};
+ghost use Rattle.grouping_model.specs.Replies.{known_list};
+ghost use Rattle.batch_reader.specs.File.{read_file};
+ghost use Rattle.having_filter.specs.Kept.{by_names};
+ghost use Rattle.packed_rows.specs.Columns.{printed};
+ghost use Rattle.query_checks.specs.Spelling.{spelling};
+ghost use Rattle.replica_merge.specs.Replicas.{told};
+ghost use Rattle.replies.specs.Text.{origins_text};
+ghost use Rattle.command_replicas.specs.Commands.{IsTooLong};
+ghost use Rattle.engine.specs.Calls.{IsNoLimit, Creates, Loads, FeedsSession, batch_of, MergesSession, MergesFileSession, IsFileOf};
+ghost use Rattle.engine.specs.Calls.{IsTableOf};
+
+use crate::rows::read_numbered;
+use grouping_model::limits::MAX_INPUT_LEN;
+use hash_agg::{Fnv1a, Means, MemDisk, Seed, Work};
+use replica_merge::{Delivered, Replica};
+use replies::{Format, Refusal, RunError, origin_lines, table};
+use std::alloc::{AllocError, Global};
+use std::marker::Model;
+use std::str::from_utf8;
+
+/// A replica, and by what its batches are aggregated: a limit and a seed. What does not keep within the limit is spilled to tapes in
+/// memory, which each call takes anew and gives back.
+#[derive(Drop)]
+pub struct Session {
+    alloc: Global,
+    replica: Replica,
+    means: Means<Fnv1a>,
+}
+
+impl Model for Session {
+    ghost use Rattle.engine.specs.Sessions.{SessionState};
+    ghost use Rattle.engine.specs.Coding.{coded_session};
+
+    ghost Value = { SessionState };
+
+    ghost coded = { coded_session };
+
+    ghost view = { λ s. record { held = s.replica; limit = s.means.limit } };
+}
+
+/// The means of a limit and a seed.
+fn means_of(limit: u64, seed: Seed) -> Result<Means<Fnv1a>, Refusal>
+    ensures means { IfOk result (λ means. means.limit ≡ limit) }
+    ensures refused { IfErr result (IsNoLimit limit) }
+{
+    match Means::new(limit, Fnv1a) {
+        Ok(means) => Ok(means.with_seed(seed)),
+        Err(error) => Err(Refusal::from(error)),
+    }
+}
+
+impl Session {
+    /// A session that knows nothing, of the query that one text says over the columns that another tells, as `columns` and `query` do in
+    /// a script. The limit, in bytes, is as `limit` there. The seed is that of the tables of groups: a random one where others choose the
+    /// keys.
+    ///
+    /// # Errors
+    ///
+    /// `LimitOutOfRange`; `BadCommand` where a text is no UTF-8; `BadSchema`, and then those of the query.
+    pub fn create(
+        alloc: Global,
+        columns: &[u8],
+        query: &[u8],
+        limit: u64,
+        seed: Seed,
+    ) -> Result<Session, Refusal>
+        ensures { Creates columns.now query.now limit result }
+    {
+        let means = means_of(limit, seed)?;
+        let (Ok(columns), Ok(query)) = (from_utf8(columns), from_utf8(query)) else {
+            return Err(Refusal::BadCommand);
+        };
+        match command_replicas::create(alloc, columns, query) {
+            Ok(replica) => Ok(Session {
+                alloc,
+                replica,
+                means,
+            }),
+            Err(why) => Err(why),
+        }
+    }
+
+    /// A session of the replica that a summary file is of.
+    ///
+    /// # Errors
+    ///
+    /// `LimitOutOfRange`, and then those of [`command_replicas::load`].
+    pub fn load(alloc: Global, file: &[u8], limit: u64, seed: Seed) -> Result<Session, Refusal>
+        ensures { Loads file.now limit result }
+    {
+        let means = means_of(limit, seed)?;
+        match command_replicas::load(alloc, file) {
+            Ok(replica) => Ok(Session {
+                alloc,
+                replica,
+                means,
+            }),
+            Err(why) => Err(why),
+        }
+    }
+
+    /// The replica.
+    pub fn replica(&self) -> &Replica
+        ensures { result.now ≡ self.now.held }
+    {
+        &self.replica
+    }
+
+    /// Feeds the batch of a batch file, as `feed` does in a script and on files.
+    ///
+    /// # Errors
+    ///
+    /// Those of [`command_replicas::feed`]. Nothing changes then.
+    pub fn feed(&mut self, file: &[u8]) -> Result<Delivered, Refusal>
+        ensures { FeedsSession (read_file file.now) self.old self.new result }
+    {
+        let mut disk = MemDisk::new(self.alloc);
+        command_replicas::feed(
+            self.alloc,
+            &mut self.replica,
+            file,
+            &self.means,
+            &mut disk,
+            &mut Work::none(),
+        )
+    }
+
+    /// Feeds the batch of an origin and a number whose rows are records in CSV, as many as are told: the same as the batch file of these.
+    ///
+    /// # Errors
+    ///
+    /// Those of [`feed`](Session::feed).
+    pub fn feed_rows(
+        &mut self,
+        origin: u32,
+        number: u32,
+        count: u32,
+        rows: &[u8],
+    ) -> Result<Delivered, Refusal>
+        ensures { FeedsSession (batch_of origin number count rows.now) self.old self.new result }
+    {
+        let mut disk = MemDisk::new(self.alloc);
+        let schema = self.replica.query().schema();
+        let batch = match read_numbered(self.alloc, schema, origin, number, count, rows) {
+            Ok(batch) => batch,
+            Err(why) => return Err(Refusal::from(why)),
+        };
+        match self
+            .replica
+            .deliver(batch, &self.means, &mut disk, &mut Work::none())
+        {
+            Ok(delivered) => Ok(delivered),
+            Err(refused) => Err(Refusal::from(refused)),
+        }
+    }
+
+    /// Merges the replica of another session, as `merge` does in a script: afterwards this knows what either knew.
+    ///
+    /// # Errors
+    ///
+    /// Those of [`Replica::merge`]. Nothing changes then.
+    pub fn merge(&mut self, other: &Session) -> Result<(), Refusal>
+        ensures { MergesSession other.now self.old self.new result }
+    {
+        let mut disk = MemDisk::new(self.alloc);
+        match self
+            .replica
+            .merge(&other.replica, &self.means, &mut disk, &mut Work::none())
+        {
+            Ok(()) => Ok(()),
+            Err(error) => Err(Refusal::from(error)),
+        }
+    }
+
+    /// Merges the replica that a summary file is of, as `merge` does on files.
+    ///
+    /// # Errors
+    ///
+    /// Those of [`command_replicas::merge`]. Nothing changes then.
+    pub fn merge_file(&mut self, file: &[u8]) -> Result<(), Refusal>
+        ensures { MergesFileSession file.now self.old self.new result }
+    {
+        let mut disk = MemDisk::new(self.alloc);
+        command_replicas::merge(
+            self.alloc,
+            &mut self.replica,
+            file,
+            &self.means,
+            &mut disk,
+            &mut Work::none(),
+        )
+    }
+
+    /// The summary file, as [`command_replicas::save`] makes it, of at most 67,108,864 bytes.
+    ///
+    /// # Errors
+    ///
+    /// `InputTooLong` where it would be longer, and want of memory.
+    pub fn save(&self) -> Result<Vec<u8>, Refusal>
+        ensures file { IfOk result (λ file. IsFileOf self.now.held file.items) }
+        ensures why { IfErr result (IsTooLong self.now.held) }
+    {
+        let file = match self.replica.save() {
+            Ok(file) => file,
+            Err(_) => return Err(Refusal::NoMemory),
+        };
+        if file.len() > MAX_INPUT_LEN {
+            return Err(Refusal::Run(RunError::InputTooLong));
+        }
+        Ok(file)
+    }
+
+    /// The answer of the query: how many rows it has, and its table in a format. The only error is a failed allocation.
+    pub fn answer(&self, format: Format) -> Result<(usize, Vec<u8>), AllocError>
+        ensures { IfOk result (λ found. IsTableOf format self.now.held found.0 found.1.items) }
+    {
+        table(self.alloc, &self.replica, format)
+    }
+
+    /// What is known, a line for each origin, as `known` lists it on files. The only error is a failed allocation.
+    pub fn known(&self) -> Result<Vec<u8>, AllocError>
+        ensures { IfOk result (λ lines. lines.items ≡ origins_text (known_list (told self.now.held.parts))) }
+    {
+        origin_lines(self.alloc, &self.replica)
+    }
+
+    /// The canonical text of the query.
+    pub fn query(&self) -> &str
+        ensures { result.now ≡ spelling (by_names self.now.held.query) }
+    {
+        self.replica.query().spelling()
+    }
+
+    /// The canonical text of the columns. The only error is a failed allocation.
+    pub fn columns(&self) -> Result<String, AllocError>
+        ensures { IfOk result (λ text. string_bytes text ≡ printed self.now.held.query.columns) }
+    {
+        self.replica.query().schema().print()
+    }
+}

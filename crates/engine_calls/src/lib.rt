@@ -1,0 +1,9 @@
+//! What a caller from outside keeps between its calls, and what each of them does.
+#![tactic(auto)]
+
+mod kept;
+mod place;
+mod reasons;
+
+pub use kept::Kept;
+pub use place::Place;
