@@ -24,17 +24,18 @@ appended before after t t1 t' r good put pages buffer records rs had = record {
       (put (tape_bytes rs) had.bytes));
 }
 
--- a tape whose last page was written
-pub rewound_records : (before after : ℕ → ℕ → Type 0) (t t1 t' : TapeState) → t1.pages ≡ t.pages → t1.buffer ≡ t.buffer
-    → ((bytes : List ℕ) → HasWritten before t1 bytes → ((rest : List ℕ) × HasWritten after t' (bytes ++ rest))) → t'.buffer ≡ []
-    → t'.records ≡ t.records → t'.left ≡ tape_len t → (rs : List Record) → AreWritten before t rs → AreAhead after t' rs
-rewound_records before after t t1 t' pages buffer put empty records left rs had =
-    let done : (rest : List ℕ) × HasWritten after t' (tape_bytes rs ++ rest) = put (tape_bytes rs)
+-- a tape whose last page was written, and whose buffer was given up then
+pub rewound_records : (before after : ℕ → ℕ → Type 0) (t t1 t2 t' : TapeState) → t1.pages ≡ t.pages → t1.buffer ≡ t.buffer
+    → ((bytes : List ℕ) → HasWritten before t1 bytes → ((rest : List ℕ) × HasWritten after t2 (bytes ++ rest))) → t2.buffer ≡ []
+    → t'.pages ≡ t2.pages → t'.buffer ≡ [] → t'.records ≡ t.records → t'.left ≡ tape_len t → (rs : List Record) → AreWritten before t rs
+    → AreAhead after t' rs
+rewound_records before after t t1 t2 t' pages buffer put empty same given_up records left rs had =
+    let done : (rest : List ℕ) × HasWritten after t2 (tape_bytes rs ++ rest) = put (tape_bytes rs)
     (same_written before t t1 pages buffer (tape_bytes rs) had.bytes) in
     record {
       good = had.good;
       number = records ∙ had.number;
       left = left ∙ sym (written_len before t (tape_bytes rs) had.bytes);
       rest = done.0;
-      bytes = rewound after t' t' refl empty empty (tape_bytes rs ++ done.0) done.1;
+      bytes = rewound after t2 t' same empty given_up (tape_bytes rs ++ done.0) done.1;
     }

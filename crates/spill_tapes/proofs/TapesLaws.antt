@@ -51,6 +51,7 @@ kept_others last last' t t' tape x are keeps is = record {
   phases = λ id differ. ap (λ (y : TapeState). y.phase) (same_at t t' tape x is id differ);
   lens = λ id differ. ap tape_len (same_at t t' tape x is id differ);
   counts = λ id differ. ap (λ (y : TapeState). y.records) (same_at t t' tape x is id differ);
+  rooms = λ id differ. ap (λ (y : TapeState). y.room) (same_at t t' tape x is id differ);
   records = λ id differ rs had. subst (λ (y : TapeState). Has last' y rs) (sym (same_at t t' tape x is id differ))
       (kept_in (tape_at t id).phase last last' (tape_at t id) rs (λ contents on. kept_on last last' t.pool (tape_at t id).pages contents
       (λ page h. apart_page t.pool (tape_at t id).pages page (apart_at t id.index are) h) keeps on) had);

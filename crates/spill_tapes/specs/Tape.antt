@@ -22,21 +22,22 @@ is_in Written Written = true
 is_in Read Read = true
 is_in _ _ = false
 
--- its phase; its pages that are to be read; its buffer, and how many bytes of that were read; and how many bytes and records
--- are to be read
+-- its phase; its pages that are to be read; its buffer, how many bytes of memory that takes, and how many of its bytes were read; and how
+-- many bytes and records are to be read
 pub record TapeState : Type 0 where
   pub phase : Phase
   pub pages : List ℕ
   pub buffer : List ℕ
+  pub room : ℕ
   pub read : ℕ
   pub left : ℕ
   pub records : ℕ
 
 abbrev pub no_tape : TapeState
-no_tape = record { phase = Closed; pages = []; buffer = []; read = 0; left = 0; records = 0 }
+no_tape = record { phase = Closed; pages = []; buffer = []; room = 0; read = 0; left = 0; records = 0 }
 
 abbrev pub new_tape : TapeState
-new_tape = record { phase = Written; pages = []; buffer = []; read = 0; left = 0; records = 0 }
+new_tape = record { phase = Written; pages = []; buffer = []; room = 0; read = 0; left = 0; records = 0 }
 
 -- how many bytes were written to it
 abbrev pub tape_len : TapeState → ℕ
@@ -69,7 +70,15 @@ pub record IsSameTape (before after : TapeState) : Type 0 where
 
 -- some bytes of the buffer were read
 abbrev pub spent : TapeState → ℕ → TapeState
-spent t n = record { phase = t.phase; pages = t.pages; buffer = t.buffer; read = t.read + n; left = t.left; records = t.records }
+spent t n = record {
+  phase = t.phase;
+  pages = t.pages;
+  buffer = t.buffer;
+  room = t.room;
+  read = t.read + n;
+  left = t.left;
+  records = t.records;
+}
 
 -- what is true of a tape that is being written: no whole page waits in its buffer, and it has bytes only of records
 pub record IsGoodWritten (t : TapeState) : Type 0 where
@@ -141,7 +150,7 @@ pub record IsAfterHeader (last : ℕ → ℕ → Type 0) (t : TapeState) (h : He
 
 -- a tape without its buffer, if there are no more records to be read
 abbrev pub ended_by : Bool → TapeState → TapeState
-ended_by true t = record { phase = t.phase; pages = t.pages; buffer = []; read = 0; left = 0; records = t.records }
+ended_by true t = record { phase = t.phase; pages = t.pages; buffer = []; room = 0; read = 0; left = 0; records = t.records }
 ended_by false t = t
 
 abbrev pub ended : TapeState → TapeState

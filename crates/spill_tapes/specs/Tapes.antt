@@ -49,16 +49,21 @@ written_len t id = tape_len (tape_at t id)
 abbrev pub record_count : TapesState → TapeId → ℕ
 record_count t id = (tape_at t id).records
 
+-- how many bytes of memory the buffer of a tape takes
+abbrev pub buffer_room : TapesState → TapeId → ℕ
+buffer_room t id = (tape_at t id).room
+
 -- over a disk whose last bytes are these, an open tape is this list of records: all that were written to it, or all that are
 -- still to be read
 abbrev pub IsTape : (ℕ → ℕ → Type 0) → TapesState → TapeId → List Record → Type 0
 IsTape last t id rs = Has last (tape_at t id) rs
 
--- the other tapes are as they were, and have the same records
+-- the other tapes are as they were, with the same buffers and the same records
 pub record KeepsOthers (last last' : ℕ → ℕ → Type 0) (before after : TapesState) (tape : TapeId) : Type 0 where
   pub phases : (id : TapeId) → id ≢ tape → phase_of after id ≡ phase_of before id
   pub lens : (id : TapeId) → id ≢ tape → written_len after id ≡ written_len before id
   pub counts : (id : TapeId) → id ≢ tape → record_count after id ≡ record_count before id
+  pub rooms : (id : TapeId) → id ≢ tape → buffer_room after id ≡ buffer_room before id
   pub records : (id : TapeId) → id ≢ tape → (rs : List Record) → IsTape last before id rs → IsTape last' after id rs
 
 -- why no tape is opened, by whether the tapes were dead; why a call is refused that writes; and one that reads
@@ -106,11 +111,12 @@ pub record Appends {D : Type 0} (g : Ghosts D) (tape : TapeId) (entry : Record) 
   pub longer : written_len new tape ≡ written_len old tape + (FRONT + length entry.bytes)
   pub counted : g.writes after + written_len old tape / PAGE ≡ g.writes before + written_len new tape / PAGE
 
--- a tape with the same records is to be read, and its last page was written
+-- a tape with the same records is to be read, and its last page was written. It has no buffer as long as it waits to be read
 pub record Rewinds {D : Type 0} (g : Ghosts D) (tape : TapeId) (old : TapesState) (before : D) (new : TapesState) (after : D) : Type 0 where
   pub read : is_read new tape ≡ true
   pub records : (rs : List Record) → IsTape (g.last before) old tape rs → IsTape (g.last after) new tape rs
   pub counted : g.writes after + written_len old tape / PAGE ≡ g.writes before + pages_for (written_len old tape)
+  pub room : buffer_room new tape ≡ 0
 
 -- the pages that a tape no longer has are free, and no new page number was given out
 pub record FreesPages (before after : TapesState) (tape : TapeId) : Type 0 where

@@ -48,7 +48,17 @@ impl Model for Tape {
 
     ghost Value = { TapeState };
 
-    ghost view = { λ t. record { phase = t.phase; pages = t.pages.items; buffer = t.buffer.items; read = t.read; left = t.left; records = t.records } };
+    ghost use Rattle.std.specs.Prelude.{vec_capacity};
+
+    ghost view = { λ t. record {
+      phase = t.phase;
+      pages = t.pages.items;
+      buffer = t.buffer.items;
+      room = vec_capacity t.buffer;
+      read = t.read;
+      left = t.left;
+      records = t.records;
+    } };
 }
 
 impl Tape {
@@ -168,9 +178,10 @@ impl Tape {
         self.flush(disk, pool)
     }
 
-    /// Ends the writing of the tape, and begins to read it.
+    /// Ends the writing of the tape, and begins to read it. It has no buffer until a record of it is read.
     pub(crate) fn rewind<D: TapeDisk>(
         &mut self,
+        alloc: Global,
         disk: &mut D,
         pool: &mut PagePool,
     ) -> Result<(), DiskError>
@@ -184,12 +195,15 @@ impl Tape {
         ensures rewound { OnOk result ((rs : List Record) → AreWritten (D.last disk.old) self.old rs
             → AreAhead (D.last disk.new) self.new rs) }
         ensures counted { OnOk result (D.writes disk.new + tape_len self.old / PAGE ≡ D.writes disk.old + pages_for (tape_len self.old)) }
+        ensures room { OnOk result (self.new.room ≡ 0) }
         ensures disk { DiskFrame D.TapeDisk (failed disk_faults result) disk.old disk.new }
     {
         self.phase = Phase::Read;
         self.read = 0;
         self.left = self.pages.len() as u64 * PAGE as u64 + self.buffer.len() as u64;
-        self.finish(disk, pool)
+        self.finish(disk, pool)?;
+        self.buffer = Vec::new(alloc); // No buffer waits.
+        Ok(())
     }
 
     /// Reads the next page into the buffer, of which all was read. The page is free then.

@@ -195,7 +195,7 @@ impl Tapes {
         requires { is_written self.now _tape ≡ true }
         ensures { (rs : List Record) → IsTape (D.last _disk.now) self.now _tape rs → written_len self.now _tape ≡ length (tape_bytes rs) }
     {
-        let _pool = &self.pool;
+        let _records = &self.tapes;
     }
 
     /// A law: a tape that is being read has no page more than what is left of it takes, as long as no call failed. So a page that
@@ -207,10 +207,10 @@ impl Tapes {
         ensures { (rs : List Record) → IsTape (D.last _disk.now) self.now _tape rs → PAGE
             * length (tape_at self.now _tape).pages < length (tape_bytes rs) + PAGE }
     {
-        let _pool = &self.pool;
+        let _are_tapes = &self.pool;
     }
 
-    /// Ends the writing of a tape, which is then to be read.
+    /// Ends the writing of a tape, which is then to be read. It has no buffer until its first record is read.
     pub fn rewind<D: TapeDisk>(&mut self, disk: &mut D, tape: TapeId) -> Result<(), TapeError>
         requires written { self.old.is_dead ≡ false → is_written self.old tape ≡ true }
         ensures dies { DiesIfRefused IsRefusal result self.old self.new disk.old disk.new }
@@ -224,7 +224,7 @@ impl Tapes {
             return Err(TapeError::TapesDead);
         }
         self.is_dead = true;
-        self.tapes[tape.index].rewind(disk, &mut self.pool)?;
+        self.tapes[tape.index].rewind(self.alloc, disk, &mut self.pool)?;
         self.is_dead = false;
         Ok(())
     }
