@@ -14,7 +14,7 @@ use Rattle.replica_merge.specs.Lemmas.Words.{each_weaker, each_both, LAST_ORIGIN
 use Rattle.replica_merge.specs.Lemmas.Words.{origin_rows, known_rows, rows_upto, Checked, meaning, AreGroups, Part, FitsOrigin, Parts}
 use Rattle.replica_merge.specs.Lemmas.Words.{part_at}
 use Rattle.replica_merge.specs.Lemmas.Words.{part_of, told, Held, Fits, IsHeldPart, AreHeldParts, counted_part, brought_by, IsRunAlone}
-use Rattle.replica_merge.specs.Lemmas.Words.{IsUnion}
+use Rattle.replica_merge.specs.Lemmas.Words.{IsShown, IsUnion}
 use Rattle.grouping_model.specs.Sorting.{sorted_moves}
 use Rattle.grouping_model.specs.Aggregates.{Outcome}
 use Rattle.grouping_model.specs.Condition.{is_met}
@@ -202,3 +202,20 @@ pub shown_answer : (held : Held) (run : List Entry) (rows : List (List Outcome))
     → (world : World) → Fits world held → rows ≡ answer (meaning held.query) world (told held.parts)
 shown_answer held run rows of shown world fits =
     shown of.most (part (meaning held.query) (known_rows world (told held.parts))) of.few (of.known world fits)
+
+-- they are those of the groups of all parts
+pub shown_rows : (held : Held) (inputs : List Brought) (run : List Entry) (rows : List (List Outcome))
+    → AreHeldParts held.query held.parts → inputs ≡ map counted_part held.parts → IsUnion (meaning held.query) inputs run
+    → ShownBy (meaning held.query) run rows → IsShown held rows
+shown_rows held inputs run rows is all union shown = record {
+  run = run;
+  union = subst (λ those. IsUnion (meaning held.query) those run) all union;
+  shown = λ groups are. shown (all_rows (map counted_part held.parts)) groups (few_parts held.query held.parts is) are;
+}
+
+pub alone_rows : (held : Held) (parts : List (Bor Part)) (run : List Entry) (rows : List (List Outcome))
+    → AreHeldParts held.query held.parts → brought_by parts ≡ map counted_part held.parts → IsRunAlone parts run
+    → ShownBy (meaning held.query) run rows → IsShown held rows
+alone_rows held parts run rows is all alone shown =
+    shown_rows held (brought_by parts) run rows is all
+    (one_part (meaning held.query) parts run (listed_inputs held.query held.parts (brought_by parts) is all) alone) shown

@@ -1,5 +1,5 @@
 -- What a replica holds and tells, and when it fits a world. All of this is our own.
-use Rattle.std.specs.Prelude.{◌≡◌, ◌≢◌, ℕ, ◌*◌, ◌<◌, List, ◌++◌, map, flat_map, Option, Some, None, option_map, unwrap_or, Bool}
+use Rattle.std.specs.Prelude.{◌≡◌, ◌≢◌, ℕ, ◌*◌, ◌<◌, ◌⊎◌, List, ◌++◌, map, flat_map, Option, Some, None, option_map, unwrap_or, Bool}
 use Rattle.std.specs.Prelude.{if◌then◌else◌, true, false, IsSome}
 use Rattle.std.specs.BTreeMap.{insert_entry, is_at}
 use Rattle.std.specs.List.Sorted.{IsStrictlySortedBy}
@@ -76,11 +76,15 @@ pub record MergesIn (world : World) (query : Checked) (own theirs new : Parts) :
   pub their_fits : Fits world (record { query = query; parts = theirs })
   pub merges : MergesParts true query own theirs new
 
+-- a part stands aside of an origin: itself, or, where it is the own one, a place for that
+abbrev pub StandsAside : (old new : Option Part) → Part → Type 0
+StandsAside old new part = (new ≡ Some part) ⊎ ((old ≡ Some part) × (new ≡ Some empty))
+
 -- what stands aside of an origin while two replicas are merged: the parts of both, joined, or where the other has none, a place for
 -- the own one
 abbrev pub AsideAt : (honest : Bool) → Checked → Part → Option Part → Option Part → Option Part → Type 0
 AsideAt honest query own old None new = new ≡ option_map (λ (_ : Part). empty) old
-AsideAt honest query own old (Some theirs) new = (part : Part) × (new ≡ Some part) × Joins honest (meaning query) own theirs part
+AsideAt honest query own old (Some theirs) new = (part : Part) × StandsAside old new part × Joins honest (meaning query) own theirs part
     × IsPartOf query part × ¬ (PartsDisagree own theirs)
 
 pub record JoinedAside (honest : Bool) (query : Checked) (old other joined : Parts) : Type 0 where

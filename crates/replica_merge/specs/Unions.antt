@@ -3,13 +3,16 @@ use Rattle.std.specs.Prelude.{◌≡◌, List, [], ◌∷◌, map}
 use Rattle.std.specs.Borrow.{Bor}
 use Rattle.grouping_model.specs.Datum.{Row}
 use Rattle.grouping_model.specs.Query.{Query}
-use Rattle.grouping_model.specs.Grouping.{part}
+use Rattle.grouping_model.specs.Aggregates.{Outcome}
+use Rattle.grouping_model.specs.Answer.{answer_of}
+use Rattle.grouping_model.specs.Grouping.{Group, part}
 use Rattle.packed_rows.specs.ConcatenatedRows.{concatenated}
 use Rattle.group_runs.specs.Runs.{Entry}
 use Rattle.group_runs.specs.Standing.{AreGroups, IsRun}
 use Rattle.hash_agg.specs.Inputs.{Brought, all_rows, AreInputsOf}
 use Rattle.origin_prefix.specs.Parts.{Part}
-use Rattle.replica_merge.specs.Replicas.{counted}
+use Rattle.having_filter.specs.Meaning.{meaning}
+use Rattle.replica_merge.specs.Replicas.{Held, counted, counted_part}
 
 -- what a list of parts brings to an answer
 abbrev pub brought_by : List (Bor Part) → List Brought
@@ -27,3 +30,10 @@ pub record IsRunAlone (parts : List (Bor Part)) (run : List Entry) : Type 0 wher
   pub only : Bor Part
   pub alone : parts ≡ only ∷ []
   pub run_is : run ≡ only.now.run
+
+-- rows are those of the groups of a run that has the groups of all parts of what is held
+pub record IsShown (held : Held) (rows : List (List Outcome)) : Type 0 where
+  pub run : List Entry
+  pub union : IsUnion (meaning held.query) (map counted_part held.parts) run
+  pub shown : (groups : List Group) → AreGroups (meaning held.query) (all_rows (map counted_part held.parts)) run groups
+      → rows ≡ answer_of (meaning held.query) groups

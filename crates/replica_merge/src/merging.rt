@@ -1,8 +1,9 @@
 //! Merging two replicas: the parts of both are joined aside, and then moved in without taking memory.
 
-ghost use Rattle.std.specs.Prelude.{◌≡◌, ℕ, Bool, map, cond, option_map, unwrap_or, Some, IfOk};
+ghost use Rattle.std.specs.Prelude.{◌≡◌, ℕ, Bool, map, cond, option_map, unwrap_or, Some, IfOk, IsTrue, IsSomeAnd};
 ghost use Rattle.std.specs.List.Sorted.{IsStrictlySortedBy};
 ghost use Rattle.std.specs.Ordering.{eq_by_cmp, nat_cmp};
+ghost use Rattle.origin_prefix.specs.Joins.{Includes};
 ghost use Rattle.origin_prefix.specs.Parts.{Part, empty};
 ghost use Rattle.replica_merge.specs.Counting.{MergeRan};
 ghost use Rattle.replica_merge.specs.Replicas.{Held, part_at, AreHeldParts, filled};
@@ -19,7 +20,7 @@ use std::marker::Model;
 use std::mem::replace;
 
 /// What two replicas hold together, aside from both: the parts of an origin that the other one has, joined, and a place for each
-/// other part.
+/// other part, and for each that stays since it includes the other's.
 #[derive(Drop)]
 pub struct Joined {
     parts: BTreeMap<u16, OriginPart>,
@@ -69,7 +70,17 @@ fn part_or<'a>(
     }
 }
 
-/// The parts of both, joined aside.
+/// Whether the own part of an origin is there and includes another one.
+fn stays(own: &BTreeMap<u16, OriginPart>, origin: u16, part: &OriginPart) -> bool
+    ensures { IsTrue result → IsSomeAnd (part_at own.now.entries origin) (λ mine. Includes mine part.now) }
+{
+    match own.get(&origin) {
+        Some(mine) => mine.includes(part),
+        None => false,
+    }
+}
+
+/// The parts of both, joined aside. An own part that includes the other's is not copied: it has a place there.
 fn join_all<H: KeyHash + Copy, D: TapeDisk>(
     alloc: Global,
     query: &Query,
@@ -92,6 +103,9 @@ fn join_all<H: KeyHash + Copy, D: TapeDisk>(
     };
     let mut counted = *work;
     for (origin, part) in theirs {
+        if stays(own, *origin, part) {
+            continue;
+        }
         let own = part_or(own, *origin, &nothing);
         let part = match own.join(part, query, means, disk, &mut counted) {
             Ok(part) => part,
@@ -158,8 +172,8 @@ impl Replica {
         if !self.query.same_query(&other.query) {
             return Err(MergeError::DifferentQuery);
         }
-        let _own = self.query.schema();
-        let _theirs = other.query.schema();
+        let _own_checked = self.query.schema();
+        let _theirs_checked = other.query.schema();
         join_all(
             self.alloc,
             &self.query,

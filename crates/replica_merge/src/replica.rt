@@ -14,6 +14,7 @@ ghost use Rattle.origin_prefix.specs.Errors.{batch_ended};
 ghost use Rattle.replica_merge.specs.Replicas.{IsPlace, taken_back, part_at, part_of, told, Fits, known_of};
 ghost use Rattle.replica_merge.specs.Replicas.{known_part};
 ghost use Rattle.replica_merge.specs.Results.{DeliversBatch};
+ghost use Rattle.replica_merge.specs.Unions.{IsShown};
 
 use crate::known_origin::KnownOrigin;
 use crate::uniting::{listed, run_alone, united};
@@ -178,6 +179,8 @@ impl Replica {
     pub fn answer(&self) -> Result<Answer, AllocError>
         ensures width { IfOk result (All (λ row. length row
             ≡ length (meaning self.now.query).items)) }
+        // They are those of one run of the groups of all parts, whatever the parts are.
+        ensures rows { IfOk result (IsShown self.now) }
         ensures answer { IfOk result (λ rows. (world : World) →
             IsWorld (kinds self.now.query.columns) world → Fits world self.now →
             rows ≡ answer (meaning self.now.query) world (told self.now.parts)) }

@@ -10,10 +10,10 @@ use Rattle.std.specs.BTreeMap.{BTreeMap, insert_entry, WritesThrough}
 use Rattle.std.specs.Ordering.{eq_by_cmp, nat_cmp}
 use Rattle.replica_merge.specs.Lemmas.Words.{World, IsWorld, union, Query, kinds, Checked, meaning, Part, empty, tells, is_nothing}
 use Rattle.replica_merge.specs.Lemmas.Words.{IsPartOf}
-use Rattle.replica_merge.specs.Lemmas.Words.{either, Joins, PartsDisagree, DisagreeAt, JoinTells, JoinIsCounted, OriginDisagrees}
+use Rattle.replica_merge.specs.Lemmas.Words.{either, Joins, PartsDisagree, DisagreeAt, JoinTells, JoinIsCounted, OriginDisagrees, StaysJoined}
 use Rattle.replica_merge.specs.Lemmas.Words.{FitsOrigin}
 use Rattle.replica_merge.specs.Lemmas.Words.{Parts, part_at, part_of, told, Fits, IsHeldPart, AreHeldParts, AsideAt, JoinedAside, JoinsAt}
-use Rattle.replica_merge.specs.Lemmas.Words.{MergesParts}
+use Rattle.replica_merge.specs.Lemmas.Words.{MergesParts, StandsAside}
 use Rattle.replica_merge.specs.Lemmas.Words.{DisagreeSomewhere, IsFirstRefused, filled, MergeIsCounted}
 use Rattle.grouping_model.specs.KnowledgeLaws.{same_knowledge, knows_union}
 use Rattle.aggregation_cost.specs.Space.{Setting}
@@ -76,7 +76,7 @@ joined_more honest query own old_parts all old rest n p new rising joins is agre
     at_one None e = absurd (true≢false (sym (ap is_some e)))
     at_one (Some q) e = (
       new,
-      refl,
+      inl refl,
       subst (λ (t : Part). Joins honest (meaning query) (part_of own n) t new) new_is joins,
       is,
       λ d. agree
@@ -109,6 +109,46 @@ joined_more honest query own old_parts all old rest n p new rising joins is agre
         (sym (put_else old n new o other))
         (subst (λ left. JoinedSoFar honest query (part_of own o) (part_at own o) (part_at all o) left (part_at old o))
         (behind_head o n p rest other) before)
+
+-- one origin more whose own part stays, since it includes the other's: it has its place
+pub stays_more : (honest : Bool) (query : Checked) (own theirs_all old rest : Parts) (n : ℕ) (p mine : Part)
+    → IsStrictlySortedBy nat_cmp (numbers ((n, p) ∷ rest))
+    → part_at own n ≡ Some mine → IsPartOf query mine → StaysJoined query mine p
+    → (o : ℕ) → JoinedSoFar honest query (part_of own o) (part_at own o) (part_at theirs_all o) (part_at ((n, p) ∷ rest) o) (part_at old o)
+    → JoinedSoFar honest query (part_of own o) (part_at own o) (part_at theirs_all o) (part_at rest o) (part_at old o)
+stays_more honest query own all old rest n p mine rising own_is is stays o before = go (same_or_other o n)
+  where
+    mine_is : mine ≡ part_of own n
+    mine_is = sym (ap (λ found. unwrap_or found empty) own_is)
+
+    aside : AsideAt honest query (part_of own n) (part_at own n) (Some p) (Some empty)
+    aside = subst (λ (t : Part). AsideAt honest query t (part_at own n) (Some p) (Some empty)) mine_is (
+      mine,
+      inr (own_is, refl),
+      stays.joins honest,
+      is,
+      stays.agree,
+    )
+
+    here : JoinedSoFar honest query (part_of own n) (part_at own n) (part_at all n) (Some p) (part_at old n)
+        → JoinedSoFar honest query (part_of own n) (part_at own n) (part_at all n) (part_at rest n) (part_at old n)
+    here had =
+        subst (λ left. JoinedSoFar honest query (part_of own n) (part_at own n) (part_at all n) left (part_at old n))
+        (sym (first_alone n p rest rising))
+        (subst (λ found. AsideAt honest query (part_of own n) (part_at own n) found (part_at old n)) (sym had.0)
+        (subst (λ place. AsideAt honest query (part_of own n) (part_at own n) (Some p) place)
+        (sym (had.1 ∙ ap (option_map (λ (_ : Part). empty)) own_is)) aside))
+
+    go : (o ≡ n) ⊎ (o ≢ n) → JoinedSoFar honest query (part_of own o) (part_at own o) (part_at all o) (part_at rest o) (part_at old o)
+    go (inl same) =
+        subst (λ k. JoinedSoFar honest query (part_of own k) (part_at own k) (part_at all k) (part_at rest k) (part_at old k)) (sym same)
+        (here (subst (λ left. JoinedSoFar honest query (part_of own n) (part_at own n) (part_at all n) left (part_at old n))
+        (at_head n p rest)
+        (subst (λ k. JoinedSoFar honest query (part_of own k) (part_at own k) (part_at all k) (part_at ((n, p) ∷ rest) k) (part_at old k))
+        same before)))
+    go (inr other) =
+        subst (λ left. JoinedSoFar honest query (part_of own o) (part_at own o) (part_at all o) left (part_at old o))
+        (behind_head o n p rest other) before
 
 -- the parts of an origin are not joined, and those of all lower ones were
 pub found_refused : (honest : Bool) (query : Checked) (own all old : Parts) (n : ℕ) (p : Part) (rest : Parts) (why : JoinError)
@@ -243,6 +283,10 @@ module _ (honest : Bool) (query : Checked) (old other joined new : Parts) (held 
   kept p None e = refl
   kept p (Some q) e = ap (λ b. if b then Some q else Some p) e
 
+  aside_back : (p : Part) (mine there : Option Part) → is_nothing p ≡ false → StandsAside mine there p → filled there mine ≡ Some p
+  aside_back p mine there some (inl is) = ap (λ x. filled x mine) is ∙ kept p mine some
+  aside_back p mine there some (inr is) = λ i. filled (is.1 i) (is.0 i)
+
   merges_at : (o : ℕ) → JoinsAt honest query (part_of old o) (part_at old o) (part_at other o) (part_at new o)
   merges_at o = go (part_at other o) refl (aside.at o)
     where
@@ -251,10 +295,9 @@ module _ (honest : Bool) (query : Checked) (old other joined new : Parts) (held 
       go None e at = back o ∙ ap (λ x. filled x (part_at old o)) at ∙ own_back (part_at old o)
       go (Some t) e at = (
         at.0,
-        back o ∙ ap (λ x. filled x (part_at old o)) at.1
-            ∙ kept at.0 (part_at old o)
+        back o ∙ aside_back at.0 (part_at old o) (part_at joined o)
             (not_nothing at.0 (some_joined honest query (part_of old o) t at.0 o (part_is query old held o)
-            (held_part query other theirs o t e) at.2)),
+            (held_part query other theirs o t e) at.2)) at.1,
         at.2,
       )
 
@@ -276,8 +319,8 @@ module _ (honest : Bool) (query : Checked) (old other joined new : Parts) (held 
       go o p there (Some t) e at =
           let h : IsHeldPart query (o, t) = held_part query other theirs o t e in
           let some = some_joined honest query (part_of old o) t at.0 o (part_is query old held o) h at.2 in
-          let is : at.0 ≡ p = some_is at.0 p (sym (back o ∙ ap (λ x. filled x (part_at old o)) at.1
-          ∙ kept at.0 (part_at old o) (not_nothing at.0 some)) ∙ there) in
+          let is : at.0 ≡ p = some_is at.0 p (sym (back o ∙ aside_back at.0 (part_at old o) (part_at joined o) (not_nothing at.0 some) at.1)
+          ∙ there) in
           subst (λ q. IsHeldPart query (o, q)) is (record { within = h.within; part = at.3; some = some })
 
   pub merged_told : IsStrictlySortedBy nat_cmp (numbers new) → told new ≡ union (told old) (told other)

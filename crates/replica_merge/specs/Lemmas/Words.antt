@@ -12,7 +12,7 @@ pub use Rattle.hash_agg.specs.Counting.{AreCounted, setting_by}
 pub use Rattle.having_filter.specs.Meaning.{meaning}
 pub use Rattle.list_laws.specs.Each.{each_behind, each_both, each_front, each_weaker}
 pub use Rattle.origin_prefix.specs.Fitting.{FitsOrigin}
-pub use Rattle.origin_prefix.specs.Joins.{DisagreeAt, JoinIsCounted, JoinTells, Joining, Joins, PartsDisagree, either}
+pub use Rattle.origin_prefix.specs.Joins.{DisagreeAt, Includes, JoinIsCounted, JoinTells, Joining, Joins, PartsDisagree, StaysJoined, either}
 pub use Rattle.origin_prefix.specs.Parts.{BatchTells, Delivers, Delivery, Disagrees, IsEarly, IsPartOf, Part, aggregations_on, empty}
 pub use Rattle.origin_prefix.specs.Parts.{is_nothing}
 pub use Rattle.origin_prefix.specs.Parts.{rows_at, tells}
@@ -25,7 +25,7 @@ pub use Rattle.summary_codec.specs.declared.version.Version.TheVariants.{Second}
 pub use Rattle.replica_merge.specs.Counting.{JoinsInOrder, MergeIsCounted, MergeRan}
 pub use Rattle.replica_merge.specs.Results.{DeliversBatch, IsLoaded, JoinsHeld, JoinsReplicas, LoadsReplica, MergesHeld, MergesReplicas}
 pub use Rattle.replica_merge.specs.Replicas.{AreHeldParts, AsideAt, DeliversAt, DisagreeSomewhere, Fits, Held, IsFirstRefused, IsHeldPart}
-pub use Rattle.replica_merge.specs.Replicas.{IsPlace, taken_back}
+pub use Rattle.replica_merge.specs.Replicas.{IsPlace, StandsAside, taken_back}
 pub use Rattle.replica_merge.specs.Replicas.{JoinedAside, JoinsAt, MergeTells, MergesParts, MergesIn, Parts, RefusesAt, batches_of, counted}
 pub use Rattle.replica_merge.specs.Replicas.{counted_part, filled, known_of, known_part, part_at, part_of, told}
-pub use Rattle.replica_merge.specs.Unions.{IsRunAlone, IsUnion, brought_by}
+pub use Rattle.replica_merge.specs.Unions.{IsRunAlone, IsShown, IsUnion, brought_by}

@@ -1,21 +1,33 @@
-use Rattle.std.specs.Prelude.{◌≡◌, refl, ℕ, [], ◌∷◌, ◌++◌, unwrap_or, Some, None, IsTrue}
+use Rattle.std.specs.Prelude.{◌≡◌, refl, ℕ, [], ◌∷◌, ◌++◌, unwrap_or, Option, Some, None, IsTrue, IsSomeAnd}
 use Rattle.std.proofs.Common.{rules, ◌∙◌, sym, ap, subst}
 use Rattle.std.proofs.lemmas.List.{append_assoc, append-nil}
 use Rattle.std.specs.List.{AllByRecursion}
 use Rattle.std.specs.List.Sorted.{IsStrictlySortedBy}
 use Rattle.std.specs.Ordering.{nat_cmp}
 use Rattle.replica_merge.specs.Lemmas.Words.{meaning, Query, setting_by, Joins, PartsDisagree, JoinTells, JoinIsCounted, MergeIsCounted}
-use Rattle.replica_merge.specs.Lemmas.Words.{Part, empty, IsPartOf, Parts, part_at, part_of, IsHeldPart, IsFirstRefused, AsideAt}
+use Rattle.replica_merge.specs.Lemmas.Words.{Part, empty, Includes, IsPartOf, Parts, part_at, part_of, IsHeldPart, IsFirstRefused, AsideAt}
 use Rattle.aggregation_cost.specs.Space.{Setting}
 use Rattle.hash_agg.specs.Lemmas.RanLaws.{refused_still, refused_later}
 use Rattle.hash_agg.specs.Ran.{Refused}
 use Rattle.origin_prefix.specs.Errors.{join_reason}
 use Rattle.spill_partitions.specs.declared.error.SpillError.TheVariants as spill
 use Rattle.origin_prefix.specs.Lemmas.ByNumber.{numbers, rising_rest}
+use Rattle.origin_prefix.specs.Lemmas.IncludedLaws.{included}
+use Rattle.replica_merge.specs.Lemmas.ToldLaws.{held_part}
 use Rattle.tape_disks.specs.DiskLaws.{leaves_twice}
 use Rattle.replica_merge.specs.Lemmas.DeliveredLaws.{part_is, when_fine}
-use Rattle.replica_merge.specs.Lemmas.MergedLaws.{JoinedSoFar, joined_more, found_refused, counted_more}
+use Rattle.replica_merge.specs.Lemmas.MergedLaws.{JoinedSoFar, joined_more, stays_more, found_refused, counted_more}
 use Rattle.replica_merge.proofs.merging.join_all.Goals as goal
+
+-- the own part that is there and includes another one
+own_included : (own : Parts) (n : ℕ) (p : Part) → IsSomeAnd (part_at own n) (λ mine. Includes mine p)
+    → (mine : Part) × (part_at own n ≡ Some mine) × Includes mine p
+own_included own n p has = go (part_at own n) refl has
+  where
+    go : (found : Option Part) → part_at own n ≡ found → IsSomeAnd found (λ mine. Includes mine p)
+        → (mine : Part) × (part_at own n ≡ Some mine) × Includes mine p
+    go (Some mine) e has = (mine, e, has)
+    go None e has = absurd has
 
 pub join-requires-clause-part : goal.join-requires-clause-part
 join-requires-clause-part g c =
@@ -35,6 +47,46 @@ loop-origin-init g c =
       front = [];
       parts = refl;
       counted = λ so. (refl, refl);
+      can = tt;
+      finite = tt;
+    }
+
+pub loop-origin-preserved-then-stays : goal.loop-origin-preserved-then-stays
+loop-origin-preserved-then-stays g c =
+    let own : Parts = c.args.own.now.entries in
+    let all : Parts = c.into_iter-origin-iterator.result in
+    let old : Parts = c.loop-origin.joined.entries in
+    let n : ℕ = c.in-Some.origin.now in
+    let p : Part = c.in-Some.part.now in
+    let rest : Parts = c.next.new.self in
+    let front : Parts = c.loop-origin.invariant.front in
+    let rising = subst (λ rest. IsStrictlySortedBy nat_cmp (numbers rest)) c.in-Some.ensures.steps c.loop-origin.invariant.rest in
+    let there = own_included own n p (c.stays.ensures c.if-stays.true) in
+    let stay = included c.args.query.now there.0 p (held_part c.args.query.now own c.requires.own n there.0 there.1).part there.2 in
+    record {
+      at = λ o.
+          stays_more (g.D.TapeDisk.honest c.args.disk.now) c.args.query.now own all old rest n p there.0 rising there.1
+          (held_part c.args.query.now own c.requires.own n there.0 there.1).part stay o
+          (subst (λ left. JoinedSoFar (g.D.TapeDisk.honest c.args.disk.now) c.args.query.now (part_of own o) (part_at own o) (part_at all o)
+          (part_at left o) (part_at old o)) c.in-Some.ensures.steps (c.loop-origin.invariant.at o));
+      rest = rising_rest (n, p) rest rising;
+      held = (subst (AllByRecursion (IsHeldPart c.args.query.now)) c.in-Some.ensures.steps c.loop-origin.invariant.held).1;
+      rising = c.loop-origin.invariant.rising;
+      disk = c.loop-origin.invariant.disk;
+      most = c.loop-origin.invariant.most;
+      front = front ++ ((n, p) ∷ []);
+      parts = c.loop-origin.invariant.parts ∙ ap (λ (left : Parts). front ++ left) c.in-Some.ensures.steps
+          ∙ sym (append_assoc front ((n, p) ∷ []) rest);
+      counted = λ so.
+          let q : Query = meaning c.args.query.now in
+          let setting : Setting = setting_by g.H.KeyHash.hash_of q c.args.means.now in
+          let mine : there.0 ≡ part_of own n = sym (ap (λ found. unwrap_or found empty) there.1) in
+          counted_more own front (n, p) q setting c.args.work.now (g.D.TapeDisk.writes c.args.disk.now)
+          c.loop-origin.counted (g.D.TapeDisk.writes c.loop-origin.disk) c.loop-origin.counted (g.D.TapeDisk.writes c.loop-origin.disk)
+          (c.loop-origin.invariant.counted so)
+          (subst (λ (t : Part). JoinIsCounted t p q setting c.loop-origin.counted (g.D.TapeDisk.writes c.loop-origin.disk)
+          c.loop-origin.counted (g.D.TapeDisk.writes c.loop-origin.disk)) mine
+          (stay.counted setting c.loop-origin.counted (g.D.TapeDisk.writes c.loop-origin.disk)));
       can = tt;
       finite = tt;
     }

@@ -3,8 +3,8 @@ use Rattle.std.proofs.Common.{◌∙◌, ap, subst}
 use Rattle.std.proofs.lemmas.Result.{IfOk-weaker}
 use Rattle.grouping_model.specs.Aggregates.{Outcome}
 use Rattle.grouping_model.specs.Answer.{answer}
-use Rattle.replica_merge.specs.Lemmas.Words.{World, IsWorld, kinds, meaning, Held, Fits, told, counted_part, brought_by}
-use Rattle.replica_merge.proofs.AnswerLaws.{IsOfParts, shows, only_run, whole_run, listed_inputs, listed_few, shown_wide, shown_answer}
+use Rattle.replica_merge.specs.Lemmas.Words.{World, IsWorld, kinds, meaning, Held, Fits, told, counted_part, brought_by, IsShown}
+use Rattle.replica_merge.proofs.AnswerLaws.{IsOfParts, shows, only_run, whole_run, listed_inputs, listed_few, shown_wide, shown_answer, shown_rows, alone_rows}
 use Rattle.replica_merge.proofs.replica.Replica.answer.Goals as goal
 
 pub finalize_and_project-requires : goal.finalize_and_project-requires
@@ -15,6 +15,12 @@ finalize_and_project-requires c =
 
 pub returns-in-Some : goal.returns-in-Some
 returns-in-Some c = record {
+  rows =
+      let held : Held = record { query = c.self.inside.query; parts = c.self.inside.parts.entries } in
+      let all : brought_by c.deref.result.now ≡ map counted_part held.parts = ap brought_by c.deref.ensures.value ∙ c.in_ok-parts.ensures in
+      subst (λ (h : Held). IfOk c.finalize_and_project.result (IsShown h)) c.self.view_is
+      (IfOk-weaker c.finalize_and_project.result _ _ (λ rows shown. alone_rows held c.deref.result.now c.in-Some.run'.now rows
+      c.self.invariant all c.in-Some.ensures.alone shown) c.finalize_and_project.ensures);
   width =
       let held : Held = record { query = c.self.inside.query; parts = c.self.inside.parts.entries } in
       let all : brought_by c.deref.result.now ≡ map counted_part held.parts = ap brought_by c.deref.ensures.value ∙ c.in_ok-parts.ensures in
@@ -75,3 +81,12 @@ returns-clause-answer c =
     → Fits world h → rows ≡ answer (meaning h.query) world (told h.parts))) c.self.view_is
     (IfOk-weaker c.finalize_and_project-2.result _ _ (λ rows shown world is fits. shown_answer held c.in_ok-run.run' rows of shown world
     fits) c.finalize_and_project-2.ensures)
+
+pub returns-clause-rows : goal.returns-clause-rows
+returns-clause-rows c =
+    let held : Held = record { query = c.self.inside.query; parts = c.self.inside.parts.entries } in
+    let all : brought_by c.deref-2.result.now ≡ map counted_part held.parts = ap brought_by c.deref-2.ensures.value
+    ∙ c.in_ok-parts.ensures in
+    subst (λ (h : Held). IfOk c.finalize_and_project-2.result (IsShown h)) c.self.view_is
+    (IfOk-weaker c.finalize_and_project-2.result _ _ (λ rows shown. shown_rows held (brought_by c.deref-2.result.now) c.in_ok-run.run' rows
+    c.self.invariant all c.in_ok-run.ensures shown) c.finalize_and_project-2.ensures)
