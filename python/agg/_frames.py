@@ -1,6 +1,8 @@
-"""Data frames by the dataframe interchange protocol, `__dataframe__`: those of pandas, Polars, PyArrow and others, without any of them.
+"""Data frames by the dataframe interchange protocol, `__dataframe__`: those of Polars, PyArrow and others, without any of them.
 
 https://data-apis.org/dataframe-protocol/latest/API.html
+
+A frame of pandas is asked for its values by its own methods, since by the protocol pandas 1.5 has no types with nulls, and takes long.
 """
 
 from __future__ import annotations
@@ -11,7 +13,7 @@ import itertools
 from typing import Any, List, Sequence
 
 from ._columns import Column
-from .errors import Place, WrongWidth
+from .errors import WrongWidth
 
 # The numbers of the protocol.
 _INT, _UINT, _FLOAT, _BOOL, _STRING, _CATEGORICAL = 0, 1, 2, 20, 21, 23
@@ -106,11 +108,25 @@ def _values(column: Any) -> List[Any]:
     return values
 
 
+def _pandas_values(series: Any) -> List[Any]:
+    """The values of a column of pandas, None where there is none."""
+    values: List[Any] = series.astype(object).tolist()
+    nulls = series.isna()
+    if nulls.any():
+        values = [None if null else value for value, null in zip(values, nulls.tolist())]
+    if series.dtype.kind == "f":
+        values = [value if value is None else _whole(value) for value in values]
+    return values
+
+
 def columns_of(columns: Sequence[Column], frame: Any) -> List[List[Any]]:
     """The values of each column of a data frame, which has columns of these names, in any order, and no other."""
-    frame = frame.__dataframe__()
-    found, wanted = list(frame.column_names()), [column.name for column in columns]
+    is_pandas = type(frame).__module__.startswith("pandas.")
+    frame = frame if is_pandas else frame.__dataframe__()
+    found, wanted = list(map(str, frame.columns if is_pandas else frame.column_names())), [column.name for column in columns]
     if sorted(found) != sorted(wanted):
-        raise WrongWidth(f"the data frame has the columns {', '.join(found)}, wanted: {', '.join(wanted)}", Place())
+        raise WrongWidth(f"the data frame has the columns {', '.join(found)}, wanted: {', '.join(wanted)}")
+    if is_pandas:
+        return [_pandas_values(frame[name]) for name in wanted]
     chunks = list(frame.get_chunks())
     return [list(itertools.chain.from_iterable(_values(chunk.get_column_by_name(name)) for chunk in chunks)) for name in wanted]

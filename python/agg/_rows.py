@@ -5,9 +5,8 @@ Columns are looked at whole: where all values have the type of their kind, which
 
 from __future__ import annotations
 
-import csv
-import io
 import operator
+import re
 from collections.abc import Mapping
 from typing import Any, Iterable, List, Optional, Sequence, Tuple
 
@@ -18,6 +17,10 @@ from .errors import BadField, Place, WrongWidth
 NULL = "\\N"
 _FLAGS = {True: "t", False: "f", None: NULL}
 _NONE = type(None)
+# What stands in quotes: an empty text, which alone would be no record, and one with a character that means something to CSV. A byte order
+# mark does at the very start.
+_MARKS = ',"\r\n\ufeff'
+_QUOTED = re.compile(f"[{_MARKS}]|^$")
 
 
 class _NoField(Exception):
@@ -82,16 +85,24 @@ def _one_by_one(column: Column, number: int, values: Iterable[Any]) -> List[str]
     return fields
 
 
-def _fields(column: Column, number: int, values: List[Any]) -> Sequence[Any]:
-    """The fields of a column's values: texts, or integers, which csv writes as texts."""
+def _quoted(texts: List[str]) -> List[str]:
+    """Fields in quotes where these are wanted."""
+    joined = "".join(texts)
+    if "" not in texts and not any(mark in joined for mark in _MARKS):
+        return texts
+    return ['"' + text.replace('"', '""') + '"' if _QUOTED.search(text) else text for text in texts]
+
+
+def _fields(column: Column, number: int, values: List[Any]) -> List[str]:
+    """The fields of a column's values."""
     types = set(map(type, values))
     if column.kind == "bigint" and types == {int} and max(values).bit_length() <= 64 and min(values).bit_length() <= 64:
-        return values
+        return list(map(str, values))
     if column.kind == "boolean" and types <= {bool, _NONE}:
         return list(map(_FLAGS.__getitem__, values))
-    if column.kind == "text" and types == {str} and NULL not in values:
-        return values
-    return _one_by_one(column, number, values)
+    if not (column.kind == "text" and types == {str} and NULL not in values):
+        values = _one_by_one(column, number, values)
+    return _quoted(values) if column.kind == "text" else values
 
 
 def _wrong_width(row: int, why: str) -> WrongWidth:
@@ -148,18 +159,13 @@ def as_csv(columns: Sequence[Column], rows: Any) -> Tuple[int, bytes]:
         rows = rows if isinstance(rows, (list, tuple)) else list(rows)
         values = _transposed(columns, list(rows)) if rows else [[] for _ in columns]
     count = len(values[0])
+    if any(len(column) != count for column in values):
+        raise WrongWidth("the columns of the data frame have different lengths")
     if count == 0:
         return 0, b""
     fields = [_fields(column, number, values[number]) for number, column in enumerate(columns)]
-    out = io.StringIO(newline="")
-    # With this end of line both of its characters are quoted, by all versions of csv.
-    csv.writer(out, lineterminator="\r\n").writerows(zip(*fields))
-    text = out.getvalue()
-    if text.startswith("\ufeff"):
-        # A byte order mark at the very start would be passed over.
-        first = fields[0][0]
-        text = f'"{first}"{text[len(first):]}'
+    text = "\n".join(map(",".join, zip(*fields)))
     try:
-        return count, text.encode()
+        return count, text.encode() + b"\n"
     except UnicodeEncodeError:
         raise _first_bad(columns, values) or AssertionError from None

@@ -201,6 +201,37 @@ class Pandas(unittest.TestCase):
         other.feed_rows(0, 1, [("oslo", 1, True), (None, None, False), ("bergen", 3, True)])
         self.assertEqual(bytes(one), bytes(other))
 
+    def test_by_the_protocol(self):
+        # As another library's: of the types that pandas has there.
+        class Other:
+            def __init__(self, frame):
+                self.__dataframe__ = frame.__dataframe__
+
+        rows = [row for row in some_rows(1, 200) if row[1] is not None and row[2] is not None]
+        frame = pandas.DataFrame(rows, columns=["city", "amount", "paid"])
+        one, other = new(), new()
+        one.feed_rows(0, 1, Other(frame))
+        other.feed_rows(0, 1, rows)
+        self.assertEqual(bytes(one), bytes(other))
+
+    def test_feeding_what_was_answered(self):
+        rows = [row for row in some_rows(2, 300) if row[1] is None or abs(row[1]) < 10]
+        query = "SELECT city, sum(amount) AS amount, bool_and(paid) AS paid FROM batches GROUP BY city"
+        one, other, again = new(query=query), new(), new()
+        one.feed_rows(0, 1, rows)
+        other.feed_rows(0, 1, one.to_pandas())
+        again.feed_rows(0, 1, one.answer())
+        self.assertEqual(bytes(other), bytes(again))
+
+    def test_feeding_what_is_none_of_the_kinds(self):
+        frame = pandas.DataFrame({"city": ["oslo"], "amount": [1], "paid": [True]})
+        for column, bad in (("amount", pandas.Timestamp("2024-02-29")), ("amount", 0.5), ("amount", "1"), ("paid", 1), ("city", 1)):
+            with self.assertRaises(agg.errors.BadField):
+                new().feed_rows(0, 1, frame.assign(**{column: [bad]}))
+        for other in (frame[["city", "paid"]], frame.assign(more=1), frame.rename(columns={"paid": 5})):
+            with self.assertRaises(agg.errors.WrongWidth):
+                new().feed_rows(0, 1, other)
+
     def test_feeding_categories(self):
         one = new(columns="c text", query="SELECT c, count(*) FROM batches GROUP BY c")
         one.feed_rows(0, 1, pandas.DataFrame({"c": pandas.Categorical(["a", "b", None, "a"])}))
