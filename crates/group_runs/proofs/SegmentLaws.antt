@@ -3,13 +3,13 @@ use Rattle.std.specs.Prelude.{◌≡◌, refl, ℕ, zero, suc, ◌+◌, ◌-◌,
 use Rattle.std.specs.Prelude.{slice_set, slice_index_or, slice_range}
 use Rattle.std.proofs.Common.{sym, ◌∙◌, ap, subst, arith, append_assoc, append-nil}
 use Rattle.std.proofs.lemmas.List.{take-append-drop, length-append, length-take, length-set, take_all}
-use Rattle.std.proofs.lemmas.List.Edits.{length-insert}
-use Rattle.std.specs.List.{insert}
+use Rattle.std.proofs.lemmas.List.Sums.{sum_by-append}
+use Rattle.std.proofs.Math.Nat.{zero-add}
 use Rattle.std.proofs.lemmas.Grind.{flat_map-append, common_steps}
 use Rattle.std.proofs.Math.Seq.{take-append_seam, drop-append_seam}
 use Rattle.std.specs.List.Sorted.{IsStrictlySortedBy}
 use Rattle.packed_rows.specs.ConcatenatedRowsLaws.{ends_long, ends_append}
-use Rattle.group_runs.proofs.Words.{Function, Entry, Rises, HasStatesFor, CombinesAt, concatenated, AreSegments, IsAmong, replaced}
+use Rattle.group_runs.proofs.Words.{Function, Entry, Rises, HasStatesFor, CombinesAt, concatenated, AreSegments, IsAmong, replaced, ArePiecesOf, AreCut, cut_count}
 use Rattle.packed_rows.specs.ConcatenatedRows.{ends_of}
 use Rattle.group_runs.specs.PlaceLaws.{drop_at, take_found}
 use Rattle.group_runs.proofs.PlaceLaws.{rises_drop}
@@ -366,32 +366,47 @@ pub replaced_long : (fresh : List (ℕ × List Entry)) (segments : List (List En
 replaced_long [] segments = refl
 replaced_long (one ∷ fresh) segments = length-set (replaced fresh segments) one.0 one.1 ∙ replaced_long fresh segments
 
--- two segments in the place of one that has the groups of both
-pub record IsCut (segments new : List (List Entry)) : Type 0 where
-  pub same : concatenated new ≡ concatenated segments
-  pub long : length new ≡ length segments + 1
+-- ---- segments that are cut
 
-pub cut_is : (segments : List (List Entry)) (at : ℕ) (segment first second : List Entry) → slice_get segments at ≡ Some segment → first
-    ++ second ≡ segment → IsCut segments (slice_set (insert segments (at + 1) second) at first)
-cut_is segments at segment first second is both =
-    let low = got_low segments at segment is in
-    let taken = length-take at segments in
-    let long = length-insert segments (at + 1) second (omega (arith, low)) in
-    let put : insert segments (at + 1) second ≡ take at segments ++ segment ∷ (second ∷ drop (at + 1) segments) =
-    ap (λ cs. cs ++ second ∷ drop (at + 1) segments) (take_found segments at segment is)
-    ∙ append_assoc (take at segments) (segment ∷ []) (second ∷ drop (at + 1) segments) in
-    let new : slice_set (insert segments (at + 1) second) at first ≡ take at segments ++ first ∷ (second ∷ drop (at + 1) segments) =
-    ap (λ cs. slice_set cs at first) put ∙ set_between (take at segments) (second ∷ drop (at + 1) segments) segment first at
-    (omega (arith, low, taken)) in
-    let kept = length-set (insert segments (at + 1) second) at first in
-    record {
-      same = ap concatenated new
-          ∙ concatenated-append (take at segments) (first ∷ (second ∷ drop (at + 1) segments))
-          ∙ ap (λ es. concatenated (take at segments) ++ es) (sym (append_assoc first second (concatenated (drop (at + 1) segments)))
-          ∙ ap (λ es. es ++ concatenated (drop (at + 1) segments)) both)
-          ∙ sym (around segments at segment is);
-      long = kept ∙ long;
-    }
+-- what has the groups of a segment is pieces of it
+pub are_pieces : (segment : List Entry) (pieces : List (List Entry)) → concatenated pieces ≡ segment → ArePiecesOf segment pieces
+are_pieces segment [] same = tt
+are_pieces segment (piece ∷ pieces) same = same
+
+-- where there are pieces, they have its groups
+pub pieces_make : (segment : List Entry) (pieces : List (List Entry)) → 0 < length pieces → ArePiecesOf segment pieces
+    → concatenated pieces ≡ segment
+pieces_make segment [] some are = absurd (omega (arith, some))
+pieces_make segment (piece ∷ pieces) some are = are
+
+-- one segment more
+pub cut_more : (segments : List (List Entry)) (cuts : List (List (List Entry))) (segment : List Entry) (pieces : List (List Entry))
+    → AreCut segments cuts → ArePiecesOf segment pieces → AreCut (segments ++ segment ∷ []) (cuts ++ pieces ∷ [])
+cut_more [] [] segment pieces cut are = (are, tt)
+cut_more [] (one ∷ cuts) segment pieces cut are = absurd cut
+cut_more (s ∷ segments) [] segment pieces cut are = absurd cut
+cut_more (s ∷ segments) (one ∷ cuts) segment pieces cut are = (cut.0, cut_more segments cuts segment pieces cut.1 are)
+
+pub cut_count_more : (cuts : List (List (List Entry))) (pieces : List (List Entry))
+    → cut_count (cuts ++ pieces ∷ []) ≡ cut_count cuts + (length pieces + 1)
+cut_count_more cuts pieces =
+    sum_by-append (λ (pieces : List (List Entry)). length pieces + 1) cuts (pieces ∷ [])
+    ∙ ap (λ n. cut_count cuts + n) (zero-add (length pieces + 1))
+
+-- the first of them, where something is cut
+pub cut_first : (segments : List (List Entry)) (pieces : List (List Entry)) (cuts : List (List (List Entry)))
+    → AreCut segments (pieces ∷ cuts)
+    → (segment : List Entry) × (rest : List (List Entry)) × (segments ≡ segment ∷ rest) × ArePiecesOf segment pieces × AreCut rest cuts
+cut_first [] pieces cuts cut = absurd cut
+cut_first (segment ∷ rest) pieces cuts cut = (segment, rest, refl, cut.0, cut.1)
+
+pub none_long : {X : Type 0} (xs : List X) → length xs ≡ 0 → xs ≡ []
+none_long [] none = refl
+none_long (x ∷ xs) none = absurd (omega (arith, none))
+
+pub cut_none : (segments : List (List Entry)) → AreCut segments [] → segments ≡ []
+cut_none [] cut = refl
+cut_none (segment ∷ rest) cut = absurd cut
 
 -- ---- keys that rise
 

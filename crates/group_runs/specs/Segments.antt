@@ -1,6 +1,8 @@
 -- Runs in segments. All of this is our own.
-use Rattle.std.specs.Prelude.{◌≡◌, ℕ, ◌+◌, ◌<◌, ◌≤◌, List, [], ◌∷◌, length, take, drop, Some, slice_get, slice_set}
+use Rattle.std.specs.Prelude.{◌≡◌, ℕ, ◌+◌, ◌<◌, ◌≤◌, List, [], ◌∷◌, length, take, drop, Some, slice_get, slice_set, map, sum_by}
 use Rattle.std.specs.List.{AllByRecursion}
+use Rattle.std.specs.declared.alloc.Global.{Global}
+use Rattle.std.specs.declared.vec.Vec.{Vec}
 use Rattle.packed_rows.specs.ConcatenatedRows.{concatenated, ends_of}
 use Rattle.grouping_model.specs.Query.{Query}
 use Rattle.group_runs.specs.Runs.{Entry, Rises}
@@ -35,6 +37,25 @@ pub record ComeInto (segments : List (List Entry)) (first : ℕ) (more : List En
   pub behind : AreBefore (take to more) (concatenated (drop (at + 1) segments))
   pub beyond : AreBefore (concatenated (take (at + 1) segments)) (drop to more)
   pub left : to < length more → at + 1 < length segments
+
+-- the pieces that a segment is cut into, if it is
+abbrev pub ArePiecesOf : List Entry → List (List Entry) → Type 0
+ArePiecesOf segment [] = Unit {0}
+ArePiecesOf segment (piece ∷ pieces) = concatenated (piece ∷ pieces) ≡ segment
+
+-- of each segment the pieces that it is cut into, if it is
+abbrev pub AreCut : List (List Entry) → List (List (List Entry)) → Type 0
+AreCut [] [] = Unit {0}
+AreCut (segment ∷ segments) (pieces ∷ cuts) = ArePiecesOf segment pieces × AreCut segments cuts
+AreCut segments cuts = ⊥
+
+-- the pieces that the code has of each segment
+abbrev pub all_pieces : List (Vec (List Entry) Global) → List (List (List Entry))
+all_pieces cuts = map (λ (pieces : Vec (List Entry) Global). pieces.items) cuts
+
+-- how many segments there are at most once some are cut into such pieces
+abbrev pub cut_count : List (List (List Entry)) → ℕ
+cut_count cuts = sum_by (λ (pieces : List (List Entry)). length pieces + 1) cuts
 
 -- segments, with others in the place of some
 abbrev pub replaced : List (ℕ × List Entry) → List (List Entry) → List (List Entry)

@@ -5,13 +5,28 @@ ghost use Rattle.having_filter.specs.Meaning.{meaning};
 ghost use Rattle.group_runs.specs.Runs.{Rises};
 ghost use Rattle.group_runs.specs.Places.{AllBelow, AreUpTo, HasKeyAt, IsPlaceOf};
 ghost use Rattle.group_runs.specs.Steps.{HasRoomForGroup, AddsGroup, HasRoomForRun, AddsRun};
+ghost use Rattle.group_runs.specs.Segments.{ArePiecesOf};
 ghost use Rattle.packed_rows.specs.ConcatenatedRows.{concatenated};
 
 use crate::seeking::{gap, is_below};
 use crate::segment::Segment;
-use crate::segments::Segments;
+use crate::segments::{MAX_GROUPS, Segments};
 use having_filter::Query;
 use std::alloc::{AllocError, Global};
+
+/// Where a piece of so many groups ends that begins at a place: it has half as many as a segment may have, and the last one all that are
+/// left.
+fn end_of_piece(from: usize, count: usize) -> usize
+    requires { from < count }
+    ensures some { from < result }
+    ensures within { result ≤ count }
+{
+    if count - from <= MAX_GROUPS {
+        count
+    } else {
+        from + MAX_GROUPS / 2
+    }
+}
 
 impl Segment {
     /// The place of a key among the groups from a place on: that of the first one whose key is not below it. It is sought by steps
@@ -106,16 +121,33 @@ impl Segment {
         Ok(merged)
     }
 
-    /// The first half of the groups, and the second. The only error is a failed allocation.
-    pub(crate) fn halves(&self, alloc: Global) -> Result<(Segment, Segment), AllocError>
-        ensures { IfOk result (λ both. both.0 ++ both.1 ≡ self.now) }
+    /// The groups from a place to another, in a segment of their own. The only error is a failed allocation.
+    fn piece(&self, alloc: Global, from: usize, to: usize) -> Result<Segment, AllocError>
+        requires order { from ≤ to }
+        requires within { to ≤ length self.now }
+        ensures { IfOk result (λ piece. piece ≡ slice_range self.now from to) }
+    {
+        let _rising = self.len();
+        let mut piece = Segment::with_capacity(alloc, 0, 0, 0)?;
+        piece.push_range(self, from, to)?;
+        Ok(piece)
+    }
+
+    /// The groups in pieces, and no piece where they are no more than a segment may have. The only error is a failed allocation.
+    pub(crate) fn pieces(&self, alloc: Global) -> Result<Vec<Segment>, AllocError>
+        ensures { IfOk result (λ pieces. ArePiecesOf self.now pieces.items) }
     {
         let count = self.len();
-        let middle = count / 2;
-        let mut first = Segment::with_capacity(alloc, 0, 0, 0)?;
-        first.push_range(self, 0, middle)?;
-        let mut second = Segment::with_capacity(alloc, 0, 0, 0)?;
-        second.push_range(self, middle, count)?;
-        Ok((first, second))
+        let mut pieces = Vec::new(alloc);
+        if count <= MAX_GROUPS {
+            return Ok(pieces);
+        }
+        let mut from = 0;
+        while from < count {
+            let to = end_of_piece(from, count);
+            pieces.push(self.piece(alloc, from, to)?)?;
+            from = to;
+        }
+        Ok(pieces)
     }
 }

@@ -82,7 +82,7 @@ impl Segments {
         requires room { HasRoomForRun (meaning query.now) (concatenated self.now) (concatenated more.now) }
         ensures { IfOk result (λ fresh. AddSegments (meaning query.now) self.now (concatenated more.now) fresh.items) }
     {
-        let _count = self.count();
+        let _few_segments = self.count();
         let mut fresh = Vec::new(alloc);
         let mut first = 0;
         let mut from = 0;

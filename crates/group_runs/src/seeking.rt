@@ -121,7 +121,7 @@ impl Segments {
         ensures rises { Rises (concatenated self.now) }
         ensures few { length (concatenated self.now) < 2 ^ 64 }
     {
-        let _count = self.len();
+        let _few_groups = self.len();
         if step == 0 && self.is_next(from, key) {
             return from;
         }

@@ -36,9 +36,9 @@ impl Model for Segment {
     ghost invariant = { λ r. AreRun r.keys.items r.states.items r.ends.items };
 }
 
-/// Room for so many and so many. It is rounded up by a quarter at most, so that segments which grow little by little ask for blocks of few
+/// A capacity for so many and so many. It is rounded up by a quarter at most, so that segments which grow little by little ask for blocks of few
 /// sizes, four between a power of two and the next, and an allocator can give them those that they gave back.
-fn room_for(one: usize, other: usize) -> usize {
+fn capacity_for(one: usize, other: usize) -> usize {
     let both = one.saturating_add(other);
     let step = both.checked_next_power_of_two().unwrap_or(0) / 8;
     both.checked_next_multiple_of(step).unwrap_or(both) // A step of 0 has no multiple that is more.
@@ -160,9 +160,9 @@ impl Segment {
         let groups = other.ends.len();
         Segment::with_capacity(
             alloc,
-            room_for(groups, more),
-            room_for(other.keys.len(), bytes_of(more, other.keys.len(), groups)),
-            room_for(
+            capacity_for(groups, more),
+            capacity_for(other.keys.len(), bytes_of(more, other.keys.len(), groups)),
+            capacity_for(
                 other.states.len(),
                 bytes_of(more, other.states.len(), groups),
             ),

@@ -1,20 +1,22 @@
 //! The segments of a run.
 
-ghost use Rattle.std.specs.Prelude.{◌≡◌, ℕ, ◌+◌, ◌^◌, ◌<◌, ◌≤◌, ◌++◌, ◌∷◌, List, [], length, take, slice_get, slice_index_or, Some, IsTrue};
+ghost use Rattle.std.specs.Prelude.{◌≡◌, ℕ, ◌+◌, ◌^◌, ◌<◌, ◌≤◌, ◌++◌, ◌∷◌, List, [], length, take, slice_get, slice_index_or, Some, IsTrue, ◌↔◌};
 ghost use Rattle.std.specs.Prelude.{IfOk, OnOk, OnErr};
-ghost use Rattle.std.specs.List.{AllByRecursion};
+ghost use Rattle.std.specs.List.{AllByRecursion, Any};
+ghost use Rattle.std.specs.Vec.{vec_len, vec_capacity};
 ghost use Rattle.grouping_model.specs.Parts.{functions};
 ghost use Rattle.having_filter.specs.Meaning.{meaning};
 ghost use Rattle.group_runs.specs.Runs.{Entry, Rises};
 ghost use Rattle.group_runs.specs.Places.{HasStatesFor, CombinesAt};
 ghost use Rattle.packed_rows.specs.ConcatenatedRows.{concatenated, ends_of};
-ghost use Rattle.group_runs.specs.Segments.{IsAmong, replaced};
+ghost use Rattle.group_runs.specs.Segments.{IsAmong, replaced, ArePiecesOf, AreCut, all_pieces, cut_count};
 
 use crate::segment::Segment;
 use having_filter::Query;
 use packed_rows::bound;
 use std::alloc::{AllocError, Global};
 use std::marker::Model;
+use std::mem::replace;
 
 /// The most groups of a segment. A group that enters a run copies the segment that it comes into, some ten kilobytes, and one in a
 /// hundred or so moves what is kept of each segment beside its groups, some seventy bytes: with half or twice as many groups a segment,
@@ -91,6 +93,53 @@ fn put_all(segments: &mut Vec<Segment>, fresh: Vec<(usize, Segment)>)
     let mut fresh = fresh;
     while let Some((at, segment)) = fresh.pop() {
         segments[at] = segment;
+    }
+}
+
+/// So many segments, the pieces of one more, and one. No memory has more than a number can say.
+fn count_more(count: usize, pieces: usize) -> Result<usize, AllocError>
+    ensures { IfOk result (λ more. more ≡ count + (pieces + 1)) }
+{
+    if pieces >= usize::MAX - count {
+        return Err(AllocError);
+    }
+    Ok(count + pieces + 1)
+}
+
+/// Places a segment behind others, or the pieces that it is cut into. There is room for them.
+fn place(placed: &mut Vec<Segment>, segment: Segment, mut pieces: Vec<Segment>)
+    requires pieces { ArePiecesOf segment pieces.items }
+    requires room { vec_len placed.old + (vec_len pieces + 1) ≤ vec_capacity placed.old }
+    ensures same { concatenated placed.new.items ≡ concatenated placed.old.items ++ segment }
+    ensures many { vec_len placed.old + 1 ≤ vec_len placed.new }
+    ensures few { vec_len placed.new ≤ vec_len placed.old + (vec_len pieces + 1) }
+    ensures capacity { vec_capacity placed.old ≤ vec_capacity placed.new }
+{
+    if pieces.is_empty() {
+        placed.push_reserved(segment);
+        return;
+    }
+    match placed.append(&mut pieces) {
+        Ok(()) => {}
+        Err(_) => unreachable!(),
+    }
+}
+
+/// Places segments behind others, and in the place of each that is cut its pieces. There is room for them.
+fn place_all(placed: &mut Vec<Segment>, segments: Vec<Segment>, cuts: Vec<Vec<Segment>>)
+    requires cut { AreCut segments.items (all_pieces cuts.items) }
+    requires room { vec_len placed.old + cut_count (all_pieces cuts.items) ≤ vec_capacity placed.old }
+    ensures same { concatenated placed.new.items ≡ concatenated placed.old.items ++ concatenated segments.items }
+    ensures many { vec_len placed.old + length segments.items ≤ vec_len placed.new }
+    ensures few { vec_len placed.new ≤ vec_len placed.old + cut_count (all_pieces cuts.items) }
+{
+    let mut segments = segments.into_iter();
+    let mut cuts = cuts.into_iter();
+    while let Some(pieces) = cuts.next() {
+        match segments.next() {
+            Some(segment) => place(placed, segment, pieces),
+            None => unreachable!(),
+        }
     }
 }
 
@@ -276,34 +325,56 @@ impl Segments {
         count_all(&self.segments, &mut self.ends);
     }
 
-    /// Cuts a segment in two. The only error is a failed allocation, which changes nothing.
-    fn cut(&mut self, at: usize) -> Result<(), AllocError>
-        requires { at < length self.old }
-        ensures same { concatenated self.new ≡ concatenated self.old }
-        ensures many { length self.old ≤ length self.new }
+    /// Whether a segment has more groups than it may.
+    fn has_large(&self) -> bool
+        ensures { IsTrue result ↔ Any (λ (segment : List Entry). MAX_GROUPS < length segment) self.now }
     {
-        let _count = self.len();
-        let (first, second) = self.segment(at).halves(*self.segments.allocator())?;
-        self.ends.reserve(1)?;
-        self.segments.insert(at + 1, second)?;
-        self.segments[at] = first;
-        self.ends.push(0)?;
-        count_all(&self.segments, &mut self.ends);
-        Ok(())
+        self.segments
+            .iter()
+            .any(|segment| segment.len() > MAX_GROUPS)
     }
 
-    /// Cuts the segments that have more groups than they may. The only error is a failed allocation, which changes no group.
+    /// Of each segment the pieces that it is cut into, if it has more groups than it may, and how many segments there are at most
+    /// then. The only error is a failed allocation.
+    fn cuts(&self) -> Result<(Vec<Vec<Segment>>, usize), AllocError>
+        ensures cut { IfOk result (λ cuts. AreCut self.now (all_pieces cuts.0.items)) }
+        ensures count { IfOk result (λ cuts. cuts.1 ≡ cut_count (all_pieces cuts.0.items)) }
+    {
+        let alloc = *self.segments.allocator();
+        let mut cuts = Vec::with_capacity(alloc, self.segments.len())?;
+        let mut count = 0;
+        for segment in &self.segments {
+            let pieces = segment.pieces(alloc)?;
+            count = count_more(count, pieces.len())?;
+            cuts.push(pieces)?;
+        }
+        Ok((cuts, count))
+    }
+
+    /// Cuts the segments that have more groups than they may, in time linear in how many segments there are and in the groups of those.
+    /// The only error is a failed allocation, which changes nothing.
     pub(crate) fn cut_large(&mut self) -> Result<(), AllocError>
         ensures same { concatenated self.new ≡ concatenated self.old }
         ensures many { length self.old ≤ length self.new }
+        ensures refused { OnErr result (self.new ≡ self.old) }
     {
-        let mut at = self.count();
-        while at > 0 {
-            at -= 1;
-            if self.segment(at).len() > MAX_GROUPS {
-                self.cut(at)?;
-            }
+        if !self.has_large() {
+            return Ok(());
         }
+        let _few_groups = self.len();
+        let alloc = *self.segments.allocator();
+        let (cuts, count) = self.cuts()?;
+        let mut placed = Vec::with_capacity(alloc, count)?;
+        let mut ends = vec![in alloc; 0; count]?;
+        place_all(
+            &mut placed,
+            replace(&mut self.segments, Vec::new(alloc)),
+            cuts,
+        );
+        ends.truncate(placed.len());
+        count_all(&placed, &mut ends);
+        self.segments = placed;
+        self.ends = ends;
         Ok(())
     }
 }

@@ -36,8 +36,8 @@ merged-requires-clause-room c =
 pub overflow_add-first : goal.overflow_add-first
 overflow_add-first c =
     let low = got_low c.args.self.now c.part-at.result.0 c.part-at.ensures.segment c.part-at.ensures.is in
-    let counted = c.count-count.ensures in
-    let few = c.count-count.type_inv in
+    let counted = c.count-few_segments.ensures in
+    let few = c.count-few_segments.type_inv in
     omega (arith, low, counted, few)
 
 pub loop-from-preserved : goal.loop-from-preserved

@@ -56,8 +56,8 @@ placed c =
 pub overflow_add-result : goal.overflow_add-result
 overflow_add-result c =
     let within = (placed c).within in
-    let counted = c.len-count.ensures.length in
-    let few = c.len-count.type_inv in
+    let counted = c.len-few_groups.ensures.length in
+    let few = c.len-few_groups.type_inv in
     omega (arith, within, counted, few)
 
 pub returns-clause-place : goal.returns-clause-place
