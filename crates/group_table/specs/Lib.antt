@@ -7,3 +7,4 @@ pub mod Space
 pub mod Arrays
 pub mod Children
 pub mod Inserts
+pub mod Changes

@@ -1,20 +1,21 @@
 //! A table of groups.
 ghost use Rattle.std.specs.Prelude.{◌≡◌, ◌≢◌, ◌*◌, ◌-◌, ◌^◌, ◌+◌, ◌<◌, ◌≤◌, ℕ, List, [], ◌∷◌, ◌++◌, Some, None, MatchOption, IfSome};
-ghost use Rattle.std.specs.Prelude.{IfNone, IfOk, IfErr, OnOk, OnErr, IsTrue, true, false, map, length, slice_get, slice_set};
+ghost use Rattle.std.specs.Prelude.{IfNone, IfOk, IfErr, OnOk, OnErr, IsTrue, true, false, map, length, slice_get};
 ghost use Rattle.std.specs.Prelude.{slice_index_or};
 ghost use Rattle.chunk_layout.specs.Contents.{place_of};
 ghost use Rattle.chunk_layout.specs.declared.blocks.TheConstants.{HEADER};
 ghost use Rattle.chunk_contexts.specs.declared.rooms.TheConstants.{BLOCK};
 ghost use Rattle.context_tree.specs.Contexts.{has_chunk, chunk_bytes, with_bytes, held_by, growth_of};
 ghost use Rattle.context_tree.specs.Tree.{TreeState, is_there, context_at, held_below, reset, IsWhole};
-ghost use Rattle.group_table.specs.Table.{key_in, state_in, group_in, groups, IsSlot, Names, HasNo, buckets_in, buckets_for, most_buckets};
-ghost use Rattle.group_table.specs.Table.{array_growth, group_growth, has_room, held_in, without_groups, IsEmptied, IsSameBut};
+ghost use Rattle.group_table.specs.Table.{state_in, group_in, groups, IsSlot, Names, HasNo, buckets_in, buckets_for, most_buckets};
+ghost use Rattle.group_table.specs.Table.{array_growth, group_growth, has_room, IsEmptied};
 ghost use Rattle.aggregation_cost.specs.Space.{Key, need, held_after, fits};
 ghost use Rattle.group_table.specs.Space.{keys_in, is_within, IsRunWith, IsSlabWith, HoldsArray, HoldsNext, HoldsKeyBlocks, HoldsStates};
 ghost use Rattle.group_table.specs.Space.{HoldsKeys};
-ghost use Rattle.group_table.specs.Standing.{IsSetWith, IsStanding, IsTableIn, KeepsOthers, KeepsBeside, IsSameFor};
+ghost use Rattle.group_table.specs.Standing.{IsSetWith, IsStanding, IsTableIn, KeepsOthers, IsSameFor};
+ghost use Rattle.group_table.specs.Changes.{Clears, WritesState};
 ghost use Rattle.group_table.specs.Inserts.{Inserts};
-ghost use Rattle.group_table.specs.Children.{IsRefused, IsAsBefore, IsNewTable, IsCleared};
+ghost use Rattle.group_table.specs.Children.{IsRefused, IsAsBefore, IsNewTable};
 ghost use Rattle.group_table.specs.Arrays.{OnlyIn, HasNext, IsSpare, IsNext, with_next, with_slot, with_spare};
 
 use crate::array::{give_up, put_into, refill};
@@ -159,9 +160,7 @@ impl<H: KeyHash + Drop> GroupTable<H> {
         ensures groups { (after : TreeState) → IsSameFor self.now tree.now after → groups self.now after ≡ groups self.now tree.now }
         ensures holds { (after : TreeState) → IsWhole after → IsSameFor self.now tree.now after → held_below after self.now.parent
             ≡ held_below tree.now self.now.parent → HoldsKeys self.now tree.now → HoldsKeys self.now after }
-    {
-        let _slots = &self.slots;
-    }
+    {}
 
     /// A law: where the contexts of the table hold what is counted for its keys, that much is held below its parent. Where
     /// there is no group, that is a block of buckets at most.
@@ -170,9 +169,7 @@ impl<H: KeyHash + Drop> GroupTable<H> {
         ensures some { HoldsKeys self.now tree.now → 0 < length self.now.slots → held_below tree.now self.now.parent
             ≡ held_after self.now.width (keys_in self.now tree.now) }
         ensures none { HoldsKeys self.now tree.now → length self.now.slots ≡ 0 → held_below tree.now self.now.parent ≤ 2 * BLOCK }
-    {
-        let _slots = &self.slots;
-    }
+    {}
 
     /// How many groups there are.
     pub fn len(&self) -> usize
@@ -365,16 +362,7 @@ impl<H: KeyHash + Drop> GroupTable<H> {
     /// were made below the table's own go too, and all others stay as they are.
     pub fn clear(&mut self, tree: &mut Tree)
         requires { IsTableIn H.hash_of self.old tree.old }
-        ensures table { IsTableIn H.hash_of self.new tree.new }
-        ensures same { IsSameBut self.old self.new }
-        ensures empty { (self.new.slots ≡ []) × (self.new.array ≡ None) }
-        ensures held { IsCleared self.old tree.new }
-        ensures tree { tree.new ≡ without_groups self.old tree.old }
-        ensures beside { KeepsBeside self.old tree.old tree.new }
-        ensures rest { held_below tree.new self.old.parent + held_in self.old tree.old ≤ held_below tree.old self.old.parent
-            + held_in self.old tree.new }
-        ensures emptied { held_below tree.old self.old.parent ≡ held_in self.old tree.old → IsEmptied self.new tree.new }
-        ensures holds { held_below tree.old self.old.parent ≡ held_in self.old tree.old → HoldsKeys self.new tree.new }
+        ensures { Clears H.hash_of self.old self.new tree.old tree.new }
     {
         empty(tree, self.buckets);
         empty(tree, self.keys);
@@ -492,14 +480,8 @@ impl<H: KeyHash + Drop> GroupTable<H> {
         ensures* writes_back { sem 𝓛 (lends_chunk tree.entry table.now.states slot.state result) }
         ensures state { result.now ≡ state_in table.now tree.old slot }
         ensures len { length result.now ≡ table.now.width }
-        ensures stands { (ws : List ℕ) → length ws ≡ table.now.width
-            → IsTableIn H.hash_of table.now (with_bytes_in tree.old table.now.states slot.state ws) }
-        ensures written { (ws : List ℕ) → (place : ℕ) → length ws ≡ table.now.width → slice_get table.now.slots place ≡ Some slot
-            → groups table.now (with_bytes_in tree.old table.now.states slot.state ws)
-            ≡ slice_set (groups table.now tree.old) place (key_in table.now tree.old slot, ws) }
-        ensures others { (ws : List ℕ) → KeepsOthers table.now tree.old (with_bytes_in tree.old table.now.states slot.state ws) }
-        ensures holds { (ws : List ℕ) → length ws ≡ table.now.width → HoldsKeys table.now tree.old
-            → HoldsKeys table.now (with_bytes_in tree.old table.now.states slot.state ws) }
+        ensures written { (ws : List ℕ) → WritesState H.hash_of table.now slot ws tree.old
+            (with_bytes_in tree.old table.now.states slot.state ws) }
     {
         tree.bytes_mut(table.states, slot.state)
     }

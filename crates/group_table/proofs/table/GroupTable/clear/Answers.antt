@@ -42,7 +42,8 @@ returns g c =
       table = subst (λ xs. IsTableIn hash (left xs) now) (sym c.clear.ensures.items) (all.table n);
       same = subst (λ (y : TableState g.row.H.Denot). IsSameBut y (left v.items)) c.self.view_is
           (record { parent = refl; buckets = refl; keys = refl; states = refl; width = refl; hash = refl });
-      empty = (c.clear.ensures.items, refl);
+      slots = c.clear.ensures.items;
+      array = refl;
       held = subst (λ (y : TableState g.row.H.Denot). IsCleared y now) c.self.view_is all.held;
       tree = subst (λ (y : TableState g.row.H.Denot). now ≡ without_groups y old) c.self.view_is
           (three.reset ∙ ap (λ (tree : TreeState). reset tree x.states) (two.reset

@@ -30,10 +30,12 @@ returns g c =
         writes_back = tt;
         state = lent.bytes ∙ ap (λ (i : ContextId). chunk_bytes (context_at tree i) slot.state) id;
         len = lent.len ∙ long;
-        stands = λ ws len. table_written hash t tree c.requires.table slot c.requires.slot ws (lives ws) (keeps ws);
-        written = λ ws place len at_place. groups_written hash t tree c.requires.table slot c.requires.slot ws (lives ws) (keeps ws) place
-            at_place (holds ws len);
-        others = λ ws. others_written hash t tree c.requires.table slot c.requires.slot ws (lives ws) (keeps ws);
-        holds = λ ws len. holds_written t tree c.requires.table.standing.placed (place_of slot.state) ws;
+        written = λ ws. record {
+          stands = λ len. table_written hash t tree c.requires.table slot c.requires.slot ws (lives ws) (keeps ws);
+          written = λ len place at_place. groups_written hash t tree c.requires.table slot c.requires.slot ws (lives ws) (keeps ws) place
+              at_place (holds ws len);
+          others = others_written hash t tree c.requires.table slot c.requires.slot ws (lives ws) (keeps ws);
+          holds = λ len. holds_written t tree c.requires.table.standing.placed (place_of slot.state) ws;
+        };
       },
     )
