@@ -26,22 +26,22 @@ use Rattle.hash_agg.proofs.StepLaws.{next_brings, all_brings}
 -- ---- a pass that stays what it is
 
 pub same_pass : {H : Type 0} (pass : Pass H) → KeepsPass pass pass
-same_pass pass = record { plan = refl; table = same_table pass.plan.limit pass.groups; lists = same_rest pass.lists }
+same_pass pass = record { plan = refl; table = same_table pass.plan.limit pass.groups; spill = same_rest pass.spill }
 
 pub keeps_twice : {H : Type 0} (a b c : Pass H) → KeepsPass a b → KeepsPass b c → KeepsPass a c
 keeps_twice a b c first second = record {
   plan = second.plan ∙ first.plan;
   table = same_table_twice a.groups b.groups c.groups first.table (subst (λ (plan : Plan). IsSameTable plan.limit b.groups c.groups)
       first.plan second.table);
-  lists = keeps_rest_twice a.lists b.lists c.lists first.lists second.lists;
+  spill = keeps_rest_twice a.spill b.spill c.spill first.spill second.spill;
 }
 
 pub later_none : {H : Type 0} (pass : Pass H) → KeepsLater pass pass
 later_none pass = record { plan = refl; table = same_table pass.plan.limit pass.groups; pending = refl; level = refl }
 
 -- with other lists, which leave the same to later passes
-pub later_same : {H : Type 0} (a b : Pass H) (lists : PartitionsState) → KeepsLater a b → lists.pending ≡ b.lists.pending → lists.level
-    ≡ b.lists.level → KeepsLater a (record b { lists = lists })
+pub later_same : {H : Type 0} (a b : Pass H) (lists : PartitionsState) → KeepsLater a b → lists.pending ≡ b.spill.pending → lists.level
+    ≡ b.spill.level → KeepsLater a (record b { spill = lists })
 later_same a b lists kept pending level = record {
   plan = kept.plan;
   table = kept.table;
@@ -55,8 +55,8 @@ later_next a b c first second = record {
   plan = second.plan ∙ first.plan;
   table = same_table_twice a.groups b.groups c.groups first.table (subst (λ (plan : Plan). IsSameTable plan.limit b.groups c.groups)
       first.plan second.table);
-  pending = second.lists.pending ∙ first.pending;
-  level = second.lists.level ∙ first.level;
+  pending = second.spill.pending ∙ first.pending;
+  level = second.spill.level ∙ first.level;
 }
 
 pub ready_with : {H : Type 0} (pass : Pass H) (groups : GroupsState H) → IsReady pass → IsSameTable pass.plan.limit pass.groups groups
@@ -71,7 +71,7 @@ ready_with pass groups ready same = record {
 
 -- a first key enters
 pub fresh_enters : {H : Type 0} (hash : List ℕ → ℕ) (pass : Pass H) (key : List ℕ) → IsReady pass → length key ≤ 8192
-    → entries_of pass.groups ≡ [] → pass.lists.partitions ≡ [] → enters hash pass key ≡ true
+    → entries_of pass.groups ≡ [] → pass.spill.partitions ≡ [] → enters hash pass key ≡ true
 fresh_enters hash pass key ready short empty clear =
     (λ i. is_empty (clear i) && fits (setting_of pass.plan hash) (packed_keys (empty i) ++ key ∷ []))
     ∙ first_fits (setting_of pass.plan hash) key ready.plan.limit ready.plan.narrow short
@@ -101,7 +101,7 @@ pub refused_here : {H D T : Type 0} {Done : (H → List ℕ → ℕ) → Ghosts 
     → ℕ} {g : Ghosts D} {what : Source} {old : Pass H} {before : D}
     → (r : Result T SpillError) (e : SpillError) → IsErrAnd r (λ x. x ≡ e)
     → (CanRead old.plan (hash_of old.groups.hash) (Are (query_of old) (hash_of old.groups.hash) what)
-    (standing old.groups old.lists (g.last before)) → e ≢ TapeDamaged)
+    (standing old.groups old.spill (g.last before)) → e ≢ TapeDamaged)
     → e ≢ TapeFault → Adds Done hash_of g what old before r old before
 refused_here {old = old} r e given right none = refused_still r e given (record { undamaged = right; kept = same_pass old }) none
 
@@ -115,7 +115,7 @@ added_here {g = g} {before = before} x done = record { added = done; refused = t
 pub damaged_here : {H D T : Type 0} {Done : (H → List ℕ → ℕ) → Ghosts D → Source → Pass H → D → Pass H → D → Type 0} {hash_of : H → List ℕ
     → ℕ} {g : Ghosts D} {what : Source} {old new : Pass H} {before : D}
     → (CanRead old.plan (hash_of old.groups.hash) (Are (query_of old) (hash_of old.groups.hash) what)
-    (standing old.groups old.lists (g.last before)) → ⊥)
+    (standing old.groups old.spill (g.last before)) → ⊥)
     → KeepsPass old new → Adds {T = T} Done hash_of g what old before (Err TapeDamaged) new before
 damaged_here {g = g} {before = before} never kept =
     record { added = tt; refused = record { undamaged = λ can same. never can; kept = kept }; disk = leaves_none g before }
@@ -133,8 +133,8 @@ module _ {H D : Type 0} (hash_of : H → List ℕ → ℕ) (g : Ghosts D) (what 
   abbrev hf : List ℕ → ℕ
   hf = hash_of old.groups.hash
 
-  one_brings : (new : List Entry) (after : PartitionsState) → Proceeds (entries_of old.groups) old.lists new after
-      → Brings (query_of old) (Are (query_of old) hf what) (entries_of old.groups) old.lists new after
+  one_brings : (new : List Entry) (after : PartitionsState) → Proceeds (entries_of old.groups) old.spill new after
+      → Brings (query_of old) (Are (query_of old) hf what) (entries_of old.groups) old.spill new after
   one_brings new after goes more are =
       let few = goes.few in
       let t = told more are in
@@ -150,19 +150,19 @@ module _ {H D : Type 0} (hash_of : H → List ℕ → ℕ) (g : Ghosts D) (what 
       → ((new : List ℕ) → Moved (state_in old.groups.table old.groups.tree slot) new
       → AreWithin (functions (query_of old)) old.plan.most new) → AddedOne hash_of g what old disk (record old { groups = groups }) disk
   there_added groups slot once named writes same hashed held within =
-      let goes = moved_proceeds old.groups groups old.lists same in
+      let goes = moved_proceeds old.groups groups old.spill same in
       let table = moved_table old.plan.limit old.groups groups same hashed held in
       record {
         added =
             record {
-              reads = one_there old.plan hf old.groups old.lists (g.last disk) key (Are (query_of old) hf what) Moved told groups slot once
+              reads = one_there old.plan hf old.groups old.spill (g.last disk) key (Are (query_of old) hf what) Moved told groups slot once
                   named writes;
-              brings = one_brings (entries_of groups) old.lists goes;
+              brings = one_brings (entries_of groups) old.spill goes;
               safe = safe_there (query_of old) old.plan.most old.groups groups slot key
                   (Moved (state_in old.groups.table old.groups.tree slot)) within named writes;
               pages = refl;
               ready = ready_with old groups ready table;
-              kept = record { plan = refl; table = table; lists = same_rest old.lists };
+              kept = record { plan = refl; table = table; spill = same_rest old.spill };
             };
         proceeds = goes;
       }
@@ -177,9 +177,9 @@ module _ {H D : Type 0} (hash_of : H → List ℕ → ℕ) (g : Ghosts D) (what 
   there_damaged groups slot named same hashed held full =
       damaged_here
       (λ can.
-      let room = there_room old.plan hf old.groups old.lists (g.last disk) key (Are (query_of old) hf what) Moved told slot named can in
+      let room = there_room old.plan hf old.groups old.spill (g.last disk) key (Are (query_of old) hf what) Moved told slot named can in
       full room.0 room.1 room.2 room.3 room.4 room.5)
-      (record { plan = refl; table = moved_table old.plan.limit old.groups groups same hashed held; lists = same_rest old.lists })
+      (record { plan = refl; table = moved_table old.plan.limit old.groups groups same hashed held; spill = same_rest old.spill })
 
   -- it makes a group of its own
   pub new_added : (groups : GroupsState H) (states : List ℕ) (bytes : ℕ) → HasNo old.groups.table old.groups.tree key
@@ -190,18 +190,18 @@ module _ {H D : Type 0} (hash_of : H → List ℕ → ℕ) (g : Ghosts D) (what 
       → (group : Group) → StandsFor (query_of old) old.plan.most (key, states) group
       → AddedOne hash_of g what old disk (record old { groups = groups }) disk
   new_added groups states bytes absent room fit entered same makes group stands =
-      let goes = proceeds_new old.groups groups old.lists (key, states) entered in
+      let goes = proceeds_new old.groups groups old.spill (key, states) entered in
       let table = same old.plan.limit room.within in
       record {
         added =
             record {
-              reads = one_new old.plan hf old.groups old.lists (g.last disk) key (Are (query_of old) hf what) Moved told groups states
+              reads = one_new old.plan hf old.groups old.spill (g.last disk) key (Are (query_of old) hf what) Moved told groups states
                   absent room.none (fit_told _ _ fit) entered makes;
-              brings = one_brings (entries_of groups) old.lists goes;
+              brings = one_brings (entries_of groups) old.spill goes;
               safe = safe_new (query_of old) old.plan.most old.groups groups key states group stands entered;
               pages = refl;
               ready = ready_with old groups ready table;
-              kept = record { plan = refl; table = table; lists = same_rest old.lists };
+              kept = record { plan = refl; table = table; spill = same_rest old.spill };
             };
         proceeds = goes;
       }
@@ -210,23 +210,23 @@ module _ {H D : Type 0} (hash_of : H → List ℕ → ℕ) (g : Ghosts D) (what 
   pub left_added : {T E : Type 0} (r : Result T E) (lists : PartitionsState) (end : D) (one : Record)
       → HasNo old.groups.table old.groups.tree key → length key ≤ 8192 → enters hf old key ≡ false
       → ((more : List Piece) (are : Are (query_of old) hf what more) → IsPiece (query_of old) hf one (told more are).piece)
-      → KeepsRest old.lists lists
-      → OnOk r (Spilled g one old.lists disk lists end)
-      → OnOk r (AddedOne hash_of g what old disk (record old { lists = lists }) end)
+      → KeepsRest old.spill lists
+      → OnOk r (Spilled g one old.spill disk lists end)
+      → OnOk r (AddedOne hash_of g what old disk (record old { spill = lists }) end)
   left_added (Err e) lists end one absent short out is kept spilled = tt
   left_added (Ok x) lists end one absent short out is kept spilled =
-      let goes = spilled_proceeds (entries_of old.groups) old.lists lists (λ empty clear. sym out
+      let goes = spilled_proceeds (entries_of old.groups) old.spill lists (λ empty clear. sym out
       ∙ fresh_enters hf old key ready short empty clear) spilled.counted in
       record {
         added =
             record {
-              reads = one_left old.plan hf old.groups old.lists (g.last disk) key (Are (query_of old) hf what) Moved told old.groups lists
+              reads = one_left old.plan hf old.groups old.spill (g.last disk) key (Are (query_of old) hf what) Moved told old.groups lists
                   (g.last end) one absent ready.plan.width out refl is spilled.added;
               brings = one_brings (entries_of old.groups) lists goes;
               safe = λ is. is;
               pages = spilled.paged;
               ready = record { plan = ready.plan; width = ready.width; held = ready.held; alive = spilled.alive };
-              kept = record { plan = refl; table = same_table old.plan.limit old.groups; lists = kept };
+              kept = record { plan = refl; table = same_table old.plan.limit old.groups; spill = kept };
             };
         proceeds = goes;
       }
@@ -282,11 +282,11 @@ module _ {H D : Type 0} (hash_of : H → List ℕ → ℕ) (g : Ghosts D) (what 
 pub record AddedSome {H D : Type 0} (hash_of : H → List ℕ → ℕ) (g : Ghosts D) (what : Source) (number : ℕ) (old : Pass H) (before : D)
     (new : Pass H) (after : D) : Type 0 where
   pub reads : ReadsSome old.plan (hash_of old.groups.hash) (Are (query_of old) (hash_of old.groups.hash) what) number
-      (standing old.groups old.lists (g.last before)) (standing new.groups new.lists (g.last after))
-  pub brings : BringsSome (query_of old) (Are (query_of old) (hash_of old.groups.hash) what) number (entries_of old.groups) old.lists
-      (entries_of new.groups) new.lists
+      (standing old.groups old.spill (g.last before)) (standing new.groups new.spill (g.last after))
+  pub brings : BringsSome (query_of old) (Are (query_of old) (hash_of old.groups.hash) what) number (entries_of old.groups) old.spill
+      (entries_of new.groups) new.spill
   pub safe : AreSafe (query_of old) old.plan.most (entries_of old.groups) → AreSafe (query_of old) old.plan.most (entries_of new.groups)
-  pub pages : WritesPages (g.writes before) old.lists (g.writes after) new.lists
+  pub pages : WritesPages (g.writes before) old.spill (g.writes after) new.spill
   pub ready : IsReady new
   pub kept : KeepsPass old new
 
@@ -308,7 +308,7 @@ module _ {H D : Type 0} (hash_of : H → List ℕ → ℕ) (g : Ghosts D) (what 
 
   pub none_added : IsReady old → AddedSome hash_of g what 0 old before old before
   none_added ready = record {
-    reads = none_read old.plan (hash_of old.groups.hash) AreAll (standing old.groups old.lists (g.last before));
+    reads = none_read old.plan (hash_of old.groups.hash) AreAll (standing old.groups old.spill (g.last before));
     brings = λ more are. omega arith;
     safe = λ is. is;
     pages = refl;
@@ -328,10 +328,10 @@ module _ {H D : Type 0} (hash_of : H → List ℕ → ℕ) (g : Ghosts D) (what 
         let so_far = some.pages in
         let more = a.pages in
         record {
-          reads = next_read old.plan (hash_of old.groups.hash) AreAll AreOne (standing old.groups old.lists (g.last before)) i
-              (standing now.groups now.lists (g.last at)) some.reads place (standing next.groups next.lists (g.last after)) a.reads;
+          reads = next_read old.plan (hash_of old.groups.hash) AreAll AreOne (standing old.groups old.spill (g.last before)) i
+              (standing now.groups now.spill (g.last at)) some.reads place (standing next.groups next.spill (g.last after)) a.reads;
           brings = next_brings (query_of old) AreAll AreOne i (entries_of old.groups) (entries_of now.groups) (entries_of next.groups)
-              old.lists now.lists next.lists place some.brings a.brings;
+              old.spill now.spill next.spill place some.brings a.brings;
           safe = λ is. a.safe (some.safe is);
           pages = omega (arith, so_far, more);
           ready = a.ready;
@@ -344,16 +344,16 @@ module _ {H D : Type 0} (hash_of : H → List ℕ → ℕ) (g : Ghosts D) (what 
         let refusal = refused_first hash_of g one old now at next some.kept.plan some.kept.table.hash error refused in
         record {
           undamaged = λ can. refusal.undamaged (next_room old.plan (hash_of old.groups.hash) AreAll AreOne
-              (standing old.groups old.lists (g.last before)) i (standing now.groups now.lists (g.last at)) some.reads place can);
+              (standing old.groups old.spill (g.last before)) i (standing now.groups now.spill (g.last at)) some.reads place can);
           kept = keeps_twice old now next some.kept refusal.kept;
         }
 
   pub all_added : (i : ℕ) (new : Pass H) (after : D) → AddedSome hash_of g what i old before new after
       → ((more : List Piece) → AreAll more → length more ≤ i) → Added hash_of g what old before new after
   all_added i new after some short = record {
-    reads = all_read old.plan (hash_of old.groups.hash) AreAll (standing old.groups old.lists (g.last before)) i
-        (standing new.groups new.lists (g.last after)) some.reads short;
-    brings = all_brings (query_of old) AreAll i (entries_of old.groups) (entries_of new.groups) old.lists new.lists some.brings short;
+    reads = all_read old.plan (hash_of old.groups.hash) AreAll (standing old.groups old.spill (g.last before)) i
+        (standing new.groups new.spill (g.last after)) some.reads short;
+    brings = all_brings (query_of old) AreAll i (entries_of old.groups) (entries_of new.groups) old.spill new.spill some.brings short;
     safe = some.safe;
     pages = some.pages;
     ready = some.ready;

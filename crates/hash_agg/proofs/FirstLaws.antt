@@ -27,14 +27,14 @@ input_few (x ∷ inputs) (suc i) input at =
     omega (arith, rest, sum)
 
 -- before any input
-pub first_holds : (q : Query) (s : Setting) (pass : PassState) → pass.entries ≡ [] → pass.lists.partitions ≡ []
-    → HasPartitions pass.last pass.lists [] [] [] → Holds q s pass [] [] []
+pub first_holds : (q : Query) (s : Setting) (pass : PassState) → pass.entries ≡ [] → pass.spill.partitions ≡ []
+    → HasPartitions pass.last pass.spill [] [] [] → Holds q s pass [] [] []
 first_holds q s pass empty clear none = (
   [],
   none,
   nothing_stands q s.hash pass.entries [] empty refl,
   nothing_spills q s pass.entries
-      pass.lists.partitions [] empty clear refl,
+      pass.spill.partitions [] empty clear refl,
 )
 
 pub first_total : (entries : List Entry) (lists : PartitionsState) → entries ≡ [] → lists.partitions ≡ [] → total entries lists ≤ 0
@@ -45,29 +45,29 @@ first_total entries lists empty none =
 
 -- after all of them
 pub first_waits : (q : Query) (s : Setting) (pieces : List Piece) (pass : PassState) (run : List Entry) (after : PartitionsState) (now : ℕ
-    → ℕ → Type 0) (before done : Work) (start written end : ℕ) → IsPermutation pass.entries run → Rises run → pass.lists.level ≡ 0
-    → EachFits s (records_of q s.width pieces) → written ≡ start + written_pages pass.lists
-    → ((spilled ahead : List Record) (pending : List PendingPartition) → HasPartitions pass.last pass.lists spilled ahead pending
-    → HasPartitions now after [] ahead (pending ++ left_by pass.lists.level spilled))
-    → ((spilled ahead : List Record) (pending : List PendingPartition) → HasPartitions pass.last pass.lists spilled ahead pending → end
-    + written_pages pass.lists ≡ written + pages_of (partitions_of pass.lists.level spilled))
+    → ℕ → Type 0) (before done : Work) (start written end : ℕ) → IsPermutation pass.entries run → Rises run → pass.spill.level ≡ 0
+    → EachFits s (records_of q s.width pieces) → written ≡ start + written_pages pass.spill
+    → ((spilled ahead : List Record) (pending : List PendingPartition) → HasPartitions pass.last pass.spill spilled ahead pending
+    → HasPartitions now after [] ahead (pending ++ left_by pass.spill.level spilled))
+    → ((spilled ahead : List Record) (pending : List PendingPartition) → HasPartitions pass.last pass.spill spilled ahead pending → end
+    + written_pages pass.spill ≡ written + pages_of (partitions_of pass.spill.level spilled))
     → ((spilled ahead : List Record) (pending : List PendingPartition) (pages : ℕ)
-    → HasPartitions pass.last pass.lists spilled ahead pending
+    → HasPartitions pass.last pass.spill spilled ahead pending
     → AddsUp before (pass_cost s.width pass.entries (length spilled) pages) done)
     → Holds q s pass pieces [] [] → IsUnderway q s pieces run (HasPartitions now after [] []) before done start end
 first_waits q s pieces pass run after now before done start written end moved rises top fit so_far left paged adds
     (spilled, has, stands, spills) =
-    let all : pages_of (partitions_of pass.lists.level spilled)
+    let all : pages_of (partitions_of pass.spill.level spilled)
     ≡ pages_of (partitions_of 0 spilled) = ap (λ level. pages_of (partitions_of level spilled)) top in
     let sum = paged spilled [] [] has in
     record {
-      pending = left_by pass.lists.level spilled;
+      pending = left_by pass.spill.level spilled;
       has = left spilled [] [] has;
-      waits = waits_first q s.hash pieces run spilled pass.lists.level (ends q s.hash pieces pass.entries run spilled spilled moved rises
+      waits = waits_first q s.hash pieces run spilled pass.spill.level (ends q s.hash pieces pass.entries run spilled spilled moved rises
           refl stands);
       made = pass_cost s.width pass.entries (length spilled) (pages_of (partitions_of 0 spilled));
       costs = subst (λ level. Costs q s pieces (pass_cost s.width pass.entries (length spilled) (pages_of (partitions_of 0 spilled)))
-          (left_by level spilled)) (sym top) (costs_first q s pieces pass.entries pass.lists.partitions spilled fit spills);
+          (left_by level spilled)) (sym top) (costs_first q s pieces pass.entries pass.spill.partitions spilled fit spills);
       adds = adds spilled [] [] (pages_of (partitions_of 0 spilled)) has;
       paged = omega (arith, all, sum, so_far);
     }

@@ -7,7 +7,7 @@ use Rattle.hash_agg.proofs.Words.{PendingPartition, partitions_of, left_by, Part
 use Rattle.hash_agg.proofs.Words.{HasPartitions, BeginsLast, AreOn, pages_of, written_pages, meaning, Plan}
 use Rattle.hash_agg.proofs.Words.{Entry, Rises, Ghosts, CountsWithin}
 use Rattle.hash_agg.proofs.Words.{IsDone, IsSafeRun, IsUnderway, MadeFirst, MadeLater, query_of, setting_in, Brought, Given, AllGive, Pass}
-use Rattle.hash_agg.proofs.Words.{Piece, AreOnce, CountUpTo, Stands, setting_of, ReadsList, CanReadList, all_pieces, brought_by, Waits}
+use Rattle.hash_agg.proofs.Words.{Piece, AreOnce, CountUpTo, Stands, setting_of, ReadsPartition, CanReadPartition, all_pieces, brought_by, Waits}
 use Rattle.hash_agg.proofs.Words.{Costs, AddsUp, pass_cost, Work}
 use Rattle.hash_agg.proofs.SortLaws.{rises_once}
 use Rattle.hash_agg.proofs.UnionLaws.{ends}
@@ -24,7 +24,7 @@ module _ (plan : Plan) (hf : List ℕ → ℕ) (pieces : List Piece) (entries no
     → Type 0) (start mid : Work) (from there : ℕ) (w : IsWaiting (meaning plan.query.now) (setting_of plan hf) pieces entries before last
     start mid from there) (count : CountUpTo (meaning plan.query.now) plan.most pieces)
     (begins : (pending : List PendingPartition) → HasPartitions last before [] [] pending → BeginsLast last begun pending) where
-  pub pass_can : CanReadList plan hf (record { entries = none; lists = begun; last = last })
+  pub pass_can : CanReadPartition plan hf (record { entries = none; spill = begun; last = last })
   pass_can =
       let u = w.underway in
       let b = begins u.pending u.has in
@@ -34,7 +34,7 @@ module _ (plan : Plan) (hf : List ℕ → ℕ) (pieces : List Piece) (entries no
 
   pub pass_made : (read after : PartitionsState) (then now : ℕ → ℕ → Type 0) (es run : List Entry) (done : Work) (read_to end : ℕ)
       → IsWellFormed (meaning plan.query.now) → read.level ≡ begun.level
-      → ReadsList plan hf (record { entries = none; lists = begun; last = last }) (record { entries = es; lists = read; last = then })
+      → ReadsPartition plan hf (record { entries = none; spill = begun; last = last }) (record { entries = es; spill = read; last = then })
       → IsPermutation es run → Rises run
       → ((spilled ahead : List Record) (pending : List PendingPartition) → HasPartitions then read spilled ahead pending
       → HasPartitions now after [] ahead (pending ++ left_by read.level spilled))
@@ -108,14 +108,14 @@ module _ {H D : Type 0} (hash_of : H → List ℕ → ℕ) (g : Ghosts D) (input
     counted) where
   -- what is under way after the first pass is so for the later ones
   pub begun : (givens : List Given) → AllGive (query_of old) inputs givens
-      → IsUnderway (query_of mid) (setting_in hash_of mid) (all_pieces inputs givens) first (HasPartitions (g.last between) mid.lists [] [])
+      → IsUnderway (query_of mid) (setting_in hash_of mid) (all_pieces inputs givens) first (HasPartitions (g.last between) mid.spill [] [])
       work
       counted (g.writes before) (g.writes between)
   begun givens give =
       subst (λ (plan : Plan). IsUnderway (meaning plan.query.now) (setting_of plan (hash_of mid.groups.hash)) (all_pieces inputs givens)
-      first (HasPartitions (g.last between) mid.lists [] []) work counted (g.writes before) (g.writes between)) (sym made.plan)
+      first (HasPartitions (g.last between) mid.spill [] []) work counted (g.writes before) (g.writes between)) (sym made.plan)
       (subst (λ hash. IsUnderway (query_of old) (setting_of old.plan (hash_of hash)) (all_pieces inputs givens) first
-      (HasPartitions (g.last between) mid.lists [] []) work counted (g.writes before) (g.writes between)) (sym made.hash)
+      (HasPartitions (g.last between) mid.spill [] []) work counted (g.writes before) (g.writes between)) (sym made.hash)
       (made.underway givens give))
 
   pub made_all : (run : List Entry) (after : D) (done : Work) → g.honest between ≡ g.honest before

@@ -20,7 +20,7 @@ pub record IsReading (plan : Plan) (hf : List ℕ → ℕ) (now : PassState) (pi
   pub holds : Holds (meaning plan.query.now) (setting_of plan hf) now done ahead pending
 
 pub reading_begins : (plan : Plan) (hf : List ℕ → ℕ) (now : PassState) (records : List Record) (pieces : List Piece)
-    (pending : List PendingPartition) → now.entries ≡ [] → now.lists.partitions ≡ [] → HasPartitions now.last now.lists [] records pending
+    (pending : List PendingPartition) → now.entries ≡ [] → now.spill.partitions ≡ [] → HasPartitions now.last now.spill [] records pending
     → ArePieces (meaning plan.query.now) hf records pieces → IsReading plan hf now pieces pending
 reading_begins plan hf now records pieces pending empty clear has are =
     record {
@@ -34,7 +34,7 @@ reading_begins plan hf now records pieces pending empty clear has are =
         has,
         nothing_stands (meaning plan.query.now) hf
             now.entries [] empty refl,
-        nothing_spills (meaning plan.query.now) (setting_of plan hf) now.entries now.lists.partitions [] empty
+        nothing_spills (meaning plan.query.now) (setting_of plan hf) now.entries now.spill.partitions [] empty
             clear refl,
       );
     }
@@ -53,7 +53,7 @@ module _ (plan : Plan) (hf : List ℕ → ℕ) (pieces : List Piece) (pending : 
     (gives : (spilled ahead : List Record) (pending : List PendingPartition) → HasPartitions last before spilled ahead pending
     → Gives (λ rest. HasPartitions now after spilled rest pending) ahead bytes (Some (hash, tag))) where
   -- the record that was given is the next one
-  next_given : IsReading plan hf (record { entries = entries; lists = before; last = last }) pieces pending
+  next_given : IsReading plan hf (record { entries = entries; spill = before; last = last }) pieces pending
       → (done rest : List Piece) × (p : Piece) × (ahead spilled : List Record) × (pieces ≡ done ++ p ∷ rest)
       × (ArePieces (meaning plan.query.now) hf (record { hash = hash; tag = tag; bytes = bytes } ∷ []) (p ∷ []))
       × ArePieces (meaning plan.query.now) hf ahead rest
@@ -88,9 +88,9 @@ module _ (plan : Plan) (hf : List ℕ → ℕ) (pieces : List Piece) (pending : 
             r.holds.3,
       )
 
-  pub can_read_next : IsReading plan hf (record { entries = entries; lists = before; last = last }) pieces pending
+  pub can_read_next : IsReading plan hf (record { entries = entries; spill = before; last = last }) pieces pending
       → CanRead plan hf (ArePieces (meaning plan.query.now) hf (record { hash = hash; tag = tag; bytes = bytes } ∷ []))
-      (record { entries = entries; lists = after; last = now })
+      (record { entries = entries; spill = after; last = now })
   can_read_next r =
       let n = next_given r in (
         n.0,
@@ -105,8 +105,8 @@ module _ (plan : Plan) (hf : List ℕ → ℕ) (pieces : List Piece) (pending : 
 
   pub reads_next : (new : PassState)
       → Reads plan hf (ArePieces (meaning plan.query.now) hf (record { hash = hash; tag = tag; bytes = bytes } ∷ []))
-      (record { entries = entries; lists = after; last = now }) new
-      → IsReading plan hf (record { entries = entries; lists = before; last = last }) pieces pending → IsReading plan hf new pieces pending
+      (record { entries = entries; spill = after; last = now }) new
+      → IsReading plan hf (record { entries = entries; spill = before; last = last }) pieces pending → IsReading plan hf new pieces pending
   reads_next new reads r =
       let n = next_given r in
       record {
@@ -124,8 +124,8 @@ pub reading_ends : (plan : Plan) (hf : List ℕ → ℕ) (pieces : List Piece) (
     (before after : PartitionsState) (last now : ℕ → ℕ → Type 0) (bytes : List ℕ)
     → after.partitions ≡ before.partitions → ((spilled ahead : List Record) (pending : List PendingPartition)
     → HasPartitions last before spilled ahead pending → Gives (λ rest. HasPartitions now after spilled rest pending) ahead bytes None)
-    → IsReading plan hf (record { entries = entries; lists = before; last = last }) pieces pending
-    → Holds (meaning plan.query.now) (setting_of plan hf) (record { entries = entries; lists = after; last = now }) pieces [] pending
+    → IsReading plan hf (record { entries = entries; spill = before; last = last }) pieces pending
+    → Holds (meaning plan.query.now) (setting_of plan hf) (record { entries = entries; spill = after; last = now }) pieces [] pending
 reading_ends plan hf pieces pending entries before after last now bytes same gives r =
     let g = gives r.holds.0 r.ahead pending r.holds.1 in
     let all : pieces ≡ r.done = ended r.rest r.is (subst (λ ahead. ArePieces (meaning plan.query.now) hf ahead r.rest) g.0 r.are) in (

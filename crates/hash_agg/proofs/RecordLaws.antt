@@ -34,9 +34,9 @@ row_over plan hf packed row old has is unmet pieces more ahead pending (spilled,
       (sym (one_row (meaning plan.query.now) packed row more has is are))
       (reads_over (meaning plan.query.now) hf old.entries spilled pieces (Of_row row)
       (passed_over (meaning plan.query.now) (made_of (meaning plan.query.now) pieces) row unmet) stands),
-  subst (λ more. Spills (meaning plan.query.now) (setting_of plan hf) (pieces ++ more) old.entries old.lists.partitions spilled)
+  subst (λ more. Spills (meaning plan.query.now) (setting_of plan hf) (pieces ++ more) old.entries old.spill.partitions spilled)
       (sym (one_row (meaning plan.query.now) packed row more has is are))
-      (spills_over (meaning plan.query.now) (setting_of plan hf) pieces row old.entries old.lists.partitions spilled unmet spills),
+      (spills_over (meaning plan.query.now) (setting_of plan hf) pieces row old.entries old.spill.partitions spilled unmet spills),
 )
 
 -- ---- a record of a row

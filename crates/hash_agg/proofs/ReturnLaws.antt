@@ -20,7 +20,7 @@ no_if_ok (Err e) P is = tt
 
 -- nothing moved; or states alone; or a record was spilled
 pub same_table : {Hash : Type 0} (limit : ℕ) (g : GroupsState Hash) → IsSameTable limit g g
-same_table limit g = record { width = refl; hash = refl; within = λ is. is }
+same_table limit g = record { width = refl; hash = refl; finds = refl; within = λ is. is }
 
 pub same_rest : (lists : PartitionsState) → KeepsRest lists lists
 same_rest lists = record { reading = refl; pending = refl; level = refl }
@@ -30,6 +30,7 @@ pub moved_table : {Hash : Type 0} (limit : ℕ) (g h : GroupsState Hash) → h.t
 moved_table limit g h same hashed held = record {
   width = ap (λ (t : TableState SipHash). t.width) same;
   hash = hashed;
+  finds = ap (λ (t : TableState SipHash). t.hash) same;
   within = λ is. subst (λ held. held ≤ limit) (sym held) is;
 }
 
@@ -55,6 +56,7 @@ same_table_twice a b c first second = record {
   width = second.width ∙ first.width;
   hash = second.hash
       ∙ first.hash;
+  finds = second.finds ∙ first.finds;
   within = λ is. second.within (first.within is);
 }
 

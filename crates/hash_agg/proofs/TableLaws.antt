@@ -1,9 +1,13 @@
 -- The table of a pass.
-use Rattle.std.specs.Prelude.{◌≡◌, ◌≢◌, refl, ℕ, zero, suc, ◌+◌, List, [], ◌∷◌, map, slice_get, Some}
-use Rattle.std.proofs.Common.{sym, ◌∙◌, ap, arith}
+use Rattle.std.specs.Prelude.{◌≡◌, ◌≢◌, refl, ℕ, zero, suc, ◌+◌, ◌%◌, ◌^◌, List, [], ◌∷◌, map, slice_get, Some}
+use Rattle.std.proofs.Common.{sym, ◌∙◌, ap, subst, arith}
 use Rattle.context_tree.specs.Contexts.{held_by}
 use Rattle.context_tree.specs.Tree.{TreeState, context_at, held_below}
 use Rattle.group_table.specs.Standing.{IsTableIn}
+use Rattle.key_hashes.specs.SipHashes.{low_hash, sip_hash}
+use Rattle.key_hashes.specs.declared.sip_hash.Seed.{Seed}
+use Rattle.key_hashes.specs.declared.sip_hash.SipHash.{SipHash}
+use Rattle.hash_agg.specs.Passes.{FindsBy}
 use Rattle.hash_agg.proofs.Words.{TableState, IsSameBut, held_in, HasNo, key_in, state_in, group_in, groups, Slot, Entry, GroupsState}
 use Rattle.hash_agg.proofs.Words.{entries_of, AreOnce}
 
@@ -51,3 +55,11 @@ held_alone t u before after same alone rest =
     ∙ now
     ∙ (λ i. held_by (context_at after (sym same.buckets i)) + held_by (context_at after (sym same.keys i))
     + held_by (context_at after (sym same.states i)))
+
+-- a table that was made with a hash function finds keys by the seed of that, and by one that is the same
+pub finds_made : (seed : Seed) (made hash : SipHash) → made ≡ hash → ((key : List ℕ) → low_hash hash key ≡ sip_hash seed key % 2 ^ 32)
+    → (key : List ℕ) → low_hash made key ≡ sip_hash seed key % 2 ^ 32
+finds_made seed made hash same finds key = ap (λ h. low_hash h key) same ∙ finds key
+
+pub finds_same : {Hash : Type 0} (g : GroupsState Hash) (told seed : Seed) → told ≡ seed → FindsBy told g → FindsBy seed g
+finds_same g told seed same finds = subst (λ s. FindsBy s g) same finds

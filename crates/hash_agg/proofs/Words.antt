@@ -42,9 +42,9 @@ pub use Rattle.hash_agg.specs.Inputs.{AllBring, AllGive, AreInputs, AreInputsOf,
 pub use Rattle.hash_agg.specs.Inputs.{Counted, Given, IsAggregate, IsInput, IsRunOver}
 pub use Rattle.hash_agg.specs.Inputs.{Of_groups, Of_rows, OneByOne, Packed, all_groups, all_rows, brought, groups_in, packings_in, rows_in}
 pub use Rattle.hash_agg.specs.Passes.{AreCosted, AreGroupsBy, AreHeld, AreOfRun, AreOnce, ArePieces, AreRows, AreSafe, Brings, CanRead}
-pub use Rattle.hash_agg.specs.Passes.{CanReadList, CountUpTo, GroupsState, Holds, IsCosted, IsGroupRecord, IsAbbreviated, IsParted, IsPiece}
+pub use Rattle.hash_agg.specs.Passes.{CanReadPartition, CountUpTo, GroupsState, Holds, IsCosted, IsGroupRecord, IsAbbreviated, IsParted, IsPiece}
 pub use Rattle.hash_agg.specs.Passes.{IsPlan, IsRowRecord, IsSameTable, AbbreviatedKey, Of_group, Of_row, PassState, Piece, Proceeds, Reads}
-pub use Rattle.hash_agg.specs.Passes.{ReadsList, Spills, Stands, WritesAt, WritesPages, all_pieces, brings, brought_by, cost_records}
+pub use Rattle.hash_agg.specs.Passes.{ReadsPartition, Spills, Stands, WritesAt, WritesPages, all_pieces, brings, brought_by, cost_records}
 pub use Rattle.hash_agg.specs.Passes.{entries_of, given_pieces, group_record, made_of, pairs, piece_added, piece_key, pieces_added}
 pub use Rattle.hash_agg.specs.Passes.{records_of, rows_at, setting_for, setting_of, standing, total, weight}
 pub use Rattle.hash_agg.specs.Waiting.{AddsUp, AreLeft, AreListed, AreNone, Costs, IsLeft, IsOneOf, IsWork, Waits, capped, each_at}

@@ -1,6 +1,6 @@
 -- What a pass adds to its groups and partitions, and what it leaves of its disk. All of this is our own.
 use Rattle.std.specs.Prelude.{◌≡◌, ◌≢◌, ℕ, ◌+◌, ◌≤◌, ◌<◌, ◌&&◌, max, Bool, true, false, List, [], ◌∷◌, ◌++◌, length, IsTrue, IfErr, OnOk}
-use Rattle.std.specs.Prelude.{Result}
+use Rattle.std.specs.Prelude.{Result, Ok, Some, zero, suc}
 use Rattle.std.specs.List.Sorted.{IsPermutation}
 use Rattle.aggregation_cost.specs.Cost.{Cost, cost}
 use Rattle.aggregation_cost.specs.Passes.{is_empty}
@@ -16,14 +16,15 @@ use Rattle.tape_disks.specs.Disk.{DiskFrame}
 use Rattle.tape_disks.specs.declared.disk.TapeDisk.{Ghosts}
 use Rattle.spill_partitions.specs.Errors.{spill_faults}
 use Rattle.spill_partitions.specs.Partitions.{PendingPartition, partitions_of, left_by}
-use Rattle.spill_partitions.specs.Standing.{HasPartitions, KeepsRest, spilled_number, ahead_number, waiting_number, pages_of, written_pages}
+use Rattle.spill_partitions.specs.Standing.{HasPartitions, KeepsRest, PartitionsState, ReadsRecord, spilled_number, ahead_number}
+use Rattle.spill_partitions.specs.Standing.{waiting_number, pages_of, written_pages}
 use Rattle.spill_partitions.specs.declared.error.SpillError.{SpillError}
 use Rattle.spill_partitions.specs.declared.error.SpillError.TheVariants.{TapeDamaged}
 use Rattle.having_filter.specs.Meaning.{meaning}
 use Rattle.group_runs.specs.Runs.{Entry, Rises, packed_keys}
 use Rattle.hash_agg.specs.Inputs.{Brought, Packed, Counted, Given, AllGive}
 use Rattle.hash_agg.specs.Passes.{Piece, ArePieces, AreSafe, IsPlan, IsSameTable, HasPlace, CountUpTo, Stands, AreRows, AreOfRun, Reads}
-use Rattle.hash_agg.specs.Passes.{CanRead, ReadsList, CanReadList, Brings, Proceeds, WritesPages, entries_of, total, standing, setting_of}
+use Rattle.hash_agg.specs.Passes.{CanRead, ReadsPartition, CanReadPartition, Brings, Proceeds, WritesPages, entries_of, total, standing, setting_of}
 use Rattle.hash_agg.specs.Passes.{records_of, all_pieces, brought_by}
 use Rattle.hash_agg.specs.Waiting.{Waits, Costs, AddsUp, pass_cost}
 use Rattle.hash_agg.specs.declared.plan.Plan.{Plan}
@@ -60,39 +61,39 @@ pub record IsReady {H : Type 0} (pass : Pass H) : Type 0 where
   pub plan : IsPlan pass.plan
   pub width : pass.groups.table.width ≡ length pass.plan.first.items
   pub held : pass.groups.most_held ≤ pass.plan.limit
-  pub alive : pass.lists.tapes.is_dead ≡ false
+  pub alive : pass.spill.tapes.is_dead ≡ false
 
 -- it has no group, and has spilled nothing
 pub record IsFresh {H : Type 0} (pass : Pass H) : Type 0 where
   pub empty : entries_of pass.groups ≡ []
-  pub partitions : pass.lists.partitions ≡ []
+  pub partitions : pass.spill.partitions ≡ []
 
 -- it is over, and the next one may begin
 pub record IsOver {H : Type 0} (pass : Pass H) : Type 0 where
   pub ready : IsReady pass
   pub fresh : IsFresh pass
-  pub reading : pass.lists.reading ≡ []
+  pub reading : pass.spill.reading ≡ []
 
--- it is the first: it stands as one that is over, and no list is left to read
+-- it is the first: it stands as one that is over, and no partition is left to read
 pub record IsFirst {H D : Type 0} (g : Ghosts D) (pass : Pass H) (disk : D) : Type 0 where
   pub over : IsOver pass
-  pub none : HasPartitions (g.last disk) pass.lists [] [] []
-  pub pending : pass.lists.pending ≡ []
-  pub level : pass.lists.level ≡ 0
+  pub none : HasPartitions (g.last disk) pass.spill [] [] []
+  pub pending : pass.spill.pending ≡ []
+  pub level : pass.spill.level ≡ 0
 
--- its plan, its table but for the groups, and the lists to which it doesn't spill are the same
+-- its plan, its table but for the groups, and the partitions to which it doesn't spill are the same
 pub record KeepsPass {H : Type 0} (old new : Pass H) : Type 0 where
   pub plan : new.plan ≡ old.plan
   pub table : IsSameTable old.plan.limit old.groups new.groups
-  pub lists : KeepsRest old.lists new.lists
+  pub spill : KeepsRest old.spill new.spill
 
 -- whether its table takes a key that isn't there
 abbrev pub enters : {H : Type 0} → (List ℕ → ℕ) → Pass H → List ℕ → Bool
-enters hash pass key = is_empty pass.lists.partitions && fits (setting_of pass.plan hash) (packed_keys (entries_of pass.groups) ++ key ∷ [])
+enters hash pass key = is_empty pass.spill.partitions && fits (setting_of pass.plan hash) (packed_keys (entries_of pass.groups) ++ key ∷ [])
 
 -- it does, and so many bytes of blocks are held at most meanwhile
 pub record HasRoom {H : Type 0} (pass : Pass H) (key : List ℕ) (bytes : ℕ) : Type 0 where
-  pub none : pass.lists.partitions ≡ []
+  pub none : pass.spill.partitions ≡ []
   pub few : HasPlace pass.groups
   pub within : bytes ≤ pass.plan.limit
   pub needed : bytes ≡ need pass.groups.table.width (packed_keys (entries_of pass.groups) ++ key ∷ [])
@@ -106,24 +107,24 @@ pub record IsSelected (query : Query) (packed key : List ℕ) (row : Row) : Type
   pub met : is_met (column_of row) query.condition ≡ true
   pub named : key ≡ packing (key_of query row)
 
--- what is read was added, by a plan and a hash function: the groups and lists are those after it; they are as many more as it brings
+-- what is read was added, by a plan and a hash function: the groups and partitions are those after it; they are as many more as it brings
 -- at most, and groups of the query over any disk; and the pages that became full were written
 pub record AddedBy {H D : Type 0} (plan : Plan) (hash : List ℕ → ℕ) (g : Ghosts D) (what : Source) (old : Pass H) (before : D)
     (new : Pass H) (after : D) : Type 0 where
-  pub reads : Reads plan hash (Are (meaning plan.query.now) hash what) (standing old.groups old.lists (g.last before))
-      (standing new.groups new.lists (g.last after))
-  pub brings : Brings (meaning plan.query.now) (Are (meaning plan.query.now) hash what) (entries_of old.groups) old.lists
-      (entries_of new.groups) new.lists
+  pub reads : Reads plan hash (Are (meaning plan.query.now) hash what) (standing old.groups old.spill (g.last before))
+      (standing new.groups new.spill (g.last after))
+  pub brings : Brings (meaning plan.query.now) (Are (meaning plan.query.now) hash what) (entries_of old.groups) old.spill
+      (entries_of new.groups) new.spill
   pub safe : AreSafe (meaning plan.query.now) plan.most (entries_of old.groups)
       → AreSafe (meaning plan.query.now) plan.most (entries_of new.groups)
-  pub pages : WritesPages (g.writes before) old.lists (g.writes after) new.lists
+  pub pages : WritesPages (g.writes before) old.spill (g.writes after) new.spill
   pub ready : IsReady new
   pub kept : KeepsPass old new
 
 -- it was not; if it can be read, no tape is to blame
 pub record RefusedBy {H D : Type 0} (plan : Plan) (hash : List ℕ → ℕ) (g : Ghosts D) (what : Source) (old : Pass H) (before : D)
     (error : SpillError) (new : Pass H) : Type 0 where
-  pub undamaged : CanRead plan hash (Are (meaning plan.query.now) hash what) (standing old.groups old.lists (g.last before))
+  pub undamaged : CanRead plan hash (Are (meaning plan.query.now) hash what) (standing old.groups old.spill (g.last before))
       → error ≢ TapeDamaged
   pub kept : KeepsPass old new
 
@@ -138,7 +139,7 @@ Refused hash_of g what old before error new = RefusedBy old.plan (hash_of old.gr
 pub record AddedOne {H D : Type 0} (hash_of : H → List ℕ → ℕ) (g : Ghosts D) (what : Source) (old : Pass H) (before : D) (new : Pass H)
     (after : D) : Type 0 where
   pub added : Added hash_of g what old before new after
-  pub proceeds : Proceeds (entries_of old.groups) old.lists (entries_of new.groups) new.lists
+  pub proceeds : Proceeds (entries_of old.groups) old.spill (entries_of new.groups) new.spill
 
 -- a record is that of a row of which WHERE is true, or of a group of the query, and its hash is that of its key
 abbrev pub IsGenuine : {H : Type 0} → (H → List ℕ → ℕ) → Pass H → Source → Type 0
@@ -157,31 +158,57 @@ pub record Adds {H D T : Type 0} (Done : (H → List ℕ → ℕ) → Ghosts D �
   pub refused : IfErr result (λ error. Refused hash_of g what old before error new)
   pub disk : DiskFrame g (failed spill_faults result) before after
 
--- ---- a list that it reads
+-- ---- a partition that it reads
 
--- what a pass over a list keeps: its plan, its table but for the groups, and the lists of later passes
+-- what a pass over a partition keeps: its plan, its table but for the groups, and the partitions of later passes
 pub record KeepsLater {H : Type 0} (old new : Pass H) : Type 0 where
   pub plan : new.plan ≡ old.plan
   pub table : IsSameTable old.plan.limit old.groups new.groups
-  pub pending : new.lists.pending ≡ old.lists.pending
-  pub level : new.lists.level ≡ old.lists.level
+  pub pending : new.spill.pending ≡ old.spill.pending
+  pub level : new.spill.level ≡ old.spill.level
 
--- the records of its list were added, of which fewer are spilled than there were
-pub record AddedList {H D : Type 0} (hash_of : H → List ℕ → ℕ) (g : Ghosts D) (old : Pass H) (before : D) (new : Pass H) (after : D) :
+-- a record was read of the partition, is genuine, and was added
+pub record ReadsAndAdds {H D : Type 0} (hash_of : H → List ℕ → ℕ) (g : Ghosts D) (old : Pass H) (before : D) (new : Pass H) (after : D) :
     Type 0 where
-  pub reads : IsTrue (g.honest before) → ReadsList old.plan (hash_of old.groups.hash) (standing old.groups old.lists (g.last before))
-      (standing new.groups new.lists (g.last after))
+  pub hash : ℕ
+  pub tag : ℕ
+  pub bytes : List ℕ
+  pub left : PartitionsState
+  pub between : D
+  pub read : ReadsRecord g old.spill before (Ok (Some (hash, tag))) left between bytes
+  pub added : AddedGenuine hash_of g (On_tape hash tag bytes) (record old { spill = left }) between new after
+
+-- so many were, one after the other
+abbrev pub AddInTurn : {H D : Type 0} → (H → List ℕ → ℕ) → Ghosts D → ℕ → Pass H → D → Pass H → D → Type 0
+AddInTurn hash_of g zero old before new after = (new ≡ old) × (after ≡ before)
+AddInTurn {H = H} {D = D} hash_of g (suc n) old before new after =
+    (mid : Pass H) × (between : D) × AddInTurn hash_of g n old before mid between × ReadsAndAdds hash_of g mid between new after
+
+-- all that its partition has were: over any disk, none was passed over
+pub record AddsEach {H D : Type 0} (hash_of : H → List ℕ → ℕ) (g : Ghosts D) (old : Pass H) (before : D) (new : Pass H) : Type 0 where
+  pub last : Pass H
+  pub disk : D
+  pub each : AddInTurn hash_of g (ahead_number old.spill) old before last disk
+  pub groups : new.groups ≡ last.groups
+  pub spilled : new.spill.partitions ≡ last.spill.partitions
+
+-- the records of its partition were added, of which fewer are spilled than there were
+pub record AddedPartition {H D : Type 0} (hash_of : H → List ℕ → ℕ) (g : Ghosts D) (old : Pass H) (before : D) (new : Pass H) (after : D) :
+    Type 0 where
+  pub reads : IsTrue (g.honest before) → ReadsPartition old.plan (hash_of old.groups.hash) (standing old.groups old.spill (g.last before))
+      (standing new.groups new.spill (g.last after))
+  pub each : AddsEach hash_of g old before new
   pub safe : AreSafe (query_of old) old.plan.most (entries_of new.groups)
-  pub few : total (entries_of new.groups) new.lists ≤ ahead_number old.lists
-  pub fewer : 0 < ahead_number old.lists → spilled_number new.lists < ahead_number old.lists
-  pub pages : WritesPages (g.writes before) old.lists (g.writes after) new.lists
-  pub reading : new.lists.reading ≡ []
+  pub few : total (entries_of new.groups) new.spill ≤ ahead_number old.spill
+  pub fewer : 0 < ahead_number old.spill → spilled_number new.spill < ahead_number old.spill
+  pub pages : WritesPages (g.writes before) old.spill (g.writes after) new.spill
+  pub reading : new.spill.reading ≡ []
   pub ready : IsReady new
   pub kept : KeepsLater old new
 
-pub record RefusedList {H D : Type 0} (hash_of : H → List ℕ → ℕ) (g : Ghosts D) (old : Pass H) (before : D) (error : SpillError)
+pub record RefusedPartition {H D : Type 0} (hash_of : H → List ℕ → ℕ) (g : Ghosts D) (old : Pass H) (before : D) (error : SpillError)
     (new : Pass H) : Type 0 where
-  pub undamaged : IsTrue (g.honest before) → CanReadList old.plan (hash_of old.groups.hash) (standing old.groups old.lists (g.last before))
+  pub undamaged : IsTrue (g.honest before) → CanReadPartition old.plan (hash_of old.groups.hash) (standing old.groups old.spill (g.last before))
       → error ≢ TapeDamaged
   pub kept : KeepsLater old new
 
@@ -191,17 +218,18 @@ pub record RefusedList {H D : Type 0} (hash_of : H → List ℕ → ℕ) (g : Gh
 pub record Finished {H D : Type 0} (g : Ghosts D) (old : Pass H) (before : D) (run : List Entry) (new : Pass H) (after : D) : Type 0 where
   pub moved : IsPermutation (entries_of old.groups) run
   pub rises : Rises run
-  pub left : (spilled ahead : List Record) (pending : List PendingPartition) → HasPartitions (g.last before) old.lists spilled ahead pending
-      → HasPartitions (g.last after) new.lists [] ahead (pending ++ left_by old.lists.level spilled)
+  pub left : (spilled ahead : List Record) (pending : List PendingPartition) → HasPartitions (g.last before) old.spill spilled ahead pending
+      → HasPartitions (g.last after) new.spill [] ahead (pending ++ left_by old.spill.level spilled)
   pub paged : (spilled ahead : List Record) (pending : List PendingPartition)
-      → HasPartitions (g.last before) old.lists spilled ahead pending
-      → g.writes after + written_pages old.lists ≡ g.writes before + pages_of (partitions_of old.lists.level spilled)
-  pub waiting : waiting_number new.lists ≡ waiting_number old.lists + spilled_number old.lists
-  pub reading : new.lists.reading ≡ old.lists.reading
+      → HasPartitions (g.last before) old.spill spilled ahead pending
+      → g.writes after + written_pages old.spill ≡ g.writes before + pages_of (partitions_of old.spill.level spilled)
+  pub waiting : waiting_number new.spill ≡ waiting_number old.spill + spilled_number old.spill
+  pub reading : new.spill.reading ≡ old.spill.reading
   pub ready : IsReady new
   pub fresh : IsFresh new
   pub plan : new.plan ≡ old.plan
   pub hash : new.groups.hash ≡ old.groups.hash
+  pub finds : new.groups.table.hash ≡ old.groups.table.hash
 
 -- it was counted: the pass, what it spilled, and what its table held
 pub record CountsPass {H D : Type 0} (g : Ghosts D) (pass : Pass H) (disk : D) (old new : Work) : Type 0 where
@@ -209,7 +237,7 @@ pub record CountsPass {H D : Type 0} (g : Ghosts D) (pass : Pass H) (disk : D) (
   pub held : new.most_held ≡ max old.most_held pass.groups.most_held
   pub adds :
       (spilled ahead : List Record) (pending : List PendingPartition) (pages : ℕ)
-      → HasPartitions (g.last disk) pass.lists spilled ahead pending
+      → HasPartitions (g.last disk) pass.spill spilled ahead pending
       → AddsUp old (pass_cost pass.groups.table.width (entries_of pass.groups) (length spilled) pages) new
 
 -- ---- all passes
@@ -224,8 +252,8 @@ pub record IsSafeRun (query : Query) (most : ℕ) (run : List Entry) : Type 0 wh
   pub safe : AreSafe query most run
   pub rises : Rises run
 
--- an aggregation of pieces is under way: each is in the groups of a run or on a list that is left, and the passes that were made, and
--- those over these lists, cost what is said of the pieces
+-- an aggregation of pieces is under way: each is in the groups of a run or in a partition that is left, and the passes that were made, and
+-- those over these partitions, cost what is said of the pieces
 pub record IsUnderway (query : Query) (setting : Setting) (pieces : List Piece) (run : List Entry) (Has : List PendingPartition
     → Type 0) (old new : Work) (writes written : ℕ) : Type 0 where
   pub pending : List PendingPartition
@@ -248,7 +276,7 @@ abbrev pub Continues : {H D : Type 0} → (H → List ℕ → ℕ) → Ghosts D 
     → Type 0
 Continues hash_of g pass disk run work Then =
     IsTrue (g.honest disk) → (pieces : List Piece) (start : Work) (writes : ℕ)
-    → IsUnderway (query_of pass) (setting_in hash_of pass) pieces run (HasPartitions (g.last disk) pass.lists [] []) start work writes
+    → IsUnderway (query_of pass) (setting_in hash_of pass) pieces run (HasPartitions (g.last disk) pass.spill [] []) start work writes
     (g.writes disk)
     → CountUpTo (query_of pass) pass.plan.most pieces
     → Then pieces start writes
@@ -257,22 +285,23 @@ Continues hash_of g pass disk run work Then =
 pub record MadeFirst {H D : Type 0} (hash_of : H → List ℕ → ℕ) (g : Ghosts D) (inputs : List Brought) (old : Pass H) (before : D)
     (work : Work) (run : List Entry) (new : Pass H) (after : D) (done : Work) : Type 0 where
   pub underway : (givens : List Given) → AllGive (query_of old) inputs givens
-      → IsUnderway (query_of old) (setting_in hash_of old) (all_pieces inputs givens) run (HasPartitions (g.last after) new.lists [] [])
+      → IsUnderway (query_of old) (setting_in hash_of old) (all_pieces inputs givens) run (HasPartitions (g.last after) new.spill [] [])
       work
       done (g.writes before) (g.writes after)
   pub few : (givens : List Given) → AllGive (query_of old) inputs givens → length run
-      + waiting_number new.lists ≤ brought_by (query_of old) (all_pieces inputs givens)
+      + waiting_number new.spill ≤ brought_by (query_of old) (all_pieces inputs givens)
   pub safe : IsSafeRun (query_of old) old.plan.most run
   pub over : IsOver new
   pub within : CountsWithin old.plan.limit work done
   pub plan : new.plan ≡ old.plan
   pub hash : new.groups.hash ≡ old.groups.hash
+  pub finds : new.groups.table.hash ≡ old.groups.table.hash
 
 -- the later ones were made, whose groups were united with those of the first
 pub record MadeLater {H D : Type 0} (hash_of : H → List ℕ → ℕ) (g : Ghosts D) (old : Pass H) (before : D) (first : List Entry) (work : Work)
     (run : List Entry) (after : D) (done : Work) : Type 0 where
   pub whole : Continues hash_of g old before first work (λ pieces start writes. IsDone (query_of old) (setting_in hash_of old) pieces run
       start done writes (g.writes after))
-  pub few : length run ≤ length first + waiting_number old.lists
+  pub few : length run ≤ length first + waiting_number old.spill
   pub safe : IsSafeRun (query_of old) old.plan.most run
   pub within : CountsWithin old.plan.limit work done

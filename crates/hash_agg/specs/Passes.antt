@@ -1,7 +1,7 @@
 -- A pass of an aggregation: groups in a table, and records that are left for the next pass. All of this is our own.
 use Rattle.std.specs.Borrow.{Bor}
 use Rattle.std.specs.Int.{w16, to_be_bytes}
-use Rattle.std.specs.Prelude.{◌≡◌, ℕ, ◌+◌, ◌≤◌, ◌<◌, ◌⊎◌, if◌then◌else◌, true, List, [], ◌∷◌, ◌++◌, length, map, flat_map, sum_by}
+use Rattle.std.specs.Prelude.{◌≡◌, ℕ, ◌+◌, ◌%◌, ◌^◌, ◌≤◌, ◌<◌, ◌⊎◌, if◌then◌else◌, true, List, [], ◌∷◌, ◌++◌, length, map, flat_map, sum_by}
 use Rattle.std.specs.Prelude.{slice_get, slice_index, slice_set, Some, None}
 use Rattle.byteorder.specs.Endian.{big_from}
 use Rattle.context_tree.specs.Tree.{TreeState}
@@ -9,7 +9,8 @@ use Rattle.aggregation_cost.specs.Cost.{greatest}
 use Rattle.aggregation_cost.specs.Passes as cost
 use Rattle.aggregation_cost.specs.Space.{Setting, need, fronts}
 use Rattle.group_table.specs.Space.{HoldsKeys, keys_in}
-use Rattle.key_hashes.specs.SipHashes.{low_hash}
+use Rattle.key_hashes.specs.SipHashes.{low_hash, sip_hash}
+use Rattle.key_hashes.specs.declared.sip_hash.Seed.{Seed}
 use Rattle.group_table.specs.Standing.{IsTableIn}
 use Rattle.group_table.specs.Table.{TableState, groups, key_in, buckets_for, buckets_in, most_buckets}
 use Rattle.key_hashes.specs.declared.sip_hash.SipHash.{SipHash}
@@ -185,7 +186,7 @@ pub record IsCosted (query : Query) (setting : Setting) (one : Record) (costed :
 abbrev pub AreCosted : Query → Setting → List Record → List cost.Record → Type 0
 AreCosted query setting = OneByOne (IsCosted query setting)
 
--- of what it has read, a pass took the keys and spilled the records that the cost says; it has lists once it spilled
+-- of what it has read, a pass took the keys and spilled the records that the cost says; it has partitions once it spilled
 pub record Spills (query : Query) (setting : Setting) (pieces : List Piece) (entries : List Entry) (partitions : List OnTape)
     (left : List Record) : Type 0 where
   pub took : packed_keys entries ≡ cost.taken_from setting (records_of query setting.width pieces)
@@ -198,10 +199,16 @@ AreSafe query most entries = (entered : List Group) × AreGroupsBy query (λ key
 
 -- ---- a pass
 
--- a table beside the same hash function, whose states are as long, and which held no more than a limit if it did so before
+-- the table finds keys by SipHash-1-3 with this seed
+abbrev pub FindsBy : {H : Type 0} → Seed → GroupsState H → Type 0
+FindsBy seed g = (key : List ℕ) → low_hash g.table.hash key ≡ sip_hash seed key % 2 ^ 32
+
+-- a table that finds keys as before, with its seed, beside the same hash function; its states are as long, and it held no more than a limit
+-- if it did so before
 pub record IsSameTable {H : Type 0} (limit : ℕ) (old new : GroupsState H) : Type 0 where
   pub width : new.table.width ≡ old.table.width
   pub hash : new.hash ≡ old.hash
+  pub finds : new.table.hash ≡ old.table.hash
   pub within : old.most_held ≤ limit → new.most_held ≤ limit
 
 -- what all passes of an aggregation have in common: a checked query, the states before any row, the most rows that a group counts,
@@ -215,27 +222,27 @@ pub record IsPlan (plan : Plan) : Type 0 where
   pub narrow : length plan.first.items ≤ 8184
   pub limit : 32768 ≤ plan.limit
 
--- where a pass stands: its entries, its lists, and what the disk of these has
+-- where a pass stands: its entries, its partitions, and what the disk of these has
 pub record PassState : Type 1 where
   pub entries : List Entry
-  pub lists : PartitionsState
+  pub spill : PartitionsState
   pub last : ℕ → ℕ → Type 0
 
 abbrev pub standing : {H : Type 0} → GroupsState H → PartitionsState → (ℕ → ℕ → Type 0) → PassState
-standing groups lists last = record { entries = entries_of groups; lists = lists; last = last }
+standing groups spill last = record { entries = entries_of groups; spill = spill; last = last }
 
 -- what all passes have in common as the cost has it
 abbrev pub setting_of : Plan → (List ℕ → ℕ) → Setting
 setting_of plan hash = record { limit = plan.limit; width = length plan.first.items; hash = hash }
 
--- what a pass has read is in its entries, and on the lists to which it spills, as the cost says. It has these records still to read,
--- and these lists are left to later passes
+-- what a pass has read is in its entries, and in the partitions to which it spills, as the cost says. It has these records still to read,
+-- and these partitions are left to later passes
 abbrev pub Holds : Query → Setting → PassState → List Piece → List Record → List PendingPartition → Type 0
 Holds query setting pass pieces ahead pending =
     (spilled : List Record)
-    × HasPartitions pass.last pass.lists spilled ahead pending
+    × HasPartitions pass.last pass.spill spilled ahead pending
     × Stands query setting.hash pieces pass.entries spilled
-    × Spills query setting pieces pass.entries pass.lists.partitions spilled
+    × Spills query setting pieces pass.entries pass.spill.partitions spilled
 
 -- these pieces are read, if they and those before them count few enough rows
 abbrev pub Reads : Plan → (List ℕ → ℕ) → (List Piece → Type 0) → PassState → PassState → Type 0
@@ -254,19 +261,19 @@ CanRead plan hash Are old =
     × Are more
     × CountUpTo (meaning plan.query.now) plan.most (pieces ++ more)
 
--- the records of the list that a pass reads are read
-abbrev pub ReadsList : Plan → (List ℕ → ℕ) → PassState → PassState → Type 0
-ReadsList plan hash old new =
+-- the records of the partition that a pass reads are read
+abbrev pub ReadsPartition : Plan → (List ℕ → ℕ) → PassState → PassState → Type 0
+ReadsPartition plan hash old new =
     (records : List Record) (pieces : List Piece) (pending : List PendingPartition)
-    → HasPartitions old.last old.lists [] records pending
+    → HasPartitions old.last old.spill [] records pending
     → ArePieces (meaning plan.query.now) hash records pieces
     → CountUpTo (meaning plan.query.now) plan.most pieces
     → Holds (meaning plan.query.now) (setting_of plan hash) new pieces [] pending
 
-abbrev pub CanReadList : Plan → (List ℕ → ℕ) → PassState → Type 0
-CanReadList plan hash old =
+abbrev pub CanReadPartition : Plan → (List ℕ → ℕ) → PassState → Type 0
+CanReadPartition plan hash old =
     (records : List Record) × (pieces : List Piece) × (pending : List PendingPartition)
-    × HasPartitions old.last old.lists [] records pending
+    × HasPartitions old.last old.spill [] records pending
     × ArePieces (meaning plan.query.now) hash records pieces
     × CountUpTo (meaning plan.query.now) plan.most pieces
 
@@ -290,7 +297,7 @@ all_pieces inputs givens = []
 
 -- the groups of a pass and the records that it spilled
 abbrev pub total : List Entry → PartitionsState → ℕ
-total entries lists = length entries + spilled_number lists
+total entries spill = length entries + spilled_number spill
 
 -- a record makes one group at most, and none if WHERE passes over it
 abbrev pub brings : Query → Piece → ℕ
@@ -310,7 +317,7 @@ pub record Proceeds (old : List Entry) (before : PartitionsState) (new : List En
 abbrev pub Brings : Query → (List Piece → Type 0) → List Entry → PartitionsState → List Entry → PartitionsState → Type 0
 Brings query Are old before new after = (more : List Piece) → Are more → total new after ≤ total old before + brought_by query more
 
--- the pages that were written meanwhile are those that became full on the lists of the pass
+-- the pages that were written meanwhile are those that became full in the partitions of the pass
 abbrev pub WritesPages : ℕ → PartitionsState → ℕ → PartitionsState → Type 0
 WritesPages written before now after = now + written_pages before ≡ written + written_pages after
 

@@ -31,8 +31,8 @@ IsOneOf all (one ∷ others) = ((one ≡ all) × AreNone others) ⊎ ((one ≡ N
 abbrev pub each_at : Query → Row → List (List Piece) → List (Option (List Partial))
 each_at query key rests = map (λ rest. partials_at key (made_of query rest)) rests
 
--- what was read is in entries and on lists: each group that the pieces make up is an entry, or is what the records of its key
--- make up on one of the lists
+-- what was read is in entries and in partitions: each group that the pieces make up is an entry, or is what the records of its key
+-- make up in one of the partitions
 pub record Waits (query : Query) (hash : List ℕ → ℕ) (pieces : List Piece) (entries : List Entry) (pending : List PendingPartition) :
     Type 0 where
   pub entered : List Group
@@ -56,7 +56,7 @@ pub record IsLeft (query : Query) (setting : Setting) (list : PendingPartition) 
 abbrev pub AreLeft : Query → Setting → List PendingPartition → List cost.Pass → Type 0
 AreLeft query setting = OneByOne (IsLeft query setting)
 
--- the passes that were made, and those over the lists that are left, cost what is said of the pieces
+-- the passes that were made, and those over the partitions that are left, cost what is said of the pieces
 pub record Costs (query : Query) (setting : Setting) (pieces : List Piece) (made : Cost) (pending : List PendingPartition) : Type 0 where
   pub passes : List cost.Pass
   pub left : AreLeft query setting pending passes

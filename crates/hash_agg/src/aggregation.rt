@@ -62,7 +62,7 @@ pub fn aggregate<H: KeyHash + Copy, D: TapeDisk>(
     let mut work = Work::none();
     let plan = Plan::new(alloc, query, rows_of_all(inputs), means.limit())?;
     let mut buffers = Buffers::new(alloc);
-    let mut pass = Pass::new(alloc, plan, means.hash(), means.seed(), disk)?;
+    let mut pass = Pass::new(alloc, plan, means, disk)?;
     let first = first_pass(alloc, disk, &mut pass, inputs, &mut buffers, &mut work)?;
     let run = later_passes(alloc, disk, &mut pass, first, &mut buffers, &mut work)?;
     Ok((run, work))
@@ -122,8 +122,8 @@ fn later_passes<H: KeyHash + Drop, D: TapeDisk>(
 {
     let mut others = Vec::new(alloc);
     let mut bytes = Vec::new(alloc);
-    while pass.lists.begin_pass(disk) {
-        pass.add_list(alloc, disk, &mut bytes, buffers)?;
+    while pass.spill.begin_pass(disk) {
+        pass.add_partition(alloc, disk, &mut bytes, buffers)?;
         let more = pass.finish(alloc, disk, work)?;
         others.push(more)?;
     }

@@ -47,7 +47,7 @@ pub fn fold<H: KeyHash + Copy, D: TapeDisk>(
     ensures ran { Ran D.TapeDisk H.hash_of query.now means.now (IsCounted (map brought more.now)) (ended result) disk.old work.old
         disk.new work.new }
 {
-    let _schema = query.schema();
+    let _well_formed = query.schema();
     let (more, took) = aggregate(alloc, query, more, means, disk)?;
     run.merge_from(alloc, query, &more)?;
     work.add(took);

@@ -14,7 +14,7 @@ ghost use Rattle.spill_partitions.specs.declared.error.SpillError.TheVariants.{N
 ghost use Rattle.having_filter.specs.Kept.{IsWellFormed};
 ghost use Rattle.having_filter.specs.Meaning.{meaning};
 ghost use Rattle.group_runs.specs.Runs.{Rises, packed_keys};
-ghost use Rattle.hash_agg.specs.Passes.{AreOnce, entries_of, HasPlace, WritesAt, IsSameTable};
+ghost use Rattle.hash_agg.specs.Passes.{AreOnce, entries_of, FindsBy, HasPlace, WritesAt, IsSameTable};
 ghost use Rattle.group_runs.specs.Steps.{HaveRoomForRow, AreAdvanced, HaveRoomWithin, AreCombined};
 
 use crate::sorting::{abbreviated, sort_distinct};
@@ -52,6 +52,7 @@ impl<H: KeyHash + Drop> Model for Groups<H> {
 
 impl<H: KeyHash + Drop> Groups<H> {
     /// No groups, whose states will have `width` bytes each. Records are spilled by `hash`; the table's hash function has this seed.
+    #[tactic(auto, using(crate::proofs::TableLaws::finds_made))]
     pub(crate) fn new(
         alloc: Global,
         width: u32,
@@ -62,6 +63,7 @@ impl<H: KeyHash + Drop> Groups<H> {
         ensures empty { IfOk result (λ made. entries_of made ≡ []) }
         ensures width { IfOk result (λ made. made.table.width ≡ width) }
         ensures hash { IfOk result (λ made. made.hash ≡ hash) }
+        ensures seed { IfOk result (FindsBy seed) }
         ensures held { IfOk result (λ made. made.most_held ≡ 0) }
     {
         let mut tree = Tree::new(alloc);
@@ -215,6 +217,7 @@ impl<H: KeyHash + Drop> Groups<H> {
         ensures held { self.new.most_held ≡ 0 }
         ensures width { self.new.table.width ≡ self.old.table.width }
         ensures hash { self.new.hash ≡ self.old.hash }
+        ensures finds { self.new.table.hash ≡ self.old.table.hash }
     {
         self.table.clear(&mut self.tree);
         self.most_held = 0;

@@ -9,19 +9,20 @@ ghost use Rattle.grouping_model.specs.Grouping.{Group};
 ghost use Rattle.packed_rows.specs.View.{row_of};
 ghost use Rattle.group_runs.specs.Standing.{StandsFor, IsRun};
 ghost use Rattle.hash_agg.specs.Inputs.{brought, packings_in, AreInputs};
-ghost use Rattle.hash_agg.specs.Passes.{IsPlan};
-ghost use Rattle.hash_agg.specs.Added.{Packed_rows, Entries, On_tape, Added, AddedGenuine, AddedList, AddedOne, Adds};
-ghost use Rattle.hash_agg.specs.Added.{CountsPass, Finished, HasRoom, IsFirst, IsFresh, IsReady, IsSelected, RefusedList, enters, query_of};
+ghost use Rattle.hash_agg.specs.Passes.{FindsBy, IsPlan};
+ghost use Rattle.hash_agg.specs.Added.{Packed_rows, Entries, On_tape, Added, AddedGenuine, AddedPartition, AddedOne, Adds};
+ghost use Rattle.hash_agg.specs.Added.{CountsPass, Finished, HasRoom, IsFirst, IsFresh, IsReady, IsSelected, RefusedPartition, enters, query_of};
 ghost use Rattle.hash_agg.specs.Added.{source_of};
 
 use crate::groups::Groups;
 use crate::input::{Input, Packings};
+use crate::means::Means;
 use crate::plan::Plan;
 use crate::record::{GROUP, ROW, split_group, write_group};
 use crate::work::Work;
 use agg_protocol::BadState;
 use group_runs::Run;
-use group_table::{KeyHash, Seed};
+use group_table::KeyHash;
 use packed_rows::Value;
 use spill_partitions::{SpillError, SpillPartitions};
 use spill_tapes::TapeDisk;
@@ -51,31 +52,34 @@ impl Buffers {
 pub(crate) struct Pass<'q, H: KeyHash + Drop> {
     pub(crate) plan: Plan<'q>,
     pub(crate) groups: Groups<H>,
-    pub(crate) lists: SpillPartitions,
+    pub(crate) spill: SpillPartitions,
 }
 
-impl<'q, H: KeyHash + Drop> Pass<'q, H> {
-    /// The first pass, which has read nothing. Records are spilled by `hash`; the hash function of its table has this seed. The only
-    /// error is a failed allocation.
+impl<'q, H: KeyHash + Copy> Pass<'q, H> {
+    /// The first pass by some means, which has read nothing. Records are spilled by the hash function of the means, and the table's own
+    /// has their seed. The only error is a failed allocation.
+    #[tactic(auto, using(crate::proofs::TableLaws::finds_same))]
     pub(crate) fn new<D: TapeDisk>(
         alloc: Global,
         plan: Plan<'q>,
-        hash: H,
-        seed: Seed,
+        means: &Means<H>,
         disk: &D,
     ) -> Result<Pass<'q, H>, AllocError>
         requires plan { IsPlan plan }
         ensures first { IfOk result (λ pass. IsFirst D.TapeDisk pass disk.now) }
-        ensures by { IfOk result (λ pass. (pass.plan ≡ plan.entry) × (pass.groups.hash ≡ hash)) }
+        ensures by { IfOk result (λ pass. (pass.plan ≡ plan.entry) × (pass.groups.hash ≡ means.now.hash)) }
+        ensures seed { IfOk result (λ pass. FindsBy means.now.seed pass.groups) }
     {
-        let groups = Groups::new(alloc, plan.first.len() as u32, hash, seed)?;
+        let groups = Groups::new(alloc, plan.first.len() as u32, means.hash(), means.seed())?;
         Ok(Pass {
             plan,
             groups,
-            lists: SpillPartitions::new(alloc, disk),
+            spill: SpillPartitions::new(alloc, disk),
         })
     }
+}
 
+impl<'q, H: KeyHash + Drop> Pass<'q, H> {
     /// How many bytes of blocks the table holds at most while it inserts a group that isn't there, if it may.
     fn need_to_insert(&self, key: &[u8]) -> Option<u64>
         requires ready { IsReady self.now }
@@ -83,7 +87,7 @@ impl<'q, H: KeyHash + Drop> Pass<'q, H> {
         ensures room { IfSome result (HasRoom self.now key.now) }
         ensures exact { (hash : List ℕ → ℕ) → is_some result ≡ enters hash self.now key.now }
     {
-        if !self.lists.is_empty() {
+        if !self.spill.is_empty() {
             return None;
         }
         self.groups.need_within(key, self.plan.limit)
@@ -117,7 +121,7 @@ impl<'q, H: KeyHash + Drop> Pass<'q, H> {
             return Ok(());
         }
         let hash = self.groups.hash(key);
-        self.lists.spill(disk, hash, ROW, packed)
+        self.spill.spill(disk, hash, ROW, packed)
     }
 
     /// Reads a group. What `tape_record` holds doesn't matter.
@@ -147,7 +151,7 @@ impl<'q, H: KeyHash + Drop> Pass<'q, H> {
         }
         let hash = self.groups.hash(key);
         write_group(tape_record, key, states)?;
-        self.lists.spill(disk, hash, GROUP, tape_record)
+        self.spill.spill(disk, hash, GROUP, tape_record)
     }
 
     /// Reads a packed row, if WHERE is true of it. What `row` and `buffers` hold doesn't matter.
@@ -291,7 +295,7 @@ impl<'q, H: KeyHash + Drop> Pass<'q, H> {
     }
 
     /// Reads the records of the partition that the pass reads. What `bytes` and `buffers` hold doesn't matter.
-    pub(crate) fn add_list<D: TapeDisk>(
+    pub(crate) fn add_partition<D: TapeDisk>(
         &mut self,
         alloc: Global,
         disk: &mut D,
@@ -300,11 +304,11 @@ impl<'q, H: KeyHash + Drop> Pass<'q, H> {
     ) -> Result<(), SpillError>
         requires ready { IsReady self.old }
         requires fresh { IsFresh self.old }
-        ensures added { OnOk result (AddedList H.hash_of D.TapeDisk self.old disk.old self.new disk.new) }
-        ensures refused { IfErr result (λ error. RefusedList H.hash_of D.TapeDisk self.old disk.old error self.new) }
+        ensures added { OnOk result (AddedPartition H.hash_of D.TapeDisk self.old disk.old self.new disk.new) }
+        ensures refused { IfErr result (λ error. RefusedPartition H.hash_of D.TapeDisk self.old disk.old error self.new) }
         ensures disk { DiskFrame D.TapeDisk (failed spill_faults result) disk.old disk.new }
     {
-        while let Some((hash, tag)) = self.lists.next(disk, bytes)? {
+        while let Some((hash, tag)) = self.spill.next(disk, bytes)? {
             self.add_record(alloc, disk, hash, tag, bytes, buffers)?;
         }
         Ok(())
@@ -325,11 +329,11 @@ impl<'q, H: KeyHash + Drop> Pass<'q, H> {
         ensures disk { DiskFrame D.TapeDisk (failed spill_faults result) disk.old disk.new }
     {
         work.passes = work.passes.saturating_add(1);
-        work.spilled = work.spilled.saturating_add(self.lists.spilled(disk));
+        work.spilled = work.spilled.saturating_add(self.spill.spilled(disk));
         work.most_held = work.most_held.max(self.groups.most_held());
         let run = self.groups.sorted(alloc)?;
         self.groups.clear();
-        self.lists.end_pass(disk)?;
+        self.spill.end_pass(disk)?;
         Ok(run)
     }
 }

@@ -82,7 +82,7 @@ impl<'a> Plan<'a> {
         ensures most { IfOk result (λ plan. plan.most ≡ most) }
         ensures limit { IfOk result (λ plan. plan.limit ≡ limit) }
     {
-        let _schema = query.schema();
+        let _well_formed = query.schema();
         let first = initial_states(alloc, query)?;
         Ok(Plan {
             query,

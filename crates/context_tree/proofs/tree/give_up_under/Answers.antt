@@ -10,7 +10,8 @@ returns-then-not-is_under-clause-contexts c =
     let cs = c.args.contexts.now in let slot = c.args.slot in
     let under = is_under c.args.links.now c.args.above slot in
     let stays : under ≡ false = sym c.is_under.ensures ∙ c.if-not-is_under.true in
-    sym (ap (λ (a : Context). set cs slot a) (cond-false under no_context (get_or cs slot no_context) stays) ∙ set-get_or cs slot no_context)
+    sym (ap (λ (a : Context). set cs slot a) (cond-false under no_context (get_or cs slot no_context) stays)
+    ∙ set-get_or cs slot no_context)
 
 pub returns-clause-contexts : goal.returns-clause-contexts
 returns-clause-contexts c =

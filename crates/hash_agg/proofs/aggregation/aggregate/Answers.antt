@@ -99,7 +99,7 @@ returns g c =
     ∙ c.rows_of_all.ensures in
     let limited : pass.plan.limit ≡ c.args.means.now.limit = ap (λ (plan : Plan). plan.limit) by.0 ∙ c.in_ok-plan.ensures.limit
     ∙ c.limit.ensures.limit in
-    let hashed = by.1 ∙ c.hash.ensures in
+    let hashed = by.1 in
     let first = c.in_ok-first.ensures.made in
     let given : AreInputs (meaning c.args.query.now) most_rows inputs = record { are = c.requires.inputs; few = c.requires.few } in
     let made : MadeAll g.H.KeyHash.hash_of g.D.TapeDisk inputs pass c.args.disk.now no_work c.in_ok-run.run' c.later_passes.new.disk

@@ -28,9 +28,9 @@ loop-input-init g c =
     let first = c.requires.first in
     record {
       reads = λ givens give. first_holds q (setting_in g.H.KeyHash.hash_of c.args.pass.now)
-          (standing c.args.pass.now.groups c.args.pass.now.lists (g.D.TapeDisk.last c.args.disk.now)) first.over.fresh.empty
+          (standing c.args.pass.now.groups c.args.pass.now.spill (g.D.TapeDisk.last c.args.disk.now)) first.over.fresh.empty
           first.over.fresh.partitions first.none;
-      brings = λ givens give. first_total (entries_of c.args.pass.now.groups) c.args.pass.now.lists first.over.fresh.empty
+      brings = λ givens give. first_total (entries_of c.args.pass.now.groups) c.args.pass.now.spill first.over.fresh.empty
           first.over.fresh.partitions;
       safe = subst (AreSafe q c.args.pass.now.plan.most) (sym first.over.fresh.empty) (none_safe q c.args.pass.now.plan.most);
       pages = refl;
@@ -77,7 +77,7 @@ returns-in_err-add_input g c =
           (refusal.undamaged
           (can_read_input c.args.pass.now.plan (g.H.KeyHash.hash_of c.args.pass.now.groups.hash) inputs given.0 c.loop-input.input-index
           input here c.requires.inputs.are given.1 c.requires.inputs.few
-          (standing c.loop-input.pass.groups c.loop-input.pass.lists (g.D.TapeDisk.last c.loop-input.disk)) [] []
+          (standing c.loop-input.pass.groups c.loop-input.pass.spill (g.D.TapeDisk.last c.loop-input.disk)) [] []
           (so_far.reads given.0 given.1)));
       disk =
           left_out g.D.TapeDisk c.from_residual-in_err-add_input.result c.in_err-add_input.field-0.0 c.args.disk.now c.add_input.new.disk
@@ -94,8 +94,8 @@ loop-input-preserved g c =
     let i : ℕ = c.loop-input.input-index in
     let input : Brought = brought c.input-item.result in
     let here = brought_at c.args.inputs.now i c.input-item.result c.loop-input-test.true c.input-item.is in
-    let now : PassState = standing c.loop-input.pass.groups c.loop-input.pass.lists (g.D.TapeDisk.last c.loop-input.disk) in
-    let next : PassState = standing c.add_input.new.self.groups c.add_input.new.self.lists (g.D.TapeDisk.last c.add_input.new.disk) in
+    let now : PassState = standing c.loop-input.pass.groups c.loop-input.pass.spill (g.D.TapeDisk.last c.loop-input.disk) in
+    let next : PassState = standing c.add_input.new.self.groups c.add_input.new.self.spill (g.D.TapeDisk.last c.add_input.new.disk) in
     let so_far = c.loop-input.invariant in
     let add = added_first g.H.KeyHash.hash_of g.D.TapeDisk (source_of input) c.args.pass.now c.loop-input.pass c.loop-input.disk
     c.add_input.new.self so_far.kept.plan so_far.kept.table.hash c.add_input.new.disk c.in_ok-add_input.ensures.added in
@@ -103,7 +103,7 @@ loop-input-preserved g c =
       reads = λ givens give.
           input_read c.args.pass.now.plan hf inputs givens i input here c.requires.inputs.are give c.requires.inputs.few now [] []
           (so_far.reads givens give) next add.reads;
-      brings = λ givens give. input_brings q hf inputs givens i input now.entries next.entries now.lists next.lists here give add.brings
+      brings = λ givens give. input_brings q hf inputs givens i input now.entries next.entries now.spill next.spill here give add.brings
           (so_far.brings givens give);
       safe = add.safe so_far.safe;
       pages = let before = so_far.pages in let more = add.pages in omega (arith, before, more);
@@ -119,7 +119,7 @@ returns g c =
     let i : ℕ = c.loop-input.input-index in
     let past = c.loop-input-test.false in
     let long : length inputs ≡ length c.args.inputs.now = length-map c.args.inputs.now brought in
-    let now : PassState = standing c.loop-input.pass.groups c.loop-input.pass.lists (g.D.TapeDisk.last c.loop-input.disk) in
+    let now : PassState = standing c.loop-input.pass.groups c.loop-input.pass.spill (g.D.TapeDisk.last c.loop-input.disk) in
     let set : Setting = setting_in g.H.KeyHash.hash_of c.args.pass.now in
     let so_far = c.loop-input.invariant in
     let first = c.requires.first in
@@ -139,11 +139,11 @@ returns g c =
                 ≡ all_pieces inputs givens = λ j. all_pieces (take_all i inputs (omega (arith, past, long)) j)
                 (take_all i givens (omega (arith, past, long, many)) j) in
                 let pages = so_far.pages in
-                let none : written_pages c.args.pass.now.lists ≡ 0 = ap (full_pages c.args.pass.now.lists.tapes) first.over.fresh.partitions
+                let none : written_pages c.args.pass.now.spill ≡ 0 = ap (full_pages c.args.pass.now.spill.tapes) first.over.fresh.partitions
                 in
-                first_waits q set (all_pieces inputs givens) now run c.finish.new.self.lists (g.D.TapeDisk.last c.finish.new.disk)
+                first_waits q set (all_pieces inputs givens) now run c.finish.new.self.spill (g.D.TapeDisk.last c.finish.new.disk)
                 c.args.work.now c.finish.new.work (g.D.TapeDisk.writes c.args.disk.now) (g.D.TapeDisk.writes c.loop-input.disk)
-                (g.D.TapeDisk.writes c.finish.new.disk) end.moved end.rises (so_far.kept.lists.level ∙ first.level)
+                (g.D.TapeDisk.writes c.finish.new.disk) end.moved end.rises (so_far.kept.spill.level ∙ first.level)
                 (all_fit q set inputs givens first.over.ready.plan.formed first.over.ready.plan.limit first.over.ready.plan.narrow give)
                 (omega (arith, pages, none)) end.left end.paged
                 (λ spilled ahead pending pages has.
@@ -156,15 +156,15 @@ returns g c =
                 let all_of : all_pieces (take i inputs) (take i givens)
                 ≡ all_pieces inputs givens = λ j. all_pieces (take_all i inputs (omega (arith, past, long)) j)
                 (take_all i givens (omega (arith, past, long, many)) j) in
-                first_few (entries_of c.loop-input.pass.groups) run c.loop-input.pass.lists c.finish.new.self.lists
-                (brought_by q (all_pieces inputs givens)) end.moved end.waiting (so_far.kept.lists.pending ∙ first.pending)
-                (subst (λ pieces. total (entries_of c.loop-input.pass.groups) c.loop-input.pass.lists ≤ brought_by q pieces) all_of
+                first_few (entries_of c.loop-input.pass.groups) run c.loop-input.pass.spill c.finish.new.self.spill
+                (brought_by q (all_pieces inputs givens)) end.moved end.waiting (so_far.kept.spill.pending ∙ first.pending)
+                (subst (λ pieces. total (entries_of c.loop-input.pass.groups) c.loop-input.pass.spill ≤ brought_by q pieces) all_of
                 (so_far.brings givens give));
             safe = record {
               safe = safe_moved q c.args.pass.now.plan.most (entries_of c.loop-input.pass.groups) run so_far.safe end.moved;
               rises = end.rises;
             };
-            over = record { ready = end.ready; fresh = end.fresh; reading = end.reading ∙ so_far.kept.lists.reading ∙ first.over.reading };
+            over = record { ready = end.ready; fresh = end.fresh; reading = end.reading ∙ so_far.kept.spill.reading ∙ first.over.reading };
             within =
                 record {
                   counted = counts.counted;
@@ -173,6 +173,7 @@ returns g c =
                 };
             plan = end.plan ∙ so_far.kept.plan;
             hash = end.hash ∙ so_far.kept.table.hash;
+            finds = end.finds ∙ so_far.kept.table.finds;
           })
           c.finish.ensures.finished;
       undamaged = c.finish.ensures.undamaged;

@@ -8,13 +8,13 @@ invariant-loop-input g l =
     record {
       reads : (givens : List Given) → AllGive (query_of l.fn.pass) (map brought l.inputs) givens
           → Holds (query_of l.fn.pass) (setting_in g.H.KeyHash.hash_of l.fn.pass)
-          (standing l.pass.groups l.pass.lists (g.D.TapeDisk.last l.disk)) (all_pieces (take l.input-index (map brought l.inputs))
+          (standing l.pass.groups l.pass.spill (g.D.TapeDisk.last l.disk)) (all_pieces (take l.input-index (map brought l.inputs))
           (take l.input-index givens)) [] [];
       brings : (givens : List Given) → AllGive (query_of l.fn.pass) (map brought l.inputs) givens
-          → total (entries_of l.pass.groups) l.pass.lists ≤ brought_by (query_of l.fn.pass)
+          → total (entries_of l.pass.groups) l.pass.spill ≤ brought_by (query_of l.fn.pass)
           (all_pieces (take l.input-index (map brought l.inputs)) (take l.input-index givens));
       safe : AreSafe (query_of l.fn.pass) l.fn.pass.plan.most (entries_of l.pass.groups);
-      pages : WritesPages (g.D.TapeDisk.writes l.fn.disk) l.fn.pass.lists (g.D.TapeDisk.writes l.disk) l.pass.lists;
+      pages : WritesPages (g.D.TapeDisk.writes l.fn.disk) l.fn.pass.spill (g.D.TapeDisk.writes l.disk) l.pass.spill;
       ready : IsReady l.pass;
       kept : KeepsPass l.fn.pass l.pass;
       disk : DiskFrame g.D.TapeDisk 0 l.fn.disk l.disk;

@@ -7,7 +7,7 @@ use Rattle.std.proofs.lemmas.List.Sorted.{length_permutation}
 use Rattle.std.proofs.lemmas.Result.{IfErr-weaker}
 use Rattle.tape_disks.specs.DiskLaws.{leaves_none, leaves_twice}
 use Rattle.hash_agg.proofs.Words.{spill_faults, count_of, waiting_number, full_pages, written_pages, NoMemory, Setting, Query, Entry, Rises}
-use Rattle.hash_agg.proofs.Words.{concatenated, IsDone, query_of, setting_in, meaning, AreOnce, AreSafe, PassState, ReadsList, CanReadList}
+use Rattle.hash_agg.proofs.Words.{concatenated, IsDone, query_of, setting_in, meaning, AreOnce, AreSafe, PassState, ReadsPartition, CanReadPartition}
 use Rattle.hash_agg.proofs.Words.{entries_of, standing, AddsUp, pass_cost, Plan}
 use Rattle.hash_agg.proofs.DiskLaws.{left_out, still}
 use Rattle.hash_agg.proofs.KeyLaws.{if_ok_both}
@@ -21,14 +21,14 @@ use Rattle.hash_agg.proofs.aggregation.later_passes.Goals as goal
 
 -- of the records of one list those were read that could be, by the plan and the hash function that all passes have
 can_by : {H : Type 0} (hash_of : H → List ℕ → ℕ) (plan other : Plan) (hash last : H) (pass : PassState) → other ≡ plan → last ≡ hash
-    → CanReadList plan (hash_of hash) pass → CanReadList other (hash_of last) pass
-can_by hash_of plan other hash last pass same hashed can = subst (λ hash. CanReadList other (hash_of hash) pass) (sym hashed)
-    (subst (λ plan. CanReadList plan (hash_of hash) pass) (sym same) can)
+    → CanReadPartition plan (hash_of hash) pass → CanReadPartition other (hash_of last) pass
+can_by hash_of plan other hash last pass same hashed can = subst (λ hash. CanReadPartition other (hash_of hash) pass) (sym hashed)
+    (subst (λ plan. CanReadPartition plan (hash_of hash) pass) (sym same) can)
 
 reads_by : {H : Type 0} (hash_of : H → List ℕ → ℕ) (plan other : Plan) (hash last : H) (pass next : PassState) → other ≡ plan → last ≡ hash
-    → ReadsList other (hash_of last) pass next → ReadsList plan (hash_of hash) pass next
-reads_by hash_of plan other hash last pass next same hashed reads = subst (λ hash. ReadsList plan (hash_of hash) pass next) hashed
-    (subst (λ plan. ReadsList plan (hash_of last) pass next) same reads)
+    → ReadsPartition other (hash_of last) pass next → ReadsPartition plan (hash_of hash) pass next
+reads_by hash_of plan other hash last pass next same hashed reads = subst (λ hash. ReadsPartition plan (hash_of hash) pass next) hashed
+    (subst (λ plan. ReadsPartition plan (hash_of last) pass next) same reads)
 
 pub loop-pass-init : goal.loop-pass-init
 loop-pass-init g c =
@@ -44,33 +44,33 @@ loop-pass-init g c =
       safe = subst (AreSafe q c.args.pass.now.plan.most) (sym one) c.requires.run.safe;
       few = omega (arith, long);
       waits = λ honest pieces start writes underway count.
-          subst (λ es. IsWaiting q (setting_in g.H.KeyHash.hash_of c.args.pass.now) pieces es c.args.pass.now.lists
+          subst (λ es. IsWaiting q (setting_in g.H.KeyHash.hash_of c.args.pass.now) pieces es c.args.pass.now.spill
           (g.D.TapeDisk.last c.args.disk.now) start c.args.work.now writes (g.D.TapeDisk.writes c.args.disk.now)) (sym one)
           (record { underway = underway; once = rises_once c.args.run c.requires.run.rises });
       disk = leaves_none g.D.TapeDisk c.args.disk.now;
     }
 
-pub returns-in_err-add_list : goal.returns-in_err-add_list
-returns-in_err-add_list g c =
+pub returns-in_err-add_partition : goal.returns-in_err-add_partition
+returns-in_err-add_partition g c =
     let i = c.loop-pass.invariant in
     record {
       made = no_if_ok c.from_residual.result _ c.from_residual.ensures.0;
       undamaged =
-          err_out c.from_residual.result c.in_err-add_list.field-0.0 _ c.from_residual.ensures.1
+          err_out c.from_residual.result c.in_err-add_partition.field-0.0 _ c.from_residual.ensures.1
           (λ honest pieces start writes underway count.
-          c.in_err-add_list.ensures.refused.undamaged (subst IsTrue (sym i.disk.honesty) honest)
+          c.in_err-add_partition.ensures.refused.undamaged (subst IsTrue (sym i.disk.honesty) honest)
           (can_by g.H.KeyHash.hash_of c.args.pass.now.plan c.loop-pass.pass.plan c.args.pass.now.groups.hash c.loop-pass.pass.groups.hash
           (standing c.loop-pass.pass.groups c.begin_pass.new.self (g.D.TapeDisk.last c.loop-pass.disk)) i.plan i.hash
           (pass_can c.args.pass.now.plan (g.H.KeyHash.hash_of c.args.pass.now.groups.hash) pieces
-          (concatenated (c.args.run ∷ c.loop-pass.others.items)) (entries_of c.loop-pass.pass.groups) c.loop-pass.pass.lists
+          (concatenated (c.args.run ∷ c.loop-pass.others.items)) (entries_of c.loop-pass.pass.groups) c.loop-pass.pass.spill
           c.begin_pass.new.self (g.D.TapeDisk.last c.loop-pass.disk) start c.loop-pass.work writes
           (g.D.TapeDisk.writes c.loop-pass.disk)
           (i.waits honest pieces start writes underway count) count (c.begin_pass.ensures.begins c.loop-pass-test.true))));
       disk =
-          left_out g.D.TapeDisk c.from_residual.result c.in_err-add_list.field-0.0 c.args.disk.now c.add_list.new.disk
+          left_out g.D.TapeDisk c.from_residual.result c.in_err-add_partition.field-0.0 c.args.disk.now c.add_partition.new.disk
           c.from_residual.ensures.1
-          (leaves_twice g.D.TapeDisk (spill_faults c.in_err-add_list.field-0.0) c.args.disk.now c.loop-pass.disk c.add_list.new.disk i.disk
-          c.in_err-add_list.ensures.disk);
+          (leaves_twice g.D.TapeDisk (spill_faults c.in_err-add_partition.field-0.0) c.args.disk.now c.loop-pass.disk c.add_partition.new.disk i.disk
+          c.in_err-add_partition.ensures.disk);
     }
 
 pub returns-in_err-more : goal.returns-in_err-more
@@ -82,9 +82,9 @@ returns-in_err-more g c =
       disk =
           left_out g.D.TapeDisk c.from_residual-in_err-more.result c.in_err-more.field-0.0 c.args.disk.now c.finish.new.disk
           c.from_residual-in_err-more.ensures.1
-          (leaves_twice g.D.TapeDisk (spill_faults c.in_err-more.field-0.0) c.args.disk.now c.add_list.new.disk c.finish.new.disk
-          (leaves_twice g.D.TapeDisk 0 c.args.disk.now c.loop-pass.disk c.add_list.new.disk c.loop-pass.invariant.disk
-          c.in_ok-add_list.ensures.disk) c.in_err-more.ensures.disk);
+          (leaves_twice g.D.TapeDisk (spill_faults c.in_err-more.field-0.0) c.args.disk.now c.add_partition.new.disk c.finish.new.disk
+          (leaves_twice g.D.TapeDisk 0 c.args.disk.now c.loop-pass.disk c.add_partition.new.disk c.loop-pass.invariant.disk
+          c.in_ok-add_partition.ensures.disk) c.in_err-more.ensures.disk);
     }
 
 pub returns-in_err-push : goal.returns-in_err-push
@@ -96,9 +96,9 @@ returns-in_err-push g c =
       disk =
           left_out g.D.TapeDisk c.from_residual-in_err-push.result NoMemory c.args.disk.now c.finish.new.disk
           c.from_residual-in_err-push.ensures.1
-          (leaves_twice g.D.TapeDisk 0 c.args.disk.now c.add_list.new.disk c.finish.new.disk
-          (leaves_twice g.D.TapeDisk 0 c.args.disk.now c.loop-pass.disk c.add_list.new.disk c.loop-pass.invariant.disk
-          c.in_ok-add_list.ensures.disk) c.in_ok-more.ensures.disk);
+          (leaves_twice g.D.TapeDisk 0 c.args.disk.now c.add_partition.new.disk c.finish.new.disk
+          (leaves_twice g.D.TapeDisk 0 c.args.disk.now c.loop-pass.disk c.add_partition.new.disk c.loop-pass.invariant.disk
+          c.in_ok-add_partition.ensures.disk) c.in_ok-more.ensures.disk);
     }
 
 pub loop-pass-preserved : goal.loop-pass-preserved
@@ -107,20 +107,20 @@ loop-pass-preserved g c =
     let i = c.loop-pass.invariant in
     let end = c.in_ok-more.ensures.finished in
     let counts = c.in_ok-more.ensures.counted in
-    let add = c.in_ok-add_list.ensures.added in
+    let add = c.in_ok-add_partition.ensures.added in
     let run : List Entry = c.in_ok-more.more in
     let more : concatenated (c.args.run ∷ c.push.new.self.items) ≡ concatenated (c.args.run ∷ c.loop-pass.others.items)
     ++ run = ap (λ rs. concatenated (c.args.run ∷ rs)) c.in_ok-push.ensures.items
     ∙ one_run_more (c.args.run ∷ c.loop-pass.others.items) run in
     let both = ap length more ∙ length-append (concatenated (c.args.run ∷ c.loop-pass.others.items)) run in
-    let many = length_permutation (entries_of c.add_list.new.self.groups) run end.moved in
+    let many = length_permutation (entries_of c.add_partition.new.self.groups) run end.moved in
     let made = add.few in
     let left = end.waiting in
-    let same : waiting_number c.add_list.new.self.lists ≡ waiting_number c.begin_pass.new.self = ap count_of add.kept.pending in
+    let same : waiting_number c.add_partition.new.self.spill ≡ waiting_number c.begin_pass.new.self = ap count_of add.kept.pending in
     let counted = c.begin_pass.ensures.counted in
     let before = i.few in
-    let safe : AreSafe q c.args.pass.now.plan.most (entries_of c.add_list.new.self.groups) =
-    subst (λ (plan : Plan). AreSafe (meaning plan.query.now) plan.most (entries_of c.add_list.new.self.groups)) i.plan add.safe in
+    let safe : AreSafe q c.args.pass.now.plan.most (entries_of c.add_partition.new.self.groups) =
+    subst (λ (plan : Plan). AreSafe (meaning plan.query.now) plan.most (entries_of c.add_partition.new.self.groups)) i.plan add.safe in
     record {
       over = record { ready = end.ready; fresh = end.fresh; reading = end.reading ∙ add.reading };
       plan = end.plan ∙ add.kept.plan ∙ i.plan;
@@ -129,39 +129,39 @@ loop-pass-preserved g c =
           record {
             counted = counts.counted;
             held = λ within. held_by_both c.args.pass.now.plan.limit _ _ _ counts.held (i.within.held within)
-                (subst (λ (plan : Plan). c.add_list.new.self.groups.most_held ≤ plan.limit) (add.kept.plan ∙ i.plan) add.ready.held);
+                (subst (λ (plan : Plan). c.add_partition.new.self.groups.most_held ≤ plan.limit) (add.kept.plan ∙ i.plan) add.ready.held);
           };
       safe = subst (AreSafe q c.args.pass.now.plan.most) (sym more)
           (safe_append q c.args.pass.now.plan.most (concatenated (c.args.run ∷ c.loop-pass.others.items)) run i.safe
-          (safe_moved q c.args.pass.now.plan.most (entries_of c.add_list.new.self.groups) run safe end.moved));
+          (safe_moved q c.args.pass.now.plan.most (entries_of c.add_partition.new.self.groups) run safe end.moved));
       few = omega (arith, both, many, made, left, same, counted, before);
       waits = λ honest pieces start writes underway count.
           let read_pages = add.pages in
           let none : written_pages c.begin_pass.new.self ≡ 0 = ap (full_pages c.begin_pass.new.self.tapes) c.begin_pass.ensures.partitions
           in
           subst (λ es. IsWaiting q (setting_in g.H.KeyHash.hash_of c.args.pass.now) pieces es
-          c.finish.new.self.lists (g.D.TapeDisk.last c.finish.new.disk) start c.finish.new.work writes
+          c.finish.new.self.spill (g.D.TapeDisk.last c.finish.new.disk) start c.finish.new.work writes
           (g.D.TapeDisk.writes c.finish.new.disk)) (sym more)
           (pass_made c.args.pass.now.plan (g.H.KeyHash.hash_of c.args.pass.now.groups.hash) pieces
-          (concatenated (c.args.run ∷ c.loop-pass.others.items)) (entries_of c.loop-pass.pass.groups) c.loop-pass.pass.lists
+          (concatenated (c.args.run ∷ c.loop-pass.others.items)) (entries_of c.loop-pass.pass.groups) c.loop-pass.pass.spill
           c.begin_pass.new.self (g.D.TapeDisk.last c.loop-pass.disk) start c.loop-pass.work writes
           (g.D.TapeDisk.writes c.loop-pass.disk)
           (i.waits honest pieces start writes underway count) count (c.begin_pass.ensures.begins c.loop-pass-test.true)
-          c.add_list.new.self.lists c.finish.new.self.lists (g.D.TapeDisk.last c.add_list.new.disk) (g.D.TapeDisk.last c.finish.new.disk)
-          (entries_of c.add_list.new.self.groups) run c.finish.new.work (g.D.TapeDisk.writes c.add_list.new.disk)
+          c.add_partition.new.self.spill c.finish.new.self.spill (g.D.TapeDisk.last c.add_partition.new.disk) (g.D.TapeDisk.last c.finish.new.disk)
+          (entries_of c.add_partition.new.self.groups) run c.finish.new.work (g.D.TapeDisk.writes c.add_partition.new.disk)
           (g.D.TapeDisk.writes c.finish.new.disk) c.requires.over.ready.plan.formed add.kept.level
           (reads_by g.H.KeyHash.hash_of c.args.pass.now.plan c.loop-pass.pass.plan c.args.pass.now.groups.hash c.loop-pass.pass.groups.hash
           (standing c.loop-pass.pass.groups c.begin_pass.new.self (g.D.TapeDisk.last c.loop-pass.disk))
-          (standing c.add_list.new.self.groups c.add_list.new.self.lists (g.D.TapeDisk.last c.add_list.new.disk)) i.plan i.hash
+          (standing c.add_partition.new.self.groups c.add_partition.new.self.spill (g.D.TapeDisk.last c.add_partition.new.disk)) i.plan i.hash
           (add.reads (subst IsTrue (sym i.disk.honesty) honest)))
           end.moved end.rises end.left
           (λ spilled ahead pending pages has.
-          subst (λ width. AddsUp c.loop-pass.work (pass_cost width (entries_of c.add_list.new.self.groups) (length spilled) pages)
+          subst (λ width. AddsUp c.loop-pass.work (pass_cost width (entries_of c.add_partition.new.self.groups) (length spilled) pages)
           c.finish.new.work) (add.ready.width ∙ ap (λ (plan : Plan). length plan.first.items) (add.kept.plan ∙ i.plan))
           (counts.adds spilled ahead pending pages has))
           (omega (arith, read_pages, none)) end.paged);
-      disk = leaves_twice g.D.TapeDisk 0 c.args.disk.now c.add_list.new.disk c.finish.new.disk
-          (leaves_twice g.D.TapeDisk 0 c.args.disk.now c.loop-pass.disk c.add_list.new.disk i.disk c.in_ok-add_list.ensures.disk)
+      disk = leaves_twice g.D.TapeDisk 0 c.args.disk.now c.add_partition.new.disk c.finish.new.disk
+          (leaves_twice g.D.TapeDisk 0 c.args.disk.now c.loop-pass.disk c.add_partition.new.disk i.disk c.in_ok-add_partition.ensures.disk)
           c.in_ok-more.ensures.disk;
     }
 
@@ -182,7 +182,7 @@ returns g c =
             whole =
                 λ honest pieces start writes underway count.
                 let w = i.waits honest pieces start writes underway count in
-                let e = waiting_ends q set pieces joined c.loop-pass.pass.lists (g.D.TapeDisk.last c.loop-pass.disk) start c.loop-pass.work
+                let e = waiting_ends q set pieces joined c.loop-pass.pass.spill (g.D.TapeDisk.last c.loop-pass.disk) start c.loop-pass.work
                 writes (g.D.TapeDisk.writes c.loop-pass.disk) (c.begin_pass.ensures.none c.loop-pass-test.false) w.underway in
                 record { stands = moved_stands q hf pieces joined all [] perm w.once e.stands; adds = e.adds; paged = e.paged };
             few = let many = length_permutation joined all perm in let few = i.few in omega (arith, many, few);
@@ -217,7 +217,7 @@ returns-then-is_empty g c =
                 λ honest pieces start writes underway count.
                 subst (λ all. IsDone q set pieces all start c.loop-pass.work writes (g.D.TapeDisk.writes c.loop-pass.disk))
                 (alone c.args.run c.loop-pass.others.items none)
-                (waiting_ends q set pieces (concatenated (c.args.run ∷ c.loop-pass.others.items)) c.loop-pass.pass.lists
+                (waiting_ends q set pieces (concatenated (c.args.run ∷ c.loop-pass.others.items)) c.loop-pass.pass.spill
                 (g.D.TapeDisk.last c.loop-pass.disk) start c.loop-pass.work writes (g.D.TapeDisk.writes c.loop-pass.disk)
                 (c.begin_pass.ensures.none c.loop-pass-test.false)
                 (i.waits honest pieces start writes underway count).underway);

@@ -33,7 +33,7 @@ returns-clause-folded g c =
     record {
       aggregate = λ honest.
           folded (meaning c.args.query.now) c.args.rows c.args.run.now c.in_ok-more.more c.merge_from.new.self (map brought c.args.more.now)
-          (omega (arith, few)) run (more.aggregate honest) c.in_ok-merge_from.ensures.added c.schema-schema.ensures.query.well_formed.keys;
+          (omega (arith, few)) run (more.aggregate honest) c.in_ok-merge_from.ensures.added c.schema-well_formed.ensures.query.well_formed.keys;
       run_over = folded_over (meaning c.args.query.now) c.args.rows c.args.run.now c.in_ok-more.more c.merge_from.new.self
           (map brought c.args.more.now) (omega (arith, few)) run more.run_over c.in_ok-merge_from.ensures.added;
     }

@@ -11,7 +11,7 @@ returns-clause-written g c =
     written_over c.advance_slice.result _ c.args.self.now c.args.slot _ c.self.view_is c.state_mut-states.ensures.state
     (with_bytes_in c.self.inside.tree c.self.inside.table.states c.args.slot.state c.advance_slice.new.states) c.advance_slice.new.states
     (λ old new. AreAdvanced (meaning c.args.query.now).aggregates c.args.most old (row_of c.args.row.now) new)
-    (λ place at. c.state_mut-states.ensures.written _ place wide at) c.advance_slice.ensures.advanced
+    (λ place at. (c.state_mut-states.ensures.written c.advance_slice.new.states).written wide place at) c.advance_slice.ensures.advanced
 
 pub returns-clause-refused : goal.returns-clause-refused
 returns-clause-refused g c =
@@ -22,5 +22,5 @@ pub invariant_of-self : goal.invariant_of-self
 invariant_of-self g c =
     let wide : length c.advance_slice.new.states ≡ c.self.inside.table.width = search rules in
     still_held _ c.args.self.now c.args.slot _ c.advance_slice.new.states c.self.view_is c.self.invariant c.requires.slot
-    (c.state_mut-states.ensures.stands _ wide) (c.state_mut-states.ensures.holds _ wide)
-    (λ place at. c.state_mut-states.ensures.written _ place wide at)
+    ((c.state_mut-states.ensures.written c.advance_slice.new.states).stands wide) ((c.state_mut-states.ensures.written c.advance_slice.new.states).holds wide)
+    (λ place at. (c.state_mut-states.ensures.written c.advance_slice.new.states).written wide place at)

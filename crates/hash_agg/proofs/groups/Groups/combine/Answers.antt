@@ -11,7 +11,7 @@ returns-clause-written g c =
     written_over c.combine_within.result _ c.args.self.now c.args.slot _ c.self.view_is c.state_mut-states.ensures.state
     (with_bytes_in c.self.inside.tree c.self.inside.table.states c.args.slot.state c.combine_within.new.states) c.combine_within.new.states
     (λ old new. AreCombined (functions (meaning c.args.query.now)) c.args.most old c.args.more.now new)
-    (λ place at. c.state_mut-states.ensures.written _ place wide at) c.combine_within.ensures.combined
+    (λ place at. (c.state_mut-states.ensures.written c.combine_within.new.states).written wide place at) c.combine_within.ensures.combined
 
 pub returns-clause-refused : goal.returns-clause-refused
 returns-clause-refused g c =
@@ -22,5 +22,5 @@ pub invariant_of-self : goal.invariant_of-self
 invariant_of-self g c =
     let wide : length c.combine_within.new.states ≡ c.self.inside.table.width = search rules in
     still_held _ c.args.self.now c.args.slot _ c.combine_within.new.states c.self.view_is c.self.invariant c.requires.slot
-    (c.state_mut-states.ensures.stands _ wide) (c.state_mut-states.ensures.holds _ wide)
-    (λ place at. c.state_mut-states.ensures.written _ place wide at)
+    ((c.state_mut-states.ensures.written c.combine_within.new.states).stands wide) ((c.state_mut-states.ensures.written c.combine_within.new.states).holds wide)
+    (λ place at. (c.state_mut-states.ensures.written c.combine_within.new.states).written wide place at)

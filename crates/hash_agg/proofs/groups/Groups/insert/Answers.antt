@@ -25,5 +25,5 @@ invariant_of-self-in-Err g c =
       in_tree = c.clear.ensures.table;
       by_keys = c.clear.ensures.holds (held_alone c.self.inside.table c.insert.new.self c.self.inside.tree c.insert.new.tree
           c.insert.ensures.same c.self.invariant.by_keys.alone c.insert.ensures.rest);
-      most = none_needed c.clear.new.self c.clear.new.tree c.clear.ensures.empty.0;
+      most = none_needed c.clear.new.self c.clear.new.tree c.clear.ensures.slots;
     }

@@ -101,7 +101,7 @@ returns g c =
             kept = record {
               plan = refl;
               table = same_table _ _;
-              lists =
+              spill =
                   c.spill.ensures.rest;
             };
           }) c.spill.ensures.undamaged;
@@ -117,7 +117,7 @@ returns-in_err-insert g c =
         plan = refl;
         table = c.insert.ensures.table c.args.self.now.plan.limit
             c.in-Some-need_to_insert.ensures.room.within;
-        lists = same_rest _;
+        spill = same_rest _;
       };
     })
     (λ same. cc)

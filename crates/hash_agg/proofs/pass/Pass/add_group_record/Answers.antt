@@ -11,7 +11,7 @@ returns-in_default g c =
     damaged_here
     (λ can.
     let one = can_group_record c.args.self.now.plan (g.H.KeyHash.hash_of c.args.self.now.groups.hash) c.args.hash c.args.bytes.now
-    (standing c.args.self.now.groups c.args.self.now.lists (g.D.TapeDisk.last c.args.disk.now)) can in
+    (standing c.args.self.now.groups c.args.self.now.spill (g.D.TapeDisk.last c.args.disk.now)) can in
     c.in_default.ensures (packing one.0.0) one.2.states (key_short (query_of c.args.self.now) (packing one.0.0) one.0.0
     c.requires.ready.plan.formed refl one.2.stands.of_kinds) one.2.bytes)
     (same_pass c.args.self.now)
@@ -22,7 +22,7 @@ returns-in_err-check_group g c =
     (λ can.
     let is = split_right c.args.self.now.plan (g.H.KeyHash.hash_of c.args.self.now.groups.hash) c.args.hash c.args.bytes.now
     c.in-Some.key.now c.in-Some.states.now
-    (standing c.args.self.now.groups c.args.self.now.lists (g.D.TapeDisk.last c.args.disk.now)) c.requires.ready.plan.formed
+    (standing c.args.self.now.groups c.args.self.now.spill (g.D.TapeDisk.last c.args.disk.now)) c.requires.ready.plan.formed
     c.in-Some.ensures.0 c.in-Some.ensures.1 can in
     c.in_err-check_group.ensures.undamaged is.1 is.0 is.4 is.2)
     c.in_err-check_group.ensures.faultless
@@ -33,7 +33,7 @@ returns-then-hash g c =
     (λ can.
     let is = split_right c.args.self.now.plan (g.H.KeyHash.hash_of c.args.self.now.groups.hash) c.args.hash c.args.bytes.now
     c.in-Some.key.now c.in-Some.states.now
-    (standing c.args.self.now.groups c.args.self.now.lists (g.D.TapeDisk.last c.args.disk.now)) c.requires.ready.plan.formed
+    (standing c.args.self.now.groups c.args.self.now.spill (g.D.TapeDisk.last c.args.disk.now)) c.requires.ready.plan.formed
     c.in-Some.ensures.0 c.in-Some.ensures.1 can in
     c.if-hash.true (is.3 ∙ sym c.hash.ensures))
     (same_pass c.args.self.now)

@@ -11,7 +11,7 @@ returns-in_err-select g c =
     refused_here c.from_residual.result c.in_err-select.field-0.0 c.from_residual.ensures.1
     (λ can.
     let row = can_row c.args.self.now.plan (g.H.KeyHash.hash_of c.args.self.now.groups.hash) c.args.packed.now
-    (standing c.args.self.now.groups c.args.self.now.lists (g.D.TapeDisk.last c.args.disk.now)) can in
+    (standing c.args.self.now.groups c.args.self.now.spill (g.D.TapeDisk.last c.args.disk.now)) can in
     c.in_err-select.ensures.undamaged row.0 row.1 row.2)
     c.in_err-select.ensures.faultless
 
@@ -21,7 +21,7 @@ returns-then-not-branch g c =
     (record {
       reads =
           row_over c.args.self.now.plan (g.H.KeyHash.hash_of c.args.self.now.groups.hash) c.args.packed.now (row_of c.select.new.row.items)
-          (standing c.args.self.now.groups c.args.self.now.lists (g.D.TapeDisk.last c.args.disk.now))
+          (standing c.args.self.now.groups c.args.self.now.spill (g.D.TapeDisk.last c.args.disk.now))
           c.in_ok-select.ensures.row.0 c.in_ok-select.ensures.row.1 (sym c.in_ok-select.ensures.met ∙ c.if-not-branch.true);
       brings = λ more are. omega arith;
       safe = λ is. is;

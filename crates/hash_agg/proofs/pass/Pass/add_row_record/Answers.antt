@@ -14,7 +14,7 @@ returns-in_err-select g c =
     refused_here c.from_residual-in_err-select.result c.in_err-select.field-0.0 c.from_residual-in_err-select.ensures.1
     (λ can.
     let one = can_row_record c.args.self.now.plan (g.H.KeyHash.hash_of c.args.self.now.groups.hash) c.args.hash c.args.packed.now
-    (standing c.args.self.now.groups c.args.self.now.lists (g.D.TapeDisk.last c.args.disk.now)) can in
+    (standing c.args.self.now.groups c.args.self.now.spill (g.D.TapeDisk.last c.args.disk.now)) can in
     c.in_err-select.ensures.undamaged one.0 one.1.of_kinds one.1.bytes)
     c.in_err-select.ensures.faultless
 
@@ -23,7 +23,7 @@ returns-then-not-branch g c =
     damaged_here
     (λ can.
     let one = row_right c.args.self.now.plan (g.H.KeyHash.hash_of c.args.self.now.groups.hash) c.args.hash c.args.packed.now
-    (row_of c.select.new.row.items) (standing c.args.self.now.groups c.args.self.now.lists (g.D.TapeDisk.last c.args.disk.now))
+    (row_of c.select.new.row.items) (standing c.args.self.now.groups c.args.self.now.spill (g.D.TapeDisk.last c.args.disk.now))
     c.in_ok-select.ensures.row.0 c.in_ok-select.ensures.row.1 can in
     let met = sym c.in_ok-select.ensures.met ∙ c.if-not-branch.true in
     let other = one.met in
@@ -36,7 +36,7 @@ returns-then-hash g c =
     (λ can.
     let hf : List ℕ → ℕ = g.H.KeyHash.hash_of c.args.self.now.groups.hash in
     let one = row_right c.args.self.now.plan hf c.args.hash c.args.packed.now (row_of c.select.new.row.items)
-    (standing c.args.self.now.groups c.args.self.now.lists (g.D.TapeDisk.last c.args.disk.now)) c.in_ok-select.ensures.row.0
+    (standing c.args.self.now.groups c.args.self.now.spill (g.D.TapeDisk.last c.args.disk.now)) c.in_ok-select.ensures.row.0
     c.in_ok-select.ensures.row.1 can in
     c.if-hash.true (c.hash.ensures ∙ ap hf (c.deref.ensures.value ∙ c.in_ok-select.ensures.key c.if-not-branch.false) ∙ sym one.hashed))
     (same_pass c.args.self.now)

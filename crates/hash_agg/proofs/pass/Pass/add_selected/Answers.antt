@@ -41,7 +41,7 @@ returns-in_err-first_after g c =
     let q : Query = query_of c.args.self.now in
     refused_here c.from_residual.result c.in_err-first_after.field-0.0 c.from_residual.ensures.1
     (λ can.
-    let room = new_room c.args.self.now.plan (g.H.KeyHash.hash_of c.args.self.now.groups.hash) c.args.self.now.groups c.args.self.now.lists
+    let room = new_room c.args.self.now.plan (g.H.KeyHash.hash_of c.args.self.now.groups.hash) c.args.self.now.groups c.args.self.now.spill
     (g.D.TapeDisk.last c.args.disk.now) c.args.key.now
     (AreRows q (c.args.packed.now ∷ [])) (λ old new. AreAdvanced q.aggregates c.args.self.now.plan.most old (row_of c.args.row.now) new)
     (row_told q c.args.self.now.plan.most c.args.packed.now c.args.key.now (row_of c.args.row.now) c.requires.ready.plan.formed
@@ -113,7 +113,7 @@ returns g c =
             kept = record {
               plan = refl;
               table = same_table _ _;
-              lists =
+              spill =
                   c.spill.ensures.rest;
             };
           }) c.spill.ensures.undamaged;
@@ -129,7 +129,7 @@ returns-in_err-insert g c =
         plan = refl;
         table = c.insert.ensures.table c.args.self.now.plan.limit
             c.in-Some-need_to_insert.ensures.room.within;
-        lists = same_rest _;
+        spill = same_rest _;
       };
     })
     (λ same. cc)

@@ -6,7 +6,7 @@ use Rattle.hash_agg.proofs.pass.Pass.need_to_insert.Goals as goal
 pub returns-clause-exact : goal.returns-clause-exact
 returns-clause-exact g c = λ hash.
     let keys : List (List ℕ) = packed_keys (entries_of c.args.self.now.groups) ++ c.args.key.now ∷ [] in
-    let clear : c.args.self.now.lists.partitions ≡ [] = c.is_empty.ensures.0 c.if-not-is_empty.false in
+    let clear : c.args.self.now.spill.partitions ≡ [] = c.is_empty.ensures.0 c.if-not-is_empty.false in
     c.need_within.ensures.fits hash
     ∙ ap (λ width. fits (record { limit = c.args.self.now.plan.limit; width = width; hash = hash }) keys) c.requires.ready.width
     ∙ ap (λ partitions. is_empty partitions && fits (setting_of c.args.self.now.plan hash) keys) (sym clear)
