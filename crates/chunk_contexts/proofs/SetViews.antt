@@ -76,8 +76,7 @@ module _ (x : Inside) (ok : AreFields x) (s : SetState) (e : set_of x ≡ s) (pl
           free = free i;
           left = x.active.size - x.active.used;
           next = x.next;
-          first
-              = x.first;
+          first = x.first;
         })
         ∙ (λ i. record {
           chunks = (record { place = place; room = (was.same i).room; is_live = true; bytes = take kept (was.same i).bytes ++ bytes })

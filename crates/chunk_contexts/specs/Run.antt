@@ -39,8 +39,7 @@ run_taken_by false fits size s p = record {
   chunks = p ∷ s.chunks;
   blocks = with_block s.blocks p.place.block size;
   active = s.active;
-  left
-      = s.left;
+  left = s.left;
 }
 run_taken_by true true size s p = record { chunks = p ∷ s.chunks; blocks = s.blocks; active = s.active; left = s.left - size }
 run_taken_by true false size s p = record {

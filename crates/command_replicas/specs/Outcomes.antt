@@ -1,5 +1,5 @@
--- What holds after a feed or a merge of files: what users ask of it, in the words of what is known and of worlds. It follows of what the call
--- tells (Results), by the laws `fed_file` and `merged_file`. All of this is our own.
+-- What holds after a feed or a merge of files: what users ask of it, in the words of what is known and of worlds. It follows of what the
+-- call tells (Results), by the laws `fed_file` and `merged_file`. All of this is our own.
 use Rattle.std.specs.Prelude.{◌≡◌, ◌≢◌, ℕ, Bool, List, Option, Result, IfOk, IfErr, OnOk, OnErr, IsTrue}
 use Rattle.grouping_model.specs.World.{World, IsWorld, union}
 use Rattle.grouping_model.specs.declared.delivered.Delivered.{Delivered}
@@ -18,8 +18,8 @@ abbrev pub WhereApart : {T : Type 0} → Result T Refusal → (ℕ → Option �
 WhereApart result Is = IfErr result (λ why. (of : ℕ) (at : Option ℕ) → why ≡ OriginDisagrees of at → Is of at)
 
 -- a batch file was fed: the replica takes the file's batch, and the part of its origin does; or nothing changes, and why. A batch that
--- disagrees is never taken, disagreement is told of no other and of no batch of a world that the replica fits, and nothing else is told of a
--- number that is known already
+-- disagrees is never taken, disagreement is told of no other and of no batch of a world that the replica fits, and nothing else is told of
+-- a number that is known already
 pub record AfterFeed (honest : Bool) (file : Option BatchFile) (old new : Held) (result : Result Delivered Refusal) : Type 0 where
   pub took : IfOk result (TakesFile honest file old new)
   pub delivers : IfOk result (DeliversFile honest file old new)
@@ -31,8 +31,8 @@ pub record AfterFeed (honest : Bool) (file : Option BatchFile) (old new : Held) 
   pub disagree : WhereApart result (FileDisagrees file old)
   pub other : WhereApart result (λ of at. IsOtherFile file old)
 
--- a summary file was merged: the parts of both are joined, which disagree nowhere, the replica knows the union and, over an honest disk, fits
--- each world that both fitted; or nothing changes, and why
+-- a summary file was merged: the parts of both are joined, which disagree nowhere, the replica knows the union and, over an honest disk,
+-- fits each world that both fitted; or nothing changes, and why
 pub record AfterMergedFile {T : Type 0} (honest : Bool) (file : List ℕ) (old new : Held) (result : Result T Refusal) : Type 0 where
   pub joined : OnOk result ((other : Held) × IsSummary file other.query other.parts × ¬ (DisagreeSomewhere old.parts other.parts)
       × MergesParts honest old.query old.parts other.parts new.parts × (new.query ≡ old.query) × (other.query ≡ old.query))

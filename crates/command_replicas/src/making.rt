@@ -42,8 +42,7 @@ pub fn load(alloc: Global, file: &[u8]) -> Result<Replica, Refusal>
 }
 
 /// The summary file of a replica: the one spelling of its query and of what it knows, in the second version. A file that would be longer
-/// than the
-/// 67,108,864 bytes that are read is `InputTooLong`, want of memory `NoMemory`.
+/// than the 67,108,864 bytes that are read is `InputTooLong`, want of memory `NoMemory`.
 pub fn save(replica: &Replica) -> Result<SummaryFile, Refusal>
     ensures file { IfOk result (λ file. IsSaved file replica.now.query replica.now.parts) }
     ensures short { IfOk result (λ file. length file ≤ MAX_INPUT_LEN) }

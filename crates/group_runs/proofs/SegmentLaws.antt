@@ -9,7 +9,8 @@ use Rattle.std.proofs.lemmas.Grind.{flat_map-append, common_steps}
 use Rattle.std.proofs.Math.Seq.{take-append_seam, drop-append_seam}
 use Rattle.std.specs.List.Sorted.{IsStrictlySortedBy}
 use Rattle.packed_rows.specs.ConcatenatedRowsLaws.{ends_long, ends_append}
-use Rattle.group_runs.proofs.Words.{Function, Entry, Rises, HasStatesFor, CombinesAt, concatenated, AreSegments, IsAmong, replaced, ArePiecesOf, AreCut, cut_count}
+use Rattle.group_runs.proofs.Words.{Function, Entry, Rises, HasStatesFor, CombinesAt, concatenated, AreSegments, IsAmong, replaced}
+use Rattle.group_runs.proofs.Words.{ArePiecesOf, AreCut, cut_count}
 use Rattle.packed_rows.specs.ConcatenatedRows.{ends_of}
 use Rattle.group_runs.specs.PlaceLaws.{drop_at, take_found}
 use Rattle.group_runs.proofs.PlaceLaws.{rises_drop}

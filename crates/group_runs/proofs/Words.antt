@@ -13,7 +13,8 @@ pub use Rattle.having_filter.specs.Meaning.{meaning}
 pub use Rattle.list_laws.specs.Each.{each_append, each_behind, each_front, each_weaker}
 pub use Rattle.packed_rows.specs.ConcatenatedRows.{concatenated}
 pub use Rattle.group_runs.specs.Adding.{group_added, groups_added, merged, partial_after_row}
-pub use Rattle.group_runs.specs.Segments.{AddSegments, AreBefore, AreSegments, ComeInto, IsAmong, replaced, ArePiecesOf, AreCut, all_pieces, cut_count}
+pub use Rattle.group_runs.specs.Segments.{AddSegments, AreBefore, AreSegments, ComeInto, IsAmong, replaced, ArePiecesOf, AreCut}
+pub use Rattle.group_runs.specs.Segments.{all_pieces, cut_count}
 pub use Rattle.group_runs.specs.Places.{AllAbove, AreUpTo, CombinesAt, HasKey, HasKeyAt, HasStatesFor, IsBelow, IsBetween, IsNotBelow}
 pub use Rattle.group_runs.specs.Places.{IsPlaceOf}
 pub use Rattle.group_runs.specs.Runs.{Entry, LieAs, Rises, packed_keys}

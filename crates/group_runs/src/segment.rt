@@ -36,8 +36,8 @@ impl Model for Segment {
     ghost invariant = { λ r. AreRun r.keys.items r.states.items r.ends.items };
 }
 
-/// A capacity for so many and so many. It is rounded up by a quarter at most, so that segments which grow little by little ask for blocks of few
-/// sizes, four between a power of two and the next, and an allocator can give them those that they gave back.
+/// A capacity for so many and so many. It is rounded up by a quarter at most, so that segments which grow little by little ask for blocks
+/// of few sizes, four between a power of two and the next, and an allocator can give them those that they gave back.
 fn capacity_for(one: usize, other: usize) -> usize {
     let both = one.saturating_add(other);
     let step = both.checked_next_power_of_two().unwrap_or(0) / 8;

@@ -56,8 +56,7 @@ cleared_with t n = record {
   states = t.states;
   width = t.width;
   hash = t.hash;
-  array
-      = None;
+  array = None;
   slots = [];
   spare = n;
 }

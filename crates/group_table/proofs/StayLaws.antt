@@ -19,8 +19,7 @@ module _ {H : Type 0} (hash_of : H → List ℕ → ℕ) (t : TableState H) (bef
   table_stays whole is = record {
     standing = record {
       placed = placed_alike t before after whole same.parent same.buckets same.keys same.states is.standing.placed;
-      stands
-          = stands_stay is.standing.stands;
+      stands = stands_stay is.standing.stands;
     };
     space = subst (IsSetWith (HasSpace t.array)) (sym same.in_buckets) is.space;
   }

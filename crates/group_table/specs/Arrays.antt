@@ -85,8 +85,7 @@ with_slot t slot = record {
   states = t.states;
   width = t.width;
   hash = t.hash;
-  array
-      = t.array;
+  array = t.array;
   slots = t.slots ++ slot ∷ [];
   spare = t.spare - 1;
 }
@@ -104,8 +103,7 @@ with_next t next = record {
   states = t.states;
   width = t.width;
   hash = t.hash;
-  array
-      = next_or next t.array;
+  array = next_or next t.array;
   slots = t.slots;
   spare = t.spare;
 }

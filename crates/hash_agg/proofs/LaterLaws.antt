@@ -7,7 +7,8 @@ use Rattle.hash_agg.proofs.Words.{PendingPartition, partitions_of, left_by, Part
 use Rattle.hash_agg.proofs.Words.{HasPartitions, BeginsLast, AreOn, pages_of, written_pages, meaning, Plan}
 use Rattle.hash_agg.proofs.Words.{Entry, Rises, Ghosts, CountsWithin}
 use Rattle.hash_agg.proofs.Words.{IsDone, IsSafeRun, IsUnderway, MadeFirst, MadeLater, query_of, setting_in, Brought, Given, AllGive, Pass}
-use Rattle.hash_agg.proofs.Words.{Piece, AreOnce, CountUpTo, Stands, setting_of, ReadsPartition, CanReadPartition, all_pieces, brought_by, Waits}
+use Rattle.hash_agg.proofs.Words.{Piece, AreOnce, CountUpTo, Stands, setting_of, ReadsPartition, CanReadPartition, all_pieces}
+use Rattle.hash_agg.proofs.Words.{brought_by, Waits}
 use Rattle.hash_agg.proofs.Words.{Costs, AddsUp, pass_cost, Work}
 use Rattle.hash_agg.proofs.SortLaws.{rises_once}
 use Rattle.hash_agg.proofs.UnionLaws.{ends}

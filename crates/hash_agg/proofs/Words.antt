@@ -42,7 +42,8 @@ pub use Rattle.hash_agg.specs.Inputs.{AllBring, AllGive, AreInputs, AreInputsOf,
 pub use Rattle.hash_agg.specs.Inputs.{Counted, Given, IsAggregate, IsInput, IsRunOver}
 pub use Rattle.hash_agg.specs.Inputs.{Of_groups, Of_rows, OneByOne, Packed, all_groups, all_rows, brought, groups_in, packings_in, rows_in}
 pub use Rattle.hash_agg.specs.Passes.{AreCosted, AreGroupsBy, AreHeld, AreOfRun, AreOnce, ArePieces, AreRows, AreSafe, Brings, CanRead}
-pub use Rattle.hash_agg.specs.Passes.{CanReadPartition, CountUpTo, GroupsState, Holds, IsCosted, IsGroupRecord, IsAbbreviated, IsParted, IsPiece}
+pub use Rattle.hash_agg.specs.Passes.{CanReadPartition, CountUpTo, GroupsState, Holds, IsCosted, IsGroupRecord, IsAbbreviated}
+pub use Rattle.hash_agg.specs.Passes.{IsParted, IsPiece}
 pub use Rattle.hash_agg.specs.Passes.{IsPlan, IsRowRecord, IsSameTable, AbbreviatedKey, Of_group, Of_row, PassState, Piece, Proceeds, Reads}
 pub use Rattle.hash_agg.specs.Passes.{ReadsPartition, Spills, Stands, WritesAt, WritesPages, all_pieces, brings, brought_by, cost_records}
 pub use Rattle.hash_agg.specs.Passes.{entries_of, given_pieces, group_record, made_of, pairs, piece_added, piece_key, pieces_added}

@@ -24,7 +24,8 @@ use Rattle.having_filter.specs.Meaning.{meaning}
 use Rattle.group_runs.specs.Runs.{Entry, Rises, packed_keys}
 use Rattle.hash_agg.specs.Inputs.{Brought, Packed, Counted, Given, AllGive}
 use Rattle.hash_agg.specs.Passes.{Piece, ArePieces, AreSafe, IsPlan, IsSameTable, HasPlace, CountUpTo, Stands, AreRows, AreOfRun, Reads}
-use Rattle.hash_agg.specs.Passes.{CanRead, ReadsPartition, CanReadPartition, Brings, Proceeds, WritesPages, entries_of, total, standing, setting_of}
+use Rattle.hash_agg.specs.Passes.{CanRead, ReadsPartition, CanReadPartition, Brings, Proceeds, WritesPages, entries_of, total}
+use Rattle.hash_agg.specs.Passes.{standing, setting_of}
 use Rattle.hash_agg.specs.Passes.{records_of, all_pieces, brought_by}
 use Rattle.hash_agg.specs.Waiting.{Waits, Costs, AddsUp, pass_cost}
 use Rattle.hash_agg.specs.declared.plan.Plan.{Plan}

@@ -11,7 +11,8 @@ ghost use Rattle.group_runs.specs.Standing.{StandsFor, IsRun};
 ghost use Rattle.hash_agg.specs.Inputs.{brought, packings_in, AreInputs};
 ghost use Rattle.hash_agg.specs.Passes.{FindsBy, IsPlan};
 ghost use Rattle.hash_agg.specs.Added.{Packed_rows, Entries, On_tape, Added, AddedGenuine, AddedPartition, AddedOne, Adds};
-ghost use Rattle.hash_agg.specs.Added.{CountsPass, Finished, HasRoom, IsFirst, IsFresh, IsReady, IsSelected, RefusedPartition, enters, query_of};
+ghost use Rattle.hash_agg.specs.Added.{CountsPass, Finished, HasRoom, IsFirst, IsFresh, IsReady, IsSelected, RefusedPartition, enters};
+ghost use Rattle.hash_agg.specs.Added.{query_of};
 ghost use Rattle.hash_agg.specs.Added.{source_of};
 
 use crate::groups::Groups;

@@ -42,8 +42,8 @@ impl OriginPart {
     }
 
     /// Whether this part includes another one of the origin: then both agree, and joined they give this part again, so that a caller need
-    /// not copy it. That is so where the other's prefix is not longer, has the same groups if it is as long, and its early batches behind the
-    /// prefix are early here too.
+    /// not copy it. That is so where the other's prefix is not longer, has the same groups if it is as long, and its early batches behind
+    /// the prefix are early here too.
     pub fn includes(&self, other: &OriginPart) -> bool
         ensures { IsTrue result ↔ Includes self.now other.now }
     {

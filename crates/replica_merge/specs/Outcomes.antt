@@ -1,5 +1,5 @@
--- What holds after a call of a replica: what users ask of it, in the words of what is known and of worlds. It follows of what the call tells
--- (Results), by the laws `delivered_batch`, `joined_replicas` and `merged_replicas`. All of this is our own.
+-- What holds after a call of a replica: what users ask of it, in the words of what is known and of worlds. It follows of what the call
+-- tells (Results), by the laws `delivered_batch`, `joined_replicas` and `merged_replicas`. All of this is our own.
 use Rattle.std.specs.Prelude.{◌≡◌, ◌≢◌, ℕ, Bool, false, List, Option, Some, Result, IfOk, IfErr, OnOk, IsTrue}
 use Rattle.grouping_model.specs.Datum.{Row}
 use Rattle.grouping_model.specs.Replies.{reply_of}

@@ -11,7 +11,10 @@ mod uniting;
 
 pub use error::MergeError;
 pub use known_origin::KnownOrigin;
-pub use laws::{countable_rows, delivered_batch, files_that_fit, joined_replicas, merged_files, merged_knowledge, merged_replicas};
+pub use laws::{
+    countable_rows, delivered_batch, files_that_fit, joined_replicas, merged_files,
+    merged_knowledge, merged_replicas,
+};
 pub use merging::Joined;
 pub use origin_prefix::{Delivered, JoinError, RefusedBatch};
 pub use replica::Replica;

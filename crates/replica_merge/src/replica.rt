@@ -132,10 +132,10 @@ impl Replica {
         known_parts(self.alloc, &self.parts)
     }
 
-    /// Takes a batch of the query's table, with an origin and a number within the limits. A number that is known already changes nothing; one next to its origin's unbroken prefix is folded
-    /// with the early ones that follow without a gap, by `means` and over a disk; any other is kept until then. A refused batch is
-    /// handed back and changes nothing: for want of memory, since its number is kept early with other rows, or by the disk. What
-    /// the aggregation of the batches that are folded took is added to `work`.
+    /// Takes a batch of the query's table, with an origin and a number within the limits. A number that is known already changes nothing;
+    /// one next to its origin's unbroken prefix is folded with the early ones that follow without a gap, by `means` and over a disk; any
+    /// other is kept until then. A refused batch is handed back and changes nothing: for want of memory, since its number is kept early
+    /// with other rows, or by the disk. What the aggregation of the batches that are folded took is added to `work`.
     pub fn deliver<H: KeyHash + Copy, D: TapeDisk>(
         &mut self,
         batch: Batch,

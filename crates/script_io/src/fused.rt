@@ -9,8 +9,7 @@ use std::io;
 use std::io::{Error, ErrorKind, Read, Write};
 
 /// A reader or a writer that stays failed: once a call of it failed, or was interrupted, or took none of some bytes, every later call
-/// answers
-/// the same error, and asks the stream behind no more. So it is known afterwards whether a call failed, and why.
+/// answers the same error, and asks the stream behind no more. So it is known afterwards whether a call failed, and why.
 #[derive(Drop)]
 pub struct Fused<S> {
     stream: S,

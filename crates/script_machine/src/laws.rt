@@ -23,8 +23,7 @@ pub fn one_reply()
 {}
 
 /// Two replicas of one query that know the same batches print and save the same bytes, be they of one script or of two: whatever the order
-/// in
-/// which these came, and however often, an answer is the same text, so is the list of what is known, and a file that is saved has the
+/// in which these came, and however often, an answer is the same text, so is the list of what is known, and a file that is saved has the
 /// same bytes, under whichever name.
 pub fn same_batches_same_bytes()
     ensures answers { (here there : List Reply) (a b : List ℕ) (world other : World)

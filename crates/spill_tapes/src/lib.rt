@@ -14,8 +14,8 @@ mod tapes;
 
 pub use error::TapeError;
 pub use tape_disks::{
-    DiskError, FailDisk, FileDisk, FlipDisk, MemDisk, MemFile, SeekableFile, SpillDisk, SystemFile, TapeDisk,
-    WriteFault,
+    DiskError, FailDisk, FileDisk, FlipDisk, MemDisk, MemFile, SeekableFile, SpillDisk, SystemFile,
+    TapeDisk, WriteFault,
 };
 pub use tape_id::TapeId;
 pub use tapes::Tapes;

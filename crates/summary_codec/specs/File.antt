@@ -1,6 +1,5 @@
 -- Summary files: the bytes of a query and of what is held of some origins. There is one spelling of each in each version, and the layout is
--- our own.
--- Numbers are unsigned, their highest byte first.
+-- our own. Numbers are unsigned, their highest byte first.
 use Rattle.std.specs.Prelude.{ℕ, List, ◌++◌, length, flat_map}
 use Rattle.std.specs.Int.{bytes_high_first}
 use Rattle.packed_rows.specs.Columns.{printed}

@@ -19,8 +19,7 @@ ghost use Rattle.summary_codec.specs.declared.version.Version.{Version};
 ghost use Rattle.summary_codec.specs.declared.version.Version.TheVariants.{First, Second};
 
 /// What a file begins with, and its bounds, by its version. A file is of one version, and what may be held is within the bounds of the
-/// second.
-/// What is read of a file of either is written as one of the second, with the same bytes behind its opening, and is read of that.
+/// second. What is read of a file of either is written as one of the second, with the same bytes behind its opening, and is read of that.
 pub fn versions()
     ensures first { opening First ≡ codes "AGGSUM01" }
     ensures first_number { last_number First ≡ 2147483647 }

@@ -1,5 +1,5 @@
--- Files, and a disk in one; what a read gives of a file. `stands place` is that the file stands there, and `last place byte` that the byte is
--- the one last written at the place. All of this is our own.
+-- Files, and a disk in one; what a read gives of a file. `stands place` is that the file stands there, and `last place byte` that the byte
+-- is the one last written at the place. All of this is our own.
 use Rattle.std.specs.Prelude.{◌≡◌, ℕ, ◌+◌, ◌<◌, ◌≤◌, Bool, IsTrue, List, length, get_or}
 
 -- a file of the system, and how often it failed

@@ -1,5 +1,6 @@
 -- A part that includes another one stays where it is joined with that.
-use Rattle.std.specs.Prelude.{◌≡◌, ◌≢◌, refl, ℕ, suc, ◌+◌, ◌<◌, ◌*◌, ◌==◌, ◌⊎◌, max, nat_lt, Bool, true, false, List, [], ◌∷◌, map, take, drop}
+use Rattle.std.specs.Prelude.{◌≡◌, ◌≢◌, refl, ℕ, suc, ◌+◌, ◌<◌, ◌*◌, ◌==◌, ◌⊎◌, max, nat_lt, Bool, true, false, List, [], ◌∷◌, map}
+use Rattle.std.specs.Prelude.{take, drop}
 use Rattle.std.specs.Prelude.{Option, Some, None, if◌then◌else◌}
 use Rattle.std.proofs.Common.{◌∙◌, sym, ap, subst, inl, inr, arith}
 use Rattle.std.specs.List.{AllByRecursion}
@@ -12,7 +13,8 @@ use Rattle.query_checks.specs.Checks.{Checked}
 use Rattle.having_filter.specs.Meaning.{meaning}
 use Rattle.hash_agg.specs.Counting.{AreCounted}
 use Rattle.hash_agg.specs.declared.work.Work.{Work}
-use Rattle.origin_prefix.specs.Parts.{Batches, Part, rows_at, IsEarly, IsPartOf, Drains, Folds, following, aggregation_of, aggregations_behind}
+use Rattle.origin_prefix.specs.Parts.{Batches, Part, rows_at, IsEarly, IsPartOf, Drains, Folds, following, aggregation_of}
+use Rattle.origin_prefix.specs.Parts.{aggregations_behind}
 use Rattle.origin_prefix.specs.Joins.{either, longer, Unites, Joins, DiffersBehind, PartsDisagree, JoinIsCounted, Includes, StaysJoined}
 use Rattle.origin_prefix.specs.Lemmas.ByNumber.{some_is}
 

@@ -10,7 +10,8 @@ use Rattle.std.specs.BTreeMap.{BTreeMap, insert_entry, WritesThrough}
 use Rattle.std.specs.Ordering.{eq_by_cmp, nat_cmp}
 use Rattle.replica_merge.specs.Lemmas.Words.{World, IsWorld, union, Query, kinds, Checked, meaning, Part, empty, tells, is_nothing}
 use Rattle.replica_merge.specs.Lemmas.Words.{IsPartOf}
-use Rattle.replica_merge.specs.Lemmas.Words.{either, Joins, PartsDisagree, DisagreeAt, JoinTells, JoinIsCounted, OriginDisagrees, StaysJoined}
+use Rattle.replica_merge.specs.Lemmas.Words.{either, Joins, PartsDisagree, DisagreeAt, JoinTells, JoinIsCounted, OriginDisagrees}
+use Rattle.replica_merge.specs.Lemmas.Words.{StaysJoined}
 use Rattle.replica_merge.specs.Lemmas.Words.{FitsOrigin}
 use Rattle.replica_merge.specs.Lemmas.Words.{Parts, part_at, part_of, told, Fits, IsHeldPart, AreHeldParts, AsideAt, JoinedAside, JoinsAt}
 use Rattle.replica_merge.specs.Lemmas.Words.{MergesParts, StandsAside}

@@ -12,7 +12,8 @@ pub use Rattle.hash_agg.specs.Counting.{AreCounted, setting_by}
 pub use Rattle.having_filter.specs.Meaning.{meaning}
 pub use Rattle.list_laws.specs.Each.{each_behind, each_both, each_front, each_weaker}
 pub use Rattle.origin_prefix.specs.Fitting.{FitsOrigin}
-pub use Rattle.origin_prefix.specs.Joins.{DisagreeAt, Includes, JoinIsCounted, JoinTells, Joining, Joins, PartsDisagree, StaysJoined, either}
+pub use Rattle.origin_prefix.specs.Joins.{DisagreeAt, Includes, JoinIsCounted, JoinTells, Joining, Joins, PartsDisagree, StaysJoined}
+pub use Rattle.origin_prefix.specs.Joins.{either}
 pub use Rattle.origin_prefix.specs.Parts.{BatchTells, Delivers, Delivery, Disagrees, IsEarly, IsPartOf, Part, aggregations_on, empty}
 pub use Rattle.origin_prefix.specs.Parts.{is_nothing}
 pub use Rattle.origin_prefix.specs.Parts.{rows_at, tells}

@@ -301,8 +301,7 @@ heading_again q bytes others behind is columns spelled =
     )
 
 -- what stands behind the opening of the file of a query whose texts are UTF-8, and of what is held for it within a version's bounds, is
--- read
--- as these
+-- read as these
 pub body_again : (version : Version) (q : Checked) (held : Parts) → IsCheckedQuery q → IsUtf8 (printed q.columns)
     → IsUtf8 (spelling (by_names q)) → AreHeldParts q held → AreWithin version q held
     → body version (body_bytes q held) (Ok ((q, held), []))

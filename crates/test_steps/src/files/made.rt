@@ -107,8 +107,7 @@ const MAX_TEXT_LEN: usize = 255;
 const MAX_FILE_LEN: usize = 67_108_864;
 
 /// Writes a batch file, the `NUMBER|ROWS` of origin 0: so many rows of four of the longest texts, and empty lines behind them, up to the
-/// most
-/// bytes that a file may have.
+/// most bytes that a file may have.
 pub(crate) fn write_wide(rt: &HostRuntime, file: &str, told: &str) -> io::Result<bool> {
     let (number, rows) = two_numbers(told)?;
     let text = "x".repeat(rt.alloc(), MAX_TEXT_LEN)?;

@@ -16,7 +16,7 @@ returns-in_ok-count_begun-in-Ok c =
     let count = c.in_ok-count_begun-in-Ok.field-0 in
     let read = c.in-Ok.ensures.exact in
     let longest = subst (λ (ts : List Token). IsLongestFront most_open (lexemes_of (all_placed ts)) count) c.deref.ensures.value
-        c.in_ok-count_begun-in-Ok.ensures in (
+    c.in_ok-count_begun-in-Ok.ensures in (
       λ all. is_front text placed count read longest (grind (arith, nat_tests, common_steps)),
       λ front. let same : count ≡ length placed = is_begun text placed count read longest front in grind (arith, nat_tests, common_steps),
     )

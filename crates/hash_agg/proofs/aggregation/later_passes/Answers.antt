@@ -7,7 +7,8 @@ use Rattle.std.proofs.lemmas.List.Sorted.{length_permutation}
 use Rattle.std.proofs.lemmas.Result.{IfErr-weaker}
 use Rattle.tape_disks.specs.DiskLaws.{leaves_none, leaves_twice}
 use Rattle.hash_agg.proofs.Words.{spill_faults, count_of, waiting_number, full_pages, written_pages, NoMemory, Setting, Query, Entry, Rises}
-use Rattle.hash_agg.proofs.Words.{concatenated, IsDone, query_of, setting_in, meaning, AreOnce, AreSafe, PassState, ReadsPartition, CanReadPartition}
+use Rattle.hash_agg.proofs.Words.{concatenated, IsDone, query_of, setting_in, meaning, AreOnce, AreSafe, PassState, ReadsPartition}
+use Rattle.hash_agg.proofs.Words.{CanReadPartition}
 use Rattle.hash_agg.proofs.Words.{entries_of, standing, AddsUp, pass_cost, Plan}
 use Rattle.hash_agg.proofs.DiskLaws.{left_out, still}
 use Rattle.hash_agg.proofs.KeyLaws.{if_ok_both}

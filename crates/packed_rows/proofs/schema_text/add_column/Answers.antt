@@ -3,6 +3,7 @@ use Rattle.packed_rows.proofs.ColumnLaws.{new_column, named_column, distinct_nam
 use Rattle.packed_rows.proofs.schema_text.add_column.Goals as goal
 use Rattle.packed_rows.proofs.schema_text.add_column.Goals.{then-len-eq-MAX_COLUMNS-via-then-len-eq-MAX_COLUMNS}
 use Rattle.packed_rows.proofs.schema_text.add_column.Goals.{then-len-eq-MAX_COLUMNS-via-else-len-eq-MAX_COLUMNS+then-contains_key}
+use Rattle.packed_rows.proofs.schema_text.add_column.Goals.{}
 use Rattle.packed_rows.proofs.schema_text.add_column.Goals.{then-len-eq-MAX_COLUMNS-via-else-len-eq-MAX_COLUMNS+else-contains_key+then-is_reserved}
 
 pub returns-then-len-eq-MAX_COLUMNS-clause-refused : goal.returns-then-len-eq-MAX_COLUMNS-clause-refused

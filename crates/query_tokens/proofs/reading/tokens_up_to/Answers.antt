@@ -6,7 +6,8 @@ use Rattle.query_tokens.specs.Words.{lexeme_of, placed_of, all_placed}
 use Rattle.query_tokens.specs.Bytes.{is_space}
 use Rattle.query_tokens.specs.Tokens.{tokens_in, begins_with}
 use Rattle.query_tokens.specs.Lemmas.Legal.{tokens_legal}
-use Rattle.query_tokens.proofs.Steps.{passes_space, goes_on, shorter, ends, is_done, more_left, begins_past_space, begins_further, begins_all}
+use Rattle.query_tokens.proofs.Steps.{passes_space, goes_on, shorter, ends, is_done, more_left, begins_past_space, begins_further}
+use Rattle.query_tokens.proofs.Steps.{begins_all}
 use Rattle.query_tokens.proofs.reading.tokens_up_to.Goals as goal
 
 pub loop-rest-preserved-then-is_space : goal.loop-rest-preserved-then-is_space

@@ -1,5 +1,6 @@
 -- `add` does nothing but change what the notes are.
-use Rattle.block_memory.proofs.Steps.{List, [], ◌∷◌, refl, proved, emp, sep, ftrue, flft, named, Val, vunit, fact, ‵, raw, ◌⊛◌, ◌$◌, ◌∵◌, ! }
+use Rattle.block_memory.proofs.Steps.{List, [], ◌∷◌, refl, proved, emp, sep, ftrue, flft, named, Val, vunit, fact, ‵, raw, ◌⊛◌, ◌$◌}
+use Rattle.block_memory.proofs.Steps.{◌∵◌, ! }
 use Rattle.block_memory.proofs.Steps.{qed, done, move, keep, split, join, fsplit3, feq_i, suffices, frame, group, enter, of_opd, unit_lit}
 use Rattle.block_memory.proofs.Steps.{returns, alloc_all, pass_all, free_all, look_at, sets, yes, MutRef, mut_vals, mut_Tells, ShrRef}
 use Rattle.block_memory.proofs.Steps.{shr_vals, shr_Tells, plain, nothing, opens, closes, Stays, walk_of, says, stay_dropped, Goes-dropped}

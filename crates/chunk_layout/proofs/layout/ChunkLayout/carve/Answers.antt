@@ -14,8 +14,7 @@ invariant_of-self c = grind (
         blocks = c.write_header.new.blocks;
         vacant = c.self.inside.vacant;
         held = c.self.inside.held;
-        notes
-            = c.add.new.self;
+        notes = c.add.new.self;
         alloc = c.self.inside.alloc;
       }),
 )
@@ -31,8 +30,7 @@ returns c = grind (
         blocks = c.write_header.new.blocks;
         vacant = c.self.inside.vacant;
         held = c.self.inside.held;
-        notes
-            = c.add.new.self;
+        notes = c.add.new.self;
         alloc = c.self.inside.alloc;
       }),
 )

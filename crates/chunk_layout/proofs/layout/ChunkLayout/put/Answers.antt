@@ -40,8 +40,7 @@ returns c = grind (
         blocks = c.write_bytes.new.blocks;
         vacant = c.self.inside.vacant;
         held = c.self.inside.held;
-        notes
-            = c.add.new.self;
+        notes = c.add.new.self;
         alloc = c.self.inside.alloc;
       }),
 )

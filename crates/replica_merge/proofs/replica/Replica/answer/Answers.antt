@@ -4,7 +4,8 @@ use Rattle.std.proofs.lemmas.Result.{IfOk-weaker}
 use Rattle.grouping_model.specs.Aggregates.{Outcome}
 use Rattle.grouping_model.specs.Answer.{answer}
 use Rattle.replica_merge.specs.Lemmas.Words.{World, IsWorld, kinds, meaning, Held, Fits, told, counted_part, brought_by, IsShown}
-use Rattle.replica_merge.proofs.AnswerLaws.{IsOfParts, shows, only_run, whole_run, listed_inputs, listed_few, shown_wide, shown_answer, shown_rows, alone_rows}
+use Rattle.replica_merge.proofs.AnswerLaws.{IsOfParts, shows, only_run, whole_run, listed_inputs, listed_few, shown_wide, shown_answer}
+use Rattle.replica_merge.proofs.AnswerLaws.{shown_rows, alone_rows}
 use Rattle.replica_merge.proofs.replica.Replica.answer.Goals as goal
 
 pub finalize_and_project-requires : goal.finalize_and_project-requires
