@@ -43,11 +43,13 @@ module _ {T : Type 0} (result : Result T RunError) (e : RunError) (passed : IsEr
   faults_passed failed h = passed_on result e (λ r. tells_read_fault r ≡ failed) passed h
 
 module _ {D : Type 0} (g : Ghosts D) (result : Result Outcome RunError) (e : RunError) (passed : IsErrAnd result (λ x. x ≡ e)) where
-  pub works_passed : (commands : List Command) (old new : Option (List ℕ)) (before after : D) → Works g commands old new before after (Err e)
+  pub works_passed : (commands : List Command) (old new : Option (List ℕ)) (before after : D)
+      → Works g commands old new before after (Err e)
       → Works g commands old new before after result
   works_passed commands old new before after h = passed_on result e (λ r. Works g commands old new before after r) passed h
 
-  pub runs_passed : (before after : D) (streams : Streams) → RunsOver g before after streams (Err e) → RunsOver g before after streams result
+  pub runs_passed : (before after : D) (streams : Streams) → RunsOver g before after streams (Err e)
+      → RunsOver g before after streams result
   runs_passed before after streams h = passed_on result e (λ r. RunsOver g before after streams r) passed h
 
 -- ---- a script that was read

@@ -8,7 +8,8 @@ use Rattle.std.proofs.lemmas.List.Sums.{sum_by-cons, sum_by-append}
 use Rattle.std.proofs.lemmas.Grind.{flat_map-append}
 use Rattle.std.specs.Io.KnownBytes.{Appends}
 use Rattle.std.proofs.KnownBytes.{Appends-nil, Appends-trans}
-use Rattle.script_machine.proofs.Words.{DiskFrame, World, Record, Command, request_of, State, Refused, Run, StrictRun, Step, Along, MayReply}
+use Rattle.script_machine.proofs.Words.{DiskFrame, World, Record, Command, request_of, State}
+use Rattle.script_machine.proofs.Words.{Refused, Run, StrictRun, Step, Along, MayReply}
 use Rattle.script_machine.proofs.Words.{IsReply, Agrees, AgreesAt, As_always, For_memory, start, after, is_refused, is_fault, line}
 use Rattle.script_machine.proofs.Words.{refusal_name, said_text, is_refusal, faults_in, Store, empty, Represents, FitsWorld}
 use Rattle.script_machine.proofs.Words.{Answers, Steps, Executes, Executed, ExecutesAllBut, AreWritten, said_texts}
@@ -258,7 +259,8 @@ module _ {D : Type 0} {g : Ghosts D} {commands left : List Command} {before disk
     replies = ran.answers ++ reply ∷ [];
     new = next;
     each = each_more;
-    writes = subst (StopsShort old new) (sym texts_more) (short-second old mid new (said_texts ran.answers) (said_text reply) ran.writes wrote);
+    writes = subst (StopsShort old new) (sym texts_more) (short-second old mid new (said_texts ran.answers)
+        (said_text reply) ran.writes wrote);
   }
 
 -- what two calls leave of a disk, one after the other

@@ -20,7 +20,8 @@ use Rattle.script_machine.proofs.Words.{load_reply, Replies, IsReply, FeedAgrees
 use Rattle.script_machine.proofs.Words.{said_text, FeedApart, IsHeldAt, TellsDisagreement, Store, IsStore, IsFileOf, AreSaved, IsFitting}
 use Rattle.script_machine.proofs.Words.{Represents, FitsWorld, Answers, Steps, JoinRefused, JoinsNames, Updates, Files, replica_at}
 use Rattle.script_machine.proofs.Words.{saved_at, knowledge_of, limit_out_of_range, columns_refusal, merge_refusal, Refusal}
-use Rattle.script_machine.proofs.Words.{Becomes, KeepsAll, TakesFed, Rightly, For_memory, For_fault, As_always, For_disagreement, For_damage}
+use Rattle.script_machine.proofs.Words.{Becomes, KeepsAll, TakesFed, Rightly}
+use Rattle.script_machine.proofs.Words.{For_memory, For_fault, As_always, For_disagreement, For_damage}
 use Rattle.grouping_model.specs.Answer.{answer}
 use Rattle.grouping_model.specs.Aggregates.{Outcome}
 use Rattle.query_checks.specs.Spelling.{spelling}

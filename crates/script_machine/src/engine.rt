@@ -124,7 +124,7 @@ pub fn run<R: Read, W: Write, D: TapeDisk>(
     // The promise: what is written is the right output of the script.
     ensures headline { OnOk result (IsTrue (D.TapeDisk.honest disk.old) → WritesRight
         (streams R.remaining W.contents reader.old writer.old writer.new)) }
-    // What holds of any disk, honest or not, and where the run stops: what is written, what each command does, and what becomes of the disk.
+    // What holds of any disk, honest or not, and where the run stops: what is written, what commands do, what becomes of the disk.
     ensures any_disk { RunsOver D.TapeDisk disk.old disk.new (streams R.remaining W.contents reader.old writer.old writer.new) result }
     // The script is told to be unreadable exactly where its reader failed.
     ensures fault { tells_read_fault result ≡ has_failed reader.new }

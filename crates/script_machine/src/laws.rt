@@ -24,8 +24,8 @@ pub fn one_reply()
         ((reply : Reply) → ¬ (Replies old request owned reply)) → ⊥ }
 {}
 
-/// Two replicas of one query that know the same batches print and save the same bytes, be they of one script or of two: whatever the order in
-/// which these came, and however often, an answer is the same text, so is the list of what is known, and a file that is saved has the
+/// Two replicas of one query that know the same batches print and save the same bytes, be they of one script or of two: in whatever order
+/// these came, and however often, an answer is the same text, so is the list of what is known, and a file that is saved has the
 /// same bytes, under whichever name.
 pub fn same_batches_same_bytes()
     ensures { SameKnowledgeSameBytes }
