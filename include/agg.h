@@ -94,7 +94,7 @@ typedef struct {
 /*
  * Opens a summary that knows nothing, of a query over columns.
  *
- *     agg_new(&slot, "region text, amount bigint", 26, "SELECT region, sum(amount) FROM batches GROUP BY region", 55, AGG_USUAL_LIMIT, s, t)
+ *     agg_new(&slot, "city text, amount bigint", 24, "SELECT city, sum(amount) FROM batches GROUP BY city", 51, AGG_USUAL_LIMIT, s, t)
  *
  * The limit is on the blocks of a table of groups, in bytes, 65,536 to 1,099,511,627,776: what does not keep within it is spilled to tapes
  * in memory. The two seeds are those of the table's hash function: random numbers, where others choose the keys, so that none are chosen
@@ -179,8 +179,8 @@ typedef struct {
 
 /*
  * The sentence of the last call on the slot that was refused by a status from 10 on, which is for people: as agg_tool says it, or a short
- * one of agg_feed_rows and where there was no memory for that; no bytes where none was refused. Ask for it behind such a status, before other
- * calls on the slot. It works on a slot without a summary, too, behind a refusal of agg_new or agg_load.
+ * one of agg_feed_rows and where there was no memory for that; no bytes where none was refused. Ask for it behind such a status, before
+ * other calls on the slot. It works on a slot without a summary, too, behind a refusal of agg_new or agg_load.
  */
 uint32_t agg_reason(agg_slot *slot, agg_place *place, size_t *wanted);
 
