@@ -83,7 +83,8 @@ CREATE OPERATOR | (
     LEFTARG = agg_summary, RIGHTARG = agg_summary, FUNCTION = agg_merge, COMMUTATOR = |
 );
 
--- What a summary tells: its answer in CSV or in columns below one another, or as rows of the types that the caller names; what it knows; its texts.
+-- What a summary tells: its answer in CSV, in columns below one another, or as rows of the types that the caller names; what it knows; its
+-- texts.
 CREATE FUNCTION agg_answer(summary agg_summary, aligned boolean DEFAULT false) RETURNS text
     AS 'MODULE_PATHNAME', 'pg_agg_answer' LANGUAGE C IMMUTABLE STRICT PARALLEL SAFE COST 1000;
 CREATE FUNCTION agg_rows(summary agg_summary) RETURNS SETOF record

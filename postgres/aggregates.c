@@ -119,7 +119,8 @@ typedef struct RowOutput {
 static RowOutput *output_of(FunctionCallInfo fcinfo, TupleDesc description) {
     RowOutput *output = fcinfo->flinfo->fn_extra;
     if (output == NULL || output->columns < description->natts) {
-        output = MemoryContextAllocZero(fcinfo->flinfo->fn_mcxt, offsetof(RowOutput, column) + description->natts * sizeof output->column[0]);
+        Size size = offsetof(RowOutput, column) + description->natts * sizeof output->column[0];
+        output = MemoryContextAllocZero(fcinfo->flinfo->fn_mcxt, size);
         output->columns = description->natts;
         fcinfo->flinfo->fn_extra = output;
     }

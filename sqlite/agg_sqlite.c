@@ -31,7 +31,7 @@ static Bytes bytes_of(sqlite3_value *value) {
     return at != NULL ? bytes : none;
 }
 
-/* The text that was told last of a slot, of so many bytes, behind which a zero stands; null where there is no memory. Whoever has it frees it. */
+/* The text that was told last of a slot, of so many bytes, with a zero behind it; null where there is no memory. The caller frees it. */
 static char *fetched(agg_slot *slot, size_t wanted) {
     char *out = sqlite3_malloc64(wanted + 1);
     if (out == NULL) return NULL;
@@ -145,7 +145,7 @@ static void answer_table(sqlite3_context *context, int count, sqlite3_value **va
     agg_close(&slot);
 }
 
-/* What SQLite keeps for an aggregate begins as zeros, which is a slot that holds nothing; it is finished whatever becomes of the statement. */
+/* What SQLite keeps for an aggregate begins as zeros, a slot that holds nothing; and it is finished whatever becomes of the statement. */
 static void merge_step(sqlite3_context *context, int count, sqlite3_value **values) {
     agg_slot *slot;
     Bytes file;
@@ -175,10 +175,10 @@ int sqlite3_agg_init(sqlite3 *database, char **message, const sqlite3_api_routin
     int status;
     (void)message;
     SQLITE_EXTENSION_INIT2(api);
-    status = sqlite3_create_function_v2(database, "agg_new", 2, flags, NULL, new_summary, NULL, NULL, NULL);
-    if (status == SQLITE_OK) status = sqlite3_create_function_v2(database, "agg_feed", 2, flags, NULL, feed, NULL, NULL, NULL);
-    if (status == SQLITE_OK) status = sqlite3_create_function_v2(database, "agg_known", 1, flags, NULL, known, NULL, NULL, NULL);
-    if (status == SQLITE_OK) status = sqlite3_create_function_v2(database, "agg_answer", 1, flags, NULL, answer_table, NULL, NULL, NULL);
-    if (status == SQLITE_OK) status = sqlite3_create_function_v2(database, "agg_merge", 1, flags, NULL, NULL, merge_step, merge_final, NULL);
+    status = sqlite3_create_function(database, "agg_new", 2, flags, NULL, new_summary, NULL, NULL);
+    if (status == SQLITE_OK) status = sqlite3_create_function(database, "agg_feed", 2, flags, NULL, feed, NULL, NULL);
+    if (status == SQLITE_OK) status = sqlite3_create_function(database, "agg_known", 1, flags, NULL, known, NULL, NULL);
+    if (status == SQLITE_OK) status = sqlite3_create_function(database, "agg_answer", 1, flags, NULL, answer_table, NULL, NULL);
+    if (status == SQLITE_OK) status = sqlite3_create_function(database, "agg_merge", 1, flags, NULL, NULL, merge_step, merge_final);
     return status;
 }

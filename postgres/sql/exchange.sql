@@ -1,4 +1,5 @@
--- Two databases, of which one is in LATIN1, exchange summaries by COPY, in text and in binary, and send rows twice: they end with equal bytes.
+-- Two databases, of which one is in LATIN1, exchange summaries by COPY, in text and in binary, and send rows twice: they end with
+-- equal bytes.
 SET client_min_messages = warning;
 DROP DATABASE IF EXISTS agg_south;
 CREATE DATABASE agg_south ENCODING 'LATIN1' LOCALE 'C' TEMPLATE template0;
@@ -31,11 +32,15 @@ SELECT site, count(*), count(DISTINCT summary) FROM summaries GROUP BY site ORDE
 SELECT agg_merge(summary) AS summary, md5(agg_merge(summary)::bytea) AS south FROM summaries \gset
 SELECT * FROM agg_rows(:'summary') AS answer(city text, count bigint, sum numeric);
 -- the text is in the server's encoding, the summary in UTF-8
-SELECT length(agg_answer(:'summary')) AS characters, octet_length(agg_answer(:'summary')) AS bytes, agg_answer(:'summary') LIKE '%æ, ø%' AS found;
-SELECT 'Grüße' = city AS same FROM agg_rows(agg_feed(agg_new('c text', 'select c from batches group by c'), E'batch,0,1,1\nGrüße\n')) AS answer(city text);
-SELECT octet_length(query) - octet_length(replace(query, 'ø', '')) AS bytes FROM agg_query(agg_new('c text', 'select c from batches where c = ''ø'' group by c')) AS query;
+SELECT length(agg_answer(:'summary')) AS characters, octet_length(agg_answer(:'summary')) AS bytes,
+    agg_answer(:'summary') LIKE '%æ, ø%' AS found;
+SELECT 'Grüße' = city AS same
+    FROM agg_rows(agg_feed(agg_new('c text', 'select c from batches group by c'), E'batch,0,1,1\nGrüße\n')) AS answer(city text);
+SELECT octet_length(query) - octet_length(replace(query, 'ø', '')) AS bytes
+    FROM agg_query(agg_new('c text', 'select c from batches where c = ''ø'' group by c')) AS query;
 -- a character that LATIN1 does not have can't be told here, and is in the summary all the same
-CREATE TABLE euro AS SELECT agg_feed(agg_new('c text', 'select c from batches group by c'), '\x62617463682c302c312c310ae282ac0a'::bytea) AS summary;
+CREATE TABLE euro AS
+    SELECT agg_feed(agg_new('c text', 'select c from batches group by c'), '\x62617463682c302c312c310ae282ac0a'::bytea) AS summary;
 SELECT agg_answer(summary) FROM euro;
 SELECT length(summary::bytea) FROM euro;
 

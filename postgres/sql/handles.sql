@@ -67,7 +67,8 @@ CREATE FUNCTION rounds(count int) RETURNS void LANGUAGE plpgsql AS $$
 BEGIN
     FOR i IN 1..count LOOP
         BEGIN
-            PERFORM agg_merge(summary) FILTER (WHERE CASE WHEN n < 3 THEN true ELSE 1 / (n - 3) > 0 END) FROM large, generate_series(1, 3) AS n;
+            PERFORM agg_merge(summary) FILTER (WHERE CASE WHEN n < 3 THEN true ELSE 1 / (n - 3) > 0 END)
+                FROM large, generate_series(1, 3) AS n;
         EXCEPTION WHEN division_by_zero THEN NULL;
         END;
         PERFORM length(agg_merge(summary)::bytea) FROM large, generate_series(1, 2);

@@ -1,4 +1,5 @@
--- Each refusal is an error of its own SQLSTATE, SA and the three digits of its status, with a sentence as the detail. Words of sentences may change.
+-- Each refusal is an error of its own SQLSTATE, SA and the three digits of its status, with a sentence as the detail. The words of
+-- sentences may change.
 CREATE FUNCTION refused(VARIADIC statements text[]) RETURNS TABLE (state text, message text, detailed boolean) LANGUAGE plpgsql AS $$
 DECLARE
     statement text;
@@ -33,7 +34,8 @@ SELECT * FROM refused(
 );
 
 -- batches
-CREATE TABLE s AS SELECT agg_feed(agg_new('c text, d bigint', 'select c, sum(d) from batches group by c'), E'batch,0,3,1\noslo,5\n') AS summary;
+CREATE TABLE s AS
+    SELECT agg_feed(agg_new('c text, d bigint', 'select c, sum(d) from batches group by c'), E'batch,0,3,1\noslo,5\n') AS summary;
 SELECT * FROM refused(
     $$SELECT agg_feed(summary, '') FROM s$$,
     $$SELECT agg_feed(summary, E'batch,1024,1,1\noslo,5\n') FROM s$$,
@@ -58,25 +60,33 @@ SELECT * FROM refused(
     $$SELECT overlay(summary::bytea PLACING 'C' FROM 11)::agg_summary FROM s$$,
     $$SELECT overlay(summary::bytea PLACING 'txet' FROM 13)::agg_summary FROM s$$
 );
+CREATE FUNCTION file(behind_columns text) RETURNS text LANGUAGE sql AS $$
+    SELECT '\x41474753554d3032' || '0006632074657874' || behind_columns
+$$;
+\set query 001c53454c45435420636f756e74282a292046524f4d2062617463686573
+SELECT convert_from(decode(substr(:'query', 5), 'hex'), 'UTF8') AS query;
+SELECT file(:'query' || '0000')::agg_summary = agg_new('c text', 'select count(*) from batches') AS same;
 SELECT * FROM refused(
-    $$SELECT ('\x' || '41474753554d3032' || '00066320746578740021' || encode('SELECT count(*) FROM batches -- no', 'hex') || '0000')::agg_summary$$,
-    $$SELECT ('\x' || '41474753554d3032' || '0006632074657874001c' || encode('SELECT count(*) FROM batches', 'hex') || '0401')::agg_summary$$,
-    $$SELECT ('\x' || '41474753554d3032' || '0006632074657874001c' || encode('SELECT count(*) FROM batches', 'hex') || '0001000000000000000000000001000000000000000100000000')::agg_summary$$,
-    $$SELECT ('\x' || '41474753554d3032' || '0006632074657874001c' || encode('SELECT count(*) FROM batches', 'hex') || '000100000000000100000000000000010000ffffffffffffffff00000000')::agg_summary$$,
-    $$SELECT ('\x' || '41474753554d3032' || '0006632074657874001c' || encode('SELECT count(*) FROM batches', 'hex') || '000100000000000100000000000000010001010000000000000001')::agg_summary$$
+    format('SELECT file(%L)::agg_summary', '0021' || substr(:'query', 5) || encode(' -- no', 'hex') || '0000'),
+    format('SELECT file(%L)::agg_summary', :'query' || '0401'),
+    format('SELECT file(%L)::agg_summary', :'query' || '0001000000000000' || '0000000000000001' || '00000000000000000001' || '00000000'),
+    format('SELECT file(%L)::agg_summary', :'query' || '0001000000000001' || '0000000000000001' || '0000ffffffffffffffff' || '00000000'),
+    format('SELECT file(%L)::agg_summary', :'query' || '0001000000000001' || '0000000000000001' || '0001010000000000000001')
 );
 
 -- summaries that do not merge
 SELECT * FROM refused(
     $$SELECT summary | agg_new('c text, d bigint', 'select c, min(d) from batches group by c') FROM s$$,
     $$SELECT summary | agg_new('c text, e bigint, d bigint', 'select c, sum(d) from batches group by c') FROM s$$,
-    $$SELECT agg_merge(t) FROM (SELECT summary FROM s UNION ALL SELECT agg_new('c text, d bigint', 'select c, min(d) from batches group by c')) AS u(t)$$,
+    $$SELECT agg_merge(t) FROM (SELECT summary FROM s UNION ALL
+        SELECT agg_new('c text, d bigint', 'select c, min(d) from batches group by c')) AS u(t)$$,
     $$SELECT summary | agg_feed(agg_new('c text, d bigint', 'select c, sum(d) from batches group by c'), E'batch,0,3,1\noslo,6\n') FROM s$$
 );
 
 -- what the extension refuses itself
 CREATE FUNCTION refused_rows(answer text) RETURNS TABLE (state text, message text, detailed boolean) LANGUAGE sql AS $$
-    SELECT * FROM refused('SELECT * FROM s, agg_rows(agg_feed(agg_feed(summary, E''batch,0,1,1\nbergen,3000000000\n''), E''batch,0,2,0\n'')) ' || answer)
+    SELECT * FROM refused('SELECT * FROM s,
+        agg_rows(agg_feed(agg_feed(summary, E''batch,0,1,1\nbergen,3000000000\n''), E''batch,0,2,0\n'')) ' || answer)
 $$;
 SELECT * FROM refused_rows('AS answer(c text)');
 SELECT * FROM refused_rows('AS answer(c text, d bigint, e bigint)');
@@ -115,4 +125,4 @@ SELECT agg_feed(summary, E'batch,0,1,1\noslo,five\n') FROM s;
 SELECT known.* FROM s, agg_known(summary) AS known;
 SELECT agg_open_handles();
 DROP TABLE s;
-DROP FUNCTION refused_rows, refused;
+DROP FUNCTION refused_rows, refused, file;

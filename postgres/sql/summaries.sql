@@ -23,7 +23,8 @@ SELECT name, (SELECT sum(total) FROM agg_rows(summary) AS answer(city text, coun
 
 -- texts that CSV has to quote, nulls and booleans
 SELECT * FROM agg_rows(agg_feed(agg_new('a text, b bool', 'select a, b, count(*) from batches group by a, b'),
-    E'batch,0,1,7\n"",t\n"say ""hi"", twice",f\n"two\nlines",\\N\n\\N,t\n"NULL",t\n"\\x",f\n" ",f\n')) AS answer(a text, b boolean, count bigint);
+    E'batch,0,1,7\n"",t\n"say ""hi"", twice",f\n"two\nlines",\\N\n\\N,t\n"NULL",t\n"\\x",f\n" ",f\n'))
+    AS answer(a text, b boolean, count bigint);
 SELECT * FROM agg_rows(agg_feed(agg_new('a text', 'select a from batches group by a'), E'batch,0,1,2\n""\n\\N\n')) AS answer(a text);
 SELECT * FROM agg_rows(agg_new('a text', 'select count(*) from batches')) AS answer(count bigint);
 
@@ -39,16 +40,19 @@ INSERT INTO s SELECT 'other', agg_feed(agg_new(agg_columns(summary), agg_query(s
 SELECT known.* FROM s, agg_known(summary) AS known WHERE name = 'other';
 SELECT known.* FROM s AS a, s AS b, agg_known(a.summary | b.summary) AS known WHERE a.name = 'sales' AND b.name = 'other';
 SELECT count(DISTINCT a.summary | b.summary) FROM s AS a, s AS b WHERE a.name <> b.name;
-SELECT (a.summary | b.summary) | a.summary = agg_merge(a.summary, b.summary) AS once FROM s AS a, s AS b WHERE a.name = 'sales' AND b.name = 'other';
+SELECT (a.summary | b.summary) | a.summary = agg_merge(a.summary, b.summary) AS once
+    FROM s AS a, s AS b WHERE a.name = 'sales' AND b.name = 'other';
 SELECT agg_merge(summary) = (SELECT agg_merge(summary ORDER BY name DESC) FROM s) AS same FROM s;
-SELECT agg_merge(summary) = (SELECT summary FROM s WHERE name = 'other') AS same FROM (SELECT * FROM s WHERE name = 'other' UNION ALL SELECT 'null', NULL) AS t;
+SELECT agg_merge(summary) = (SELECT summary FROM s WHERE name = 'other') AS same
+    FROM (SELECT * FROM s WHERE name = 'other' UNION ALL SELECT 'null', NULL) AS t;
 SELECT agg_merge(summary) IS NULL AS none, agg_merge(NULL) IS NULL AS null FROM s WHERE false;
 SELECT summary | NULL IS NULL AS null FROM s WHERE name = 'other';
 SELECT name, agg_merge(summary) OVER (ORDER BY name) = summary AS same FROM s ORDER BY name;
 
 -- collecting rows to a batch
 CREATE TABLE sales (id int, origin int, number bigint, city text, amount bigint, paid boolean);
-INSERT INTO sales VALUES (1, 0, 1, 'oslo', 5, true), (2, 0, 1, 'a "b", c', NULL, false), (3, 0, 2, NULL, 7, NULL), (4, 1, 1, '', 1, true), (5, 1, 1, 'to be dropped', 2, true);
+INSERT INTO sales VALUES (1, 0, 1, 'oslo', 5, true), (2, 0, 1, 'a "b", c', NULL, false), (3, 0, 2, NULL, 7, NULL),
+    (4, 1, 1, '', 1, true), (5, 1, 1, 'to be dropped', 2, true);
 SELECT agg_collect(origin, number, ROW(city, amount, paid) ORDER BY id) FROM sales GROUP BY origin, number ORDER BY origin, number;
 SELECT agg_collect(0, 9, NULL), agg_collect(0, 9, NULL) FILTER (WHERE false) IS NULL AS null;
 ALTER TABLE sales DROP COLUMN id;

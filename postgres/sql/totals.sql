@@ -20,7 +20,8 @@ DECLARE
     own text := replace(query, 'from batches', 'from sales');
     ours text := format('SELECT * FROM agg_rows(%L) AS answer(%s)', summary_of(query), types);
 BEGIN
-    EXECUTE format('SELECT count(*), (SELECT count(*) FROM (%1$s EXCEPT ALL (%2$s)) AS m), (SELECT count(*) FROM ((%2$s) EXCEPT ALL %1$s) AS n) FROM (%1$s) AS o', own, ours)
+    EXECUTE format('SELECT count(*), (SELECT count(*) FROM (%1$s EXCEPT ALL (%2$s)) AS m),
+        (SELECT count(*) FROM ((%2$s) EXCEPT ALL %1$s) AS n) FROM (%1$s) AS o', own, ours)
         INTO rows, missing, more;
 END $$;
 
@@ -29,16 +30,20 @@ SELECT * FROM compared('select city, count(*), count(amount), sum(amount), min(a
     'city text, count bigint, amounts bigint, sum numeric, min bigint, max bigint');
 SELECT * FROM compared('select paid, city, bit_and(amount), bit_or(amount), bit_xor(amount) from batches group by city, paid',
     'paid boolean, city text, bit_and bigint, bit_or bigint, bit_xor bigint');
-SELECT * FROM compared('select city, bool_and(paid), bool_or(paid), every(paid) from batches where amount > 0 or city is null group by city',
+SELECT * FROM compared('select city, bool_and(paid), bool_or(paid), every(paid)
+    from batches where amount > 0 or city is null group by city',
     'city text, bool_and boolean, bool_or boolean, every boolean');
-SELECT * FROM compared('select amount, count(*) filter (where paid) from batches where not (amount > -9990 and paid) group by amount having count(*) > 0',
+SELECT * FROM compared('select amount, count(*) filter (where paid)
+    from batches where not (amount > -9990 and paid) group by amount having count(*) > 0',
     'amount bigint, count bigint');
-SELECT * FROM compared('select count(*), sum(amount) filter (where paid is not true), min(amount) filter (where city = ''nowhere'') from batches',
+SELECT * FROM compared('select count(*), sum(amount) filter (where paid is not true), min(amount) filter (where city = ''nowhere'')
+    from batches',
     'count bigint, sum numeric, min bigint');
 SELECT * FROM compared('select city from batches group by city having sum(amount) > 0', 'city text');
 
 -- in the order of the server's, and as its psql shows it
-SELECT * FROM agg_rows(summary_of('select city, count(*), sum(amount) from batches group by city order by sum desc nulls last')) AS answer(city text, count bigint, sum numeric);
+SELECT * FROM agg_rows(summary_of('select city, count(*), sum(amount) from batches group by city order by sum desc nulls last'))
+    AS answer(city text, count bigint, sum numeric);
 SELECT city, count(*), sum(amount) FROM sales GROUP BY city ORDER BY sum DESC NULLS LAST;
 SELECT agg_open_handles();
 DROP FUNCTION compared;
