@@ -38,7 +38,7 @@ extern void check_status(Handle *handle, uint32_t status);
 /* What a text is in UTF-8, and how long. */
 extern const uint8_t *utf8_text(text *given, size_t *length);
 
-/* Begins work in a memory context of its own, and returns the one outside; ends it, so that what it took is freed and its handles are closed. */
+/* Begins work in a memory context of its own, and returns the one outside; ends it: what it took is freed, and its handles are closed. */
 extern MemoryContext begin_work(void);
 extern void end_work(MemoryContext outside);
 
