@@ -1,7 +1,7 @@
 /* Handles, and the errors of refusals.
  *
  * Errors leave a function by longjmp. None is raised while a call of the library works, since the library calls nothing of the server; and
- * each handle is known to its memory context before the first call on it, so that the end of the context closes it whatever error was raised.
+ * each handle is known to its memory context before the first call on it, so that the end of the context closes it whatever was raised.
  */
 #include "agg_pg.h"
 
