@@ -1,4 +1,4 @@
--- For bin/try_databases: what this prints stands in try.out. Each refusal is an error, behind which it goes on.
+-- For bin/try_databases: what this prints stands in totals.out, and the names of its refusals behind that. It goes on behind an error.
 .mode list
 .nullvalue null
 CREATE TABLE sales (origin INTEGER, number INTEGER, city TEXT, amount INTEGER);
