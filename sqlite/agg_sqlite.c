@@ -26,9 +26,9 @@ static Seeds seeds(void) {
     return seeds;
 }
 
-/* The bytes of a value, which has to be no null; never a null pointer. */
+/* The bytes of a blob, or else of a value's text in UTF-8, which a database may have in another encoding; never a null pointer. */
 static const uint8_t *bytes(sqlite3_value *value, size_t *length) {
-    const void *found = sqlite3_value_blob(value);
+    const void *found = sqlite3_value_type(value) == SQLITE_BLOB ? sqlite3_value_blob(value) : sqlite3_value_text(value);
     *length = (size_t)sqlite3_value_bytes(value);
     return found ? found : (const void *)"";
 }
