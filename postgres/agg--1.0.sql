@@ -102,7 +102,8 @@ CREATE FUNCTION agg_version() RETURNS text
 CREATE FUNCTION agg_open_handles() RETURNS bigint
     AS 'MODULE_PATHNAME', 'pg_agg_open_handles' LANGUAGE C VOLATILE STRICT PARALLEL RESTRICTED;
 
--- The summary of what any of them knows. Null counts for nothing.
+-- The summary of what any of them knows. Null counts for nothing. The planner is told that a state takes 64 kB, so that it sorts where there
+-- are many groups: what the states of a HashAggregate take is not counted in work_mem.
 CREATE FUNCTION agg_merge_step(internal, agg_summary) RETURNS internal
     AS 'MODULE_PATHNAME', 'pg_agg_merge_step' LANGUAGE C IMMUTABLE PARALLEL SAFE COST 1000;
 CREATE FUNCTION agg_merge_combine(internal, internal) RETURNS internal
@@ -114,7 +115,7 @@ CREATE FUNCTION agg_merge_deserialize(bytea, internal) RETURNS internal
 CREATE FUNCTION agg_merge_final(internal) RETURNS agg_summary
     AS 'MODULE_PATHNAME', 'pg_agg_merge_final' LANGUAGE C IMMUTABLE PARALLEL SAFE COST 1000;
 CREATE AGGREGATE agg_merge(agg_summary) (
-    SFUNC = agg_merge_step, STYPE = internal, FINALFUNC = agg_merge_final, FINALFUNC_MODIFY = READ_ONLY,
+    SFUNC = agg_merge_step, STYPE = internal, SSPACE = 65536, FINALFUNC = agg_merge_final, FINALFUNC_MODIFY = READ_ONLY,
     COMBINEFUNC = agg_merge_combine, SERIALFUNC = agg_merge_serialize, DESERIALFUNC = agg_merge_deserialize,
     PARALLEL = SAFE
 );
@@ -131,7 +132,7 @@ CREATE FUNCTION agg_collect_deserialize(bytea, internal) RETURNS internal
 CREATE FUNCTION agg_collect_final(internal) RETURNS text
     AS 'MODULE_PATHNAME', 'pg_agg_collect_final' LANGUAGE C IMMUTABLE PARALLEL SAFE COST 10;
 CREATE AGGREGATE agg_collect(origin integer, number bigint, "row" record) (
-    SFUNC = agg_collect_step, STYPE = internal, FINALFUNC = agg_collect_final, FINALFUNC_MODIFY = READ_ONLY,
+    SFUNC = agg_collect_step, STYPE = internal, SSPACE = 65536, FINALFUNC = agg_collect_final, FINALFUNC_MODIFY = READ_ONLY,
     COMBINEFUNC = agg_collect_combine, SERIALFUNC = agg_collect_serialize, DESERIALFUNC = agg_collect_deserialize,
     PARALLEL = SAFE
 );

@@ -63,18 +63,21 @@ void open_new(Handle *handle, text *columns, text *query) {
     check_status(handle, agg_new(&handle->slot, columns_at, columns_length, query_at, query_length, limit(), seed[0], seed[1]));
 }
 
-/* So many bytes behind a varlena's header, in a memory context. */
+/* So many bytes behind a varlena's header, in a memory context, and a zero behind them. */
 static bytea *room_for(size_t wanted, MemoryContext context) {
+    const size_t most = MaxAllocSize - VARHDRSZ - 1;
     bytea *out;
-    if (!AllocSizeIsValid(wanted + VARHDRSZ)) {
+    if (wanted > most) {
         ereport(ERROR, (errcode(ERRCODE_PROGRAM_LIMIT_EXCEEDED), errmsg("result is too long"),
-                        errdetail("It has %zu bytes, and a value has at most %zu.", wanted, (size_t)(MaxAllocSize - VARHDRSZ))));
+                        errdetail("It has %zu bytes, and may have %zu.", wanted, most)));
     }
-    out = MemoryContextAlloc(context, wanted + VARHDRSZ);
+    out = MemoryContextAlloc(context, wanted + VARHDRSZ + 1);
     SET_VARSIZE(out, wanted + VARHDRSZ);
+    VARDATA(out)[wanted] = '\0';
     return out;
 }
 
+/* What was told last of a handle, so many bytes, in a memory context. */
 static bytea *fetched(Handle *handle, size_t wanted, MemoryContext context) {
     bytea *out = room_for(wanted, context);
     check_status(handle, agg_fetch(&handle->slot, (uint8_t *)VARDATA(out), wanted, &wanted));
@@ -94,8 +97,7 @@ bytea *saved_bytes(Handle *handle, MemoryContext context) {
 
 char *told_text(Handle *handle, size_t wanted) {
     bytea *out = fetched(handle, wanted, CurrentMemoryContext);
-    char *own = pg_any_to_server(VARDATA(out), VARSIZE(out) - VARHDRSZ, PG_UTF8);
-    return own == VARDATA(out) ? pnstrdup(own, VARSIZE(out) - VARHDRSZ) : own;
+    return pg_any_to_server(VARDATA(out), wanted, PG_UTF8);
 }
 
 const uint8_t *utf8_text(text *given, size_t *length) {
@@ -105,12 +107,19 @@ const uint8_t *utf8_text(text *given, size_t *length) {
     return (const uint8_t *)utf8;
 }
 
-/* The sentence of the last refusal, or words that stand for it where there is no memory or none was kept. */
+/* The sentence of the last refusal, or words that stand for it where there is no memory or none was kept. It may have characters that the
+ * server's encoding has not, which are to hide no refusal: a byte that is not ASCII is a question mark where the encoding is not UTF-8. */
 static char *reason_of(Handle *handle) {
     agg_place place;
     size_t wanted = 0;
+    char *sentence;
     if (agg_reason(&handle->slot, &place, &wanted) != AGG_DONE || wanted == 0) return pstrdup("No reason is kept.");
-    return told_text(handle, wanted);
+    sentence = VARDATA(fetched(handle, wanted, CurrentMemoryContext));
+    if (GetDatabaseEncoding() == PG_UTF8) return sentence;
+    for (char *at = sentence; *at != '\0'; at++) {
+        if (IS_HIGHBIT_SET(*at)) *at = '?';
+    }
+    return sentence;
 }
 
 static char *name_of(uint32_t status) {

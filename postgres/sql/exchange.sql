@@ -38,10 +38,13 @@ SELECT 'Grüße' = city AS same
     FROM agg_rows(agg_feed(agg_new('c text', 'select c from batches group by c'), E'batch,0,1,1\nGrüße\n')) AS answer(city text);
 SELECT octet_length(query) - octet_length(replace(query, 'ø', '')) AS bytes
     FROM agg_query(agg_new('c text', 'select c from batches where c = ''ø'' group by c')) AS query;
--- a character that LATIN1 does not have can't be told here, and is in the summary all the same
+-- a character that LATIN1 does not have can't be told here, is in the summary all the same, and hides no refusal
+\set VERBOSITY terse
 CREATE TABLE euro AS
     SELECT agg_feed(agg_new('c text', 'select c from batches group by c'), '\x62617463682c302c312c310ae282ac0a'::bytea) AS summary;
 SELECT agg_answer(summary) FROM euro;
+SELECT agg_feed(agg_new('d bigint', 'select sum(d) from batches'), '\x62617463682c302c312c310ae282ac0a'::bytea);
+\echo :LAST_ERROR_SQLSTATE
 SELECT length(summary::bytea) FROM euro;
 
 \connect :north
@@ -54,7 +57,6 @@ SELECT md5(agg_merge(summary ORDER BY site DESC)::bytea) = :'south' AS equal FRO
 SELECT known.* FROM (SELECT agg_merge(summary) FROM summaries) AS m(summary), agg_known(summary) AS known;
 
 -- damaged on its way
-\set VERBOSITY terse
 \! sed 's/4147/4148/' results/south.copy > results/damaged.copy
 \copy summaries FROM 'results/damaged.copy'
 \! head -c 309 results/south.copy > results/damaged.copy
