@@ -74,11 +74,13 @@ enum {
  * of one that is closed, or used, is memory that was freed. A slot may be moved while no call uses it.
  *
  * Threads. Calls on different slots may run at the same time. A slot is given to one call at a time, of any thread: whoever shares one
- * takes a lock of his own. No call waits, takes a lock, starts a thread, or touches a file. None may be made from a signal handler, or in
- * the child of a fork of a process with threads.
+ * takes a lock of his own, for calls that only ask, too, since each call takes the summary out of its slot and puts it back; for agg_merge
+ * for both slots, always in one order. No call waits, can be interrupted, takes a lock, starts a thread, or touches a file. None may be
+ * made from a signal handler, or in the child of a fork of a process with threads.
  *
- * Pointers. No pointer is null, also where there are no bytes. What a call writes overlaps nothing else that it is given. Texts are UTF-8
- * with their length, and end in no zero.
+ * Pointers. No pointer is null, also where there are no bytes. But for the two slots of agg_merge, what a call writes overlaps nothing else
+ * that it is given. Texts are UTF-8 with their length, and end in no zero. What a call is to write through a pointer, as `wanted`, may be
+ * anything behind a status other than AGG_DONE, unless it is said here.
  */
 typedef struct {
     bool full;
@@ -92,7 +94,7 @@ typedef struct {
 /*
  * Opens a summary that knows nothing, of a query over columns.
  *
- *     agg_new(&slot, "region text, amount bigint", 26, "SELECT region, sum(amount) FROM batches GROUP BY region", 55, AGG_USUAL_LIMIT, s, t)
+ *     agg_new(&slot, "city text, amount bigint", 24, "SELECT city, sum(amount) FROM batches GROUP BY city", 51, AGG_USUAL_LIMIT, s, t)
  *
  * The limit is on the blocks of a table of groups, in bytes, 65,536 to 1,099,511,627,776: what does not keep within it is spilled to tapes
  * in memory. The two seeds are those of the table's hash function: random numbers, where others choose the keys, so that none are chosen
@@ -107,7 +109,8 @@ uint32_t agg_new(agg_slot *slot, const uint8_t *columns, size_t columns_len, con
 /*
  * Opens the summary that the bytes of a summary file are of, in either version of the format. Any bytes may be given.
  *
- * Refused are AGG_ALREADY_OPEN; AGG_LIMIT_OUT_OF_RANGE; and the first fault of the bytes, AGG_BAD_SCHEMA, 20 to 28 or 40 to 46.
+ * Refused are AGG_ALREADY_OPEN; AGG_LIMIT_OUT_OF_RANGE; and the first fault of the bytes, AGG_BAD_SCHEMA, 20 to 28 or 40 to 46. A file of
+ * more than 67,108,864 bytes is read, but its summary cannot be saved again.
  */
 uint32_t agg_load(agg_slot *slot, const uint8_t *file, size_t file_len, uint64_t limit, uint64_t seed_low, uint64_t seed_high);
 
@@ -126,14 +129,15 @@ uint32_t agg_feed(agg_slot *slot, const uint8_t *batch, size_t batch_len, agg_de
 
 /*
  * Feeds the batch of an origin, 0 to 1,023, and a number, 1 to 4,294,967,295, whose rows are records in CSV, `count` of them, without a
- * head: the same as the batch file of these.
+ * head: the same as the batch file of these. As in a batch file, a line without a byte is no record, so that an empty text alone on its
+ * line is written in quotes, the three bytes of a byte order mark at the start are passed over, and \N is null, in quotes, too.
  */
 uint32_t agg_feed_rows(agg_slot *slot, uint32_t origin, uint32_t number, uint32_t count, const uint8_t *rows, size_t rows_len,
                        agg_delivery *delivered);
 
 /*
- * Merges what the summary of another slot knows: afterwards `into` knows what either knew, and `from` is as it was. The order in which
- * summaries are merged, and how often, changes nothing.
+ * Merges what the summary of another slot knows: afterwards `into` knows what either knew, and `from` is as it was, though the call uses
+ * its slot meanwhile. The order in which summaries are merged, and how often, changes nothing.
  *
  * AGG_NOT_OPEN where either slot has no summary, or both are one slot; AGG_DIFFERENT_QUERY; AGG_ORIGIN_DISAGREES.
  */
@@ -143,8 +147,8 @@ uint32_t agg_merge(agg_slot *into, agg_slot *from);
 uint32_t agg_merge_bytes(agg_slot *slot, const uint8_t *file, size_t file_len);
 
 /*
- * What is long is kept in the slot, and fetched by agg_fetch until another of these calls succeeds on it. Each tells in `wanted` how long
- * it is. AGG_NOT_OPEN, and then `wanted` may be anything.
+ * What is long is kept in the slot, and fetched by agg_fetch until another of these calls, or agg_reason, succeeds on it. Each tells in
+ * `wanted` how long it is. It takes memory until then: agg_query takes its place by a short text. AGG_NOT_OPEN.
  */
 
 /* The summary file: at most 67,108,864 bytes, the same from every program that knows the same batches. AGG_INPUT_TOO_LONG. */
@@ -174,8 +178,9 @@ typedef struct {
 } agg_place;
 
 /*
- * The sentence of the last call on the slot that was refused, as agg_tool says it, which is for people; no bytes where none was refused.
- * Of AGG_NOT_OPEN and AGG_ALREADY_OPEN nothing is kept. It works on a slot without a summary, too, behind a refusal of agg_new or agg_load.
+ * The sentence of the last call on the slot that was refused by a status from 10 on, which is for people: as agg_tool says it, or a short
+ * one of agg_feed_rows and where there was no memory for that; no bytes where none was refused. Ask for it behind such a status, before
+ * other calls on the slot. It works on a slot without a summary, too, behind a refusal of agg_new or agg_load.
  */
 uint32_t agg_reason(agg_slot *slot, agg_place *place, size_t *wanted);
 

@@ -3,16 +3,16 @@
 
     examples/dask/tree.py                 runs by 1, 2 and 4 workers, one with a worker killed, one with each share twice
     examples/dask/tree.py --rows 1000     smaller batches; 16,384 rows where none are said
-    AGG_LIBRARY=FOLDER/libagg.so.1 examples/dask/tree.py    by the package in python/ and a library of bin/library, else by the one installed
-    PROGRAM=/usr/bin/agg_tool examples/dask/tree.py         the one process is agg_tool, else one of the package's
+    AGG_LIBRARY=FOLDER/libagg.so.1 examples/dask/tree.py    by the package in python/ over that library, else by the one installed
+    PROGRAM=/usr/bin/agg_tool examples/dask/tree.py         the one process is agg_tool, else it is one of the package's
 
 It makes batch files of 16 origins, 4 each, and has one process feed them all. Then a scheduler and workers are started as processes of
 their own, which speak over the loopback address alone. Each share, the batches of an origin, is fed by a task, and the summaries are
-merged two by two by tasks above (agg.dask.summarize). What is left at the end is compared, byte for byte, with the summary of the one process.
+merged two by two by tasks above (agg.dask.summarize). What is left at the end is compared, byte for byte, with the summary of the one.
 
-Needs Python 3.9 and Dask's distributed: on Debian python3-distributed, which is for /usr/bin/python3. All files lie in a new folder, which
-is removed. Standard output has a line for each run; on standard error Dask may say that it lost a worker, which it did, or that closing took
-long. The status is 0 where all bytes are equal, and 1 else.
+Needs Python 3.9 and Dask's distributed: on Debian python3-distributed, which is for /usr/bin/python3. All files lie in a new folder,
+which is removed. Standard output has a line for each run; on standard error Dask may say that it lost a worker, which it did, or that
+closing took long. The status is 0 where all bytes are equal, and 1 else.
 """
 
 import argparse

@@ -151,8 +151,17 @@ def _first_bad(columns: Sequence[Column], values: List[List[Any]]) -> Optional[B
     return None
 
 
-def as_csv(columns: Sequence[Column], rows: Any) -> Tuple[int, bytes]:
-    """How many rows there are, and their records in CSV. What no field stands for is a `BadField`, another width a `WrongWidth`."""
+def with_value(columns: Sequence[Column], values: Sequence[Sequence[Any]], why: BadField) -> BadField:
+    """A refusal of the library, with the value of which it was said."""
+    row, number = why.place.row, why.place.column
+    if row is None or number is None:
+        return why
+    column, value = columns[number], values[number][row]
+    return BadField(f"{why.sentence}: {column.name} {column.kind}: {_shown(value)}", why.place)
+
+
+def as_csv(columns: Sequence[Column], rows: Any) -> Tuple[List[List[Any]], bytes]:
+    """The values of each column, and the records in CSV. What no field stands for is a `BadField`, another width a `WrongWidth`."""
     if hasattr(rows, "__dataframe__"):
         values = _frames.columns_of(columns, rows)
     else:
@@ -162,10 +171,10 @@ def as_csv(columns: Sequence[Column], rows: Any) -> Tuple[int, bytes]:
     if any(len(column) != count for column in values):
         raise WrongWidth("the columns of the data frame have different lengths")
     if count == 0:
-        return 0, b""
+        return values, b""
     fields = [_fields(column, number, values[number]) for number, column in enumerate(columns)]
     text = "\n".join(map(",".join, zip(*fields)))
     try:
-        return count, text.encode() + b"\n"
+        return values, text.encode() + b"\n"
     except UnicodeEncodeError:
         raise _first_bad(columns, values) or AssertionError from None

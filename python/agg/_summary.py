@@ -7,7 +7,7 @@ import os
 from typing import TYPE_CHECKING, Any, Dict, List, NamedTuple, Optional, Tuple, Type, Union
 
 from . import _answers, _columns, _library, _rows
-from .errors import BadBatchHead, LimitOutOfRange, TooManyRows
+from .errors import BadBatchHead, BadField, LimitOutOfRange, TooManyRows
 
 if TYPE_CHECKING:
     import pandas
@@ -141,10 +141,15 @@ class Summary:
         head = _number(origin, 32), _number(number, 32)
         if None in head:
             raise BadBatchHead(f"origin {origin}, number {number}: an origin is 0 to 1023, a number 1 to 4294967295")
-        count, data = _rows.as_csv(_columns.batch_columns(self._columns), rows)
+        columns = _columns.batch_columns(self._columns)
+        values, data = _rows.as_csv(columns, rows)
+        count = len(values[0])
         if _number(count, 32) is None:
             raise TooManyRows(f"{count} rows: a batch has at most 1048576")
-        return self._delivered(*self._handle.deliver(_library.LIBRARY.agg_feed_rows, *head, count, data, len(data)))
+        try:
+            return self._delivered(*self._handle.deliver(_library.LIBRARY.agg_feed_rows, *head, count, data, len(data)))
+        except BadField as why:
+            raise _rows.with_value(columns, values, why) from None
 
     def merge(self, other: Union[Summary, Bytes]) -> None:
         """Learns what another summary knows, or what the bytes of one do. The other stays as it is."""

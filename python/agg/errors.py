@@ -57,7 +57,6 @@ class UnknownRefusal(Refused):
 
     def __init__(self, sentence: str, place: Place = Place(), path: Optional[str] = None, status: int = 0, name: str = "") -> None:
         super().__init__(sentence, place, path)
-        self.args = (sentence, place, path, status, name)
         self.status = status
         self._name = name
 

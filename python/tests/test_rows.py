@@ -68,11 +68,12 @@ class Rows(unittest.TestCase):
     def test_values_that_no_field_stands_for(self):
         self.refused(agg.errors.BadField, {"row": 1, "column": 0}, ("a", 1, None), ("\\N", 1, None))
         self.refused(agg.errors.BadField, {"row": 1, "column": 0}, ("a", 1, None), ("\ud800", 1, None))
-        self.refused(agg.errors.BadField, {"row": 0, "column": 0}, ("a\0b", 1, None))
+        self.assertIn("city text: 'a\\x00b'", self.refused(agg.errors.BadField, {"row": 0, "column": 0}, ("a\0b", 1, None)))
         self.refused(agg.errors.BadField, {"row": 0, "column": 0}, ("x" * 256, 1, None))
         self.refused(agg.errors.BadField, {"row": 0, "column": 0}, ("å" * 128, 1, None))
         for number in (2**63, -(2**63) - 1, 2**64, 2**100, -(2**100), 10**5_000):
-            self.refused(agg.errors.BadField, {"row": 1, "column": 1}, ("a", 1, None), ("a", number, None))
+            sentence = self.refused(agg.errors.BadField, {"row": 1, "column": 1}, ("a", 1, None), ("a", number, None))
+            self.assertIn("amount bigint: ", sentence)
 
     def test_widths(self):
         self.refused(agg.errors.WrongWidth, {"row": 1}, ("a", 1, None), ("a", 1))

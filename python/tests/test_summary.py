@@ -21,6 +21,10 @@ class Feeding(unittest.TestCase):
         self.assertEqual(summary.feed_rows(1, 1, []).upto, 1)
         self.assertEqual(summary.known(), {0: (2, (5, 9)), 1: (1, ())})
         self.assertEqual(summary.missing(), {0: [range(3, 5), range(6, 9)]})
+        summary.feed_rows(0, 6, [])
+        self.assertEqual(summary.missing(), {0: [range(3, 5), range(7, 9)]})
+        summary.feed_rows(2, 1, []), summary.feed_rows(2, 4_294_967_295, [])
+        self.assertEqual(summary.missing()[2], [range(2, 4_294_967_295)])
 
     def test_rows_and_the_batch_file_of_them_are_the_same(self):
         for seed in range(40):

@@ -77,6 +77,33 @@ class Threads(unittest.TestCase):
         for summary in ring:
             self.assertEqual(bytes(summary), bytes(self.wanted))
 
+    def test_merging_uses_both(self):
+        # While one is merged into another, neither is for others: not the one that was made first, and not the other.
+        one, other = self.large(), self.large()
+        for into, source in ((one, other), (other, one)):
+            ended, thread = [], threading.Thread(target=lambda: [into.merge(source) for _ in range(10)])
+            thread.start()
+            while thread.is_alive():
+                ended.append((len(into.known()), len(source.known())))
+            thread.join()
+            self.assertEqual(set(ended), {(1, 1)})
+
+    def test_merging_each_into_the_other(self):
+        one, other = self.large(), self.large()
+        pairs = ((one, other), (other, one)) * 2
+        threads = [threading.Thread(target=lambda into=into, source=source: [into.merge(source) for _ in range(20)], daemon=True)
+                   for into, source in pairs]  # fmt: skip
+        for thread in threads:
+            thread.start()
+        for thread in threads:
+            thread.join(timeout=120)
+            self.assertFalse(thread.is_alive(), "they wait for each other")
+
+    def large(self):
+        summary = new()
+        summary.feed_rows(0, 1, [("city" + str(number), number, None) for number in range(10_000)])
+        return summary
+
     def test_others_run_while_a_call_works(self):
         rows = batch(0, 1, [("city" + str(number), number, None) for number in range(100_000)])
         summary, counted, ended = new(), [0], threading.Event()
@@ -130,6 +157,22 @@ class Memory(unittest.TestCase):
         gc.collect()
         # Where one summary in ten were lost, there would be ten of them.
         self.assertLess((resident() - before) * 4_096, 10 * length)
+
+    def test_a_long_text_is_not_kept(self):
+        summary = new()
+        # A batch that waits, so that its rows are in the bytes.
+        summary.feed_rows(0, 2, [("x" * 250, number, None) for number in range(30_000)])
+        length = len(bytes(summary))
+        gc.collect()
+        before = resident()
+        for _ in range(5):
+            self.assertEqual(len(bytes(summary)), length)
+        other = new()
+        other.feed_rows(0, 2, [("x" * 250, number, None) for number in range(30_000)])
+        feeding = resident() - before
+        bytes(other)
+        gc.collect()
+        self.assertLess((resident() - before - feeding) * 4_096, length // 2)
 
 
 if __name__ == "__main__":

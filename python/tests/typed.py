@@ -10,7 +10,8 @@ from agg import errors
 
 
 def use(path: str) -> int:
-    sales = agg.Summary(columns="city text, amount bigint", query="SELECT city, sum(amount) FROM batches GROUP BY city", limit=agg.USUAL_LIMIT)
+    query = "SELECT city, sum(amount) FROM batches GROUP BY city"
+    sales = agg.Summary(columns="city text, amount bigint", query=query, limit=agg.USUAL_LIMIT)
     delivered: agg.Delivered = sales.feed_rows(0, 1, [("oslo", 5)])
     upto: Optional[int] = delivered.upto
     sales.feed(b"batch,0,2,0\n")

@@ -44,10 +44,14 @@ abbrev pub Loads : (file : List ℕ) (limit : ℕ) → Result SessionState Refus
 Loads file limit (Ok s) = LoadsFile file (Ok s.held) × (s.limit ≡ limit)
 Loads file limit (Err why) = IsNoLimit limit why ⊎ LoadsFile file (Err why)
 
--- the batch file that two numbers, a number of rows and their records make
+-- the batch file of an origin, a number and a number of rows, as they are spelled, and the records behind them
+abbrev pub file_of : (origin number : List ℕ) (count : ℕ) (rows : List ℕ) → Option BatchFile
+file_of origin number count rows =
+    Some (record { head = record { origin = origin; number = number; told = count }; records = csv.records_of rows })
+
+-- the same of numbers
 abbrev pub batch_of : (origin number count : ℕ) → (rows : List ℕ) → Option BatchFile
-batch_of origin number count rows =
-    Some (record { head = record { origin = decimal origin; number = decimal number; told = count }; records = csv.records_of rows })
+batch_of origin number count rows = file_of (decimal origin) (decimal number) count rows
 
 -- a batch file is fed as `feed` feeds it, over honest tapes
 pub record FeedsSession (file : Option BatchFile) (old new : SessionState) (result : Result Delivered Refusal) : Type 0 where

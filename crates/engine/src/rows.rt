@@ -1,10 +1,11 @@
 //! The batch of some rows whose origin and number are told beside them.
 
-ghost use Rattle.std.specs.Prelude.{IfOk, IfErr, decimal};
+ghost use Rattle.std.specs.Prelude.{◌≡◌, ◌≢◌, [], IfOk, IfErr, decimal};
 ghost use Rattle.packed_rows.specs.Columns.{kinds};
 ghost use Rattle.batch_reader.specs.File.{FileFault};
 ghost use Rattle.command_replicas.specs.Commands.{IsReadOf};
-ghost use Rattle.engine.specs.Calls.{batch_of};
+ghost use Rattle.engine.specs.Calls.{batch_of, file_of};
+ghost use Rattle.batch_reader.specs.declared.error.BatchError.TheVariants.{NoMemory, RowCount};
 ghost use Rattle.script_io.specs.Records.{records_of};
 ghost use Rattle.replies.specs.Batches.{IsRead};
 
@@ -13,6 +14,18 @@ use itoa::Buffer;
 use packed_rows::Schema;
 use script_io::Records;
 use std::alloc::Global;
+
+/// Why no batch is read where more records come than are told, or else for another reason. Want of memory is `NoMemory`.
+fn why_unread(records: &mut Records<'_>, otherwise: BatchError) -> BatchError
+    ensures none { records.old ≡ [] → (result ≢ NoMemory) → result ≡ otherwise }
+    ensures more { records.old ≢ [] → (result ≢ NoMemory) → result ≡ RowCount }
+{
+    match records.next() {
+        Ok(None) => otherwise,
+        Ok(Some(_)) => BatchError::RowCount,
+        Err(_) => BatchError::NoMemory,
+    }
+}
 
 /// The batch of all records that are left, by the rules of batch files.
 fn read_left(
@@ -24,18 +37,27 @@ fn read_left(
     rows: &[u8],
 ) -> Result<Batch, BatchError>
     ensures read { IfOk result (IsRead (kinds schema.now) origin.now number.now count (records_of rows.now)) }
-    ensures refused { IfErr result (FileFault (kinds schema.now)
-        (Some (record { head = record { origin = origin.now; number = number.now; told = count }; records = records_of rows.now }))) }
+    ensures refused { IfErr result (FileFault (kinds schema.now) (file_of origin.now number.now count rows.now)) }
 {
     let mut records = Records::new(alloc, rows);
-    let built = read_rows(alloc, schema, origin, number, count, &mut records)?;
-    if let Err(why @ (BatchError::BadBatchHead | BatchError::TooManyRows)) = built {
-        return Err(why);
+    match read_rows(alloc, schema, origin, number, count, &mut records)? {
+        Ok(batch) => {
+            if records.next()?.is_some() {
+                return Err(BatchError::RowCount);
+            }
+            return Ok(batch);
+        }
+        Err(BatchError::NoMemory) => return Err(BatchError::NoMemory),
+        Err(BatchError::BadBatchHead) => return Err(BatchError::BadBatchHead),
+        Err(BatchError::TooManyRows) => return Err(BatchError::TooManyRows),
+        Err(BatchError::RowCount) => return Err(BatchError::RowCount),
+        Err(BatchError::WrongWidth { row }) => {
+            return Err(why_unread(&mut records, BatchError::WrongWidth { row }));
+        }
+        Err(BatchError::BadField { row, column }) => {
+            return Err(why_unread(&mut records, BatchError::BadField { row, column }));
+        }
     }
-    if records.next()?.is_some() {
-        return Err(BatchError::RowCount);
-    }
-    built
 }
 
 /// The batch of an origin and a number whose rows are records in CSV, as many as are told. The first refusal is told, in the order of

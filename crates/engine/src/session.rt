@@ -70,10 +70,13 @@ impl Session {
         ensures { Creates columns.now query.now limit result }
     {
         let means = means_of(limit, seed)?;
-        let (Ok(columns), Ok(query)) = (from_utf8(columns), from_utf8(query)) else {
+        let Ok(told) = from_utf8(columns) else {
             return Err(Refusal::BadCommand);
         };
-        match command_replicas::create(alloc, columns, query) {
+        let Ok(asked) = from_utf8(query) else {
+            return Err(Refusal::BadCommand);
+        };
+        match command_replicas::create(alloc, told, asked) {
             Ok(replica) => Ok(Session {
                 alloc,
                 replica,

@@ -12,7 +12,9 @@ use Rattle.origin_prefix.specs.Errors.{join_reason}
 use Rattle.origin_prefix.specs.Parts.{aggregations_on}
 use Rattle.origin_prefix.specs.declared.error.RefusedBatch.{RefusedBatch}
 use Rattle.replica_merge.specs.DeliveryLaws.{delivery_agreed, delivery_refused}
+use Rattle.replica_merge.specs.Replicas.{DeliversAt}
 use Rattle.replica_merge.specs.Results.{DeliversBatch}
+use Rattle.replies.specs.BatchLaws.{fed_of, read_is_fed}
 use Rattle.replies.specs.FeedLaws.{taken_read, refused_not_of_batch, refused_disagrees, refused_other}
 use Rattle.replies.specs.RefusalLaws.{batch_never_disagrees, batch_tells, batch_undamaged, join_reasons, no_fault_in, reason_faults}
 use Rattle.replies.specs.Refusals.{refusal_reason, refused_batch}
@@ -26,7 +28,7 @@ use Rattle.tape_disks.specs.DiskLaws.{leaves_none}
 use Rattle.tape_disks.specs.declared.disk.TapeDisk.{Ghosts}
 use Rattle.script_machine.proofs.FeedLaws.{feed_alike, feed_apart, feed_worked}
 use Rattle.script_machine.proofs.StoreLaws.{disagrees_or, feed_disagrees, feed_refused, feed_tells, feed_took, same_updated}
-use Rattle.script_machine.proofs.Words.{BatchError, DiskFrame, Executes, Held, IsNoBatch, IsOfBatch, IsRead, IsStore, Record, Refusal}
+use Rattle.script_machine.proofs.Words.{BatchError, DiskFrame, Executes, Held, IsNoBatch, IsOfBatch, IsRead, IsStore, Record}
 use Rattle.script_machine.proofs.Words.{Steps, Store, TellsDisagreement, Updates, WorksAtLimit, batch_refusal, is_tape_fault, kinds}
 use Rattle.script_machine.proofs.Words.{meaning, no_work, part_of, replica_at, setting_at}
 
@@ -87,7 +89,17 @@ module _ {D : Type 0} (g : Ghosts D) (old new : Store) (name origin number : Lis
         → Executes g (ask.Feed name origin number told) owned old before (says.Delivered delivered) new after
     feed_taken delivered d disk none counted = record {
       answers = feed_took old new name origin number told owned held later delivered is there
-          (taken_read (g.honest before) held batch later delivered d origin number told owned read) u;
+          (taken_read (g.honest before) held batch later delivered d origin number told owned read)
+          (record {
+            held = held;
+            later = later;
+            fed = fed_of batch read.rows;
+            there = there;
+            is_batch = read_is_fed (kinds held.query.columns) origin number told owned batch read;
+            delivers = subst (λ packed. DeliversAt (g.honest before) held.query held.parts batch.origin batch.number packed later.parts
+                delivered) read.packed d.taken;
+            updates = u;
+          }) u;
       tells = (
         held,
         there,

@@ -3,6 +3,7 @@ pub mod FeedLaws
 pub mod StoreLaws
 pub mod ExecuteLaws
 pub mod RunLaws
+pub mod EndLaws
 pub mod ReplyLaws
 pub mod SomeReply
 pub mod SameLaws

@@ -1,85 +1,52 @@
--- How a run goes on from one command to the next.
-use Rattle.std.specs.Prelude.{◌≡◌, ◌≤◌, ◌+◌, refl, ℕ, Bool, false, IsTrue, codes, if◌then◌else◌, List, [], ◌∷◌, ◌++◌, length, map, count_by}
-use Rattle.std.specs.Prelude.{Option, Some, None, IfSome, IfErr, Result, Ok, Err, MatchResult}
-use Rattle.std.proofs.Common.{◌∙◌, ap, sym, subst, arith, append_assoc, inl}
-use Rattle.std.proofs.lemmas.List.{append-nil}
+-- What follows of commands that are executed one after the other.
+use Rattle.std.specs.Prelude.{◌≡◌, ◌+◌, refl, ℕ, zero, suc, Bool, IsTrue, if◌then◌else◌, List, [], ◌∷◌, ◌++◌, length, map}
+use Rattle.std.specs.Prelude.{sum_by, count_by, take, codes, Option}
+use Rattle.std.proofs.Common.{◌∙◌, ap, sym, subst, arith, append_assoc}
+use Rattle.std.proofs.lemmas.List.{append-nil, append_cancel_left, append_cancel_right}
 use Rattle.std.proofs.Math.Nat.{le_trans}
-use Rattle.std.proofs.lemmas.List.Sums.{sum_by-append}
+use Rattle.std.proofs.lemmas.List.Sums.{sum_by-cons, sum_by-append}
 use Rattle.std.proofs.lemmas.Grind.{flat_map-append}
-use Rattle.std.specs.Io.KnownBytes.{Appends, Consumes, IsAtEnd}
-use Rattle.std.specs.Result.{IsErrAnd}
-use Rattle.std.proofs.KnownBytes.{Appends-nil, Appends-trans, Keeps-refl}
-use Rattle.script_machine.proofs.Words.{DiskFrame, World, Record, Command, request_of, State, Refused, Run, StrictRun, MayReply, IsReply}
-use Rattle.script_machine.proofs.Words.{Agrees, AgreesAt, start, after, is_refused, is_fault, line, refusal_name, said_text, is_refusal}
-use Rattle.script_machine.proofs.Words.{faults_in, run_error, Store, empty, Represents, FitsWorld, Answers, Steps}
+use Rattle.std.specs.Io.KnownBytes.{Appends}
+use Rattle.std.proofs.KnownBytes.{Appends-nil, Appends-trans}
+use Rattle.script_machine.proofs.Words.{DiskFrame, World, Record, Command, request_of, State}
+use Rattle.script_machine.proofs.Words.{Refused, Run, StrictRun, Step, Along, MayReply}
+use Rattle.script_machine.proofs.Words.{IsReply, Agrees, AgreesAt, As_always, For_memory, start, after, is_refused, is_fault, line}
+use Rattle.script_machine.proofs.Words.{refusal_name, said_text, is_refusal, faults_in, Store, empty, Represents, FitsWorld}
+use Rattle.script_machine.proofs.Words.{Answers, Steps, Executes, Executed, ExecutesAllBut, AreWritten, said_texts}
 use Rattle.tape_disks.specs.declared.disk.TapeDisk.{Ghosts}
-use Rattle.script_io.specs.declared.fused.Fused.{Fused}
-use Rattle.script_io.specs.Fused.{FailsAsTold}
-use Rattle.script_io.specs.Input.{StopsReading, is_read_fault}
 use Rattle.script_io.specs.Output.{StopsShort}
-use Rattle.script_io.specs.declared.input.InputError.{InputError}
-use Rattle.script_io.specs.declared.input.InputError.TheVariants as input
-use Rattle.script_io.specs.InputLaws.{consumes-all, consumes-longer}
 use Rattle.script_io.specs.OutputLaws.{short-first, short-second}
 use Rattle.script_commands.specs.Commands.{Request}
+use Rattle.script_machine.specs.Headline.{AreRight}
 use Rattle.script_machine.specs.Machine.{Reply}
-use Rattle.script_machine.specs.Text.{MayRead, AllMayRead, joined, reply_text, replies_text}
-use Rattle.script_machine.specs.Output.{Disk, IsOutput, WritesFront, WritesBefore, WritesSome, StopsAt, commands_in, tells_read_fault}
-use Rattle.script_machine.specs.Output.{tells_write_fault}
+use Rattle.script_machine.specs.Text.{AllMayRead, joined, reply_text, replies_text}
+use Rattle.script_machine.specs.Output.{Disk, IsOutput, WritesAll, WritesFront, disk_over}
 use Rattle.replies.specs.declared.refusal.Refusal.TheVariants.{NoMemory}
-use Rattle.replies.specs.declared.error.RunError.{RunError}
-use Rattle.replies.specs.declared.error.RunError.TheVariants as stop
 use Rattle.replies.specs.declared.reply.Reply as code
 
--- an error passed on has what the error that it is has
-pub passed_as : {T E : Type 0} (result : Result T E) (e : E) (P : T → Type 0) (Q : E → Type 0) → IsErrAnd result (λ x. x ≡ e) → Q e
-    → MatchResult result P Q
-passed_as (Ok x) e P Q failed q = absurd failed
-passed_as (Err x) e P Q failed q = subst Q (sym failed) q
+-- ---- steps all along
 
--- what is there after replies
-abbrev pub state_after : State → List Reply → State
-state_after old [] = old
-state_after old (reply ∷ replies) = state_after (after old reply) replies
+along_length : (step : Step) (old : State) (cs : List Command) (xs : List Reply) → Along step old cs xs → length xs ≡ length cs
+unfolding Along
+along_length step old [] [] p = refl
+along_length step old (c ∷ cs) (x ∷ xs) p = ap suc (along_length step (after old x) cs xs p.1)
+along_length step old [] (x ∷ xs) p = absurd p
+along_length step old (c ∷ cs) [] p = absurd p
 
-state_append : (old : State) (xs ys : List Reply) → state_after old (xs ++ ys) ≡ state_after (state_after old xs) ys
-state_append old [] ys = refl
-state_append old (x ∷ xs) ys = state_append (after old x) xs ys
+along_append : (step : Step) (old : State) (cs ds : List Command) (xs ys : List Reply) → Along step old cs xs
+    → ((later : State) → Along step later ds ys) → Along step old (cs ++ ds) (xs ++ ys)
+unfolding Along
+along_append step old [] ds [] ys p q = q old
+along_append step old (c ∷ cs) ds (x ∷ xs) ys p q = (p.0, along_append step (after old x) cs ds xs ys p.1 q)
+along_append step old [] ds (x ∷ xs) ys p q = absurd p
+along_append step old (c ∷ cs) ds [] ys p q = absurd p
 
-run_append : (honest : Bool) (old : State) (cs ds : List Command) (xs ys : List Reply) → Run honest old cs xs
-    → Run honest (state_after old xs) ds ys → Run honest old (cs ++ ds) (xs ++ ys)
-unfolding Run
-run_append honest old [] ds [] ys p q = q
-run_append honest old (c ∷ cs) ds (x ∷ xs) ys p q = (p.0, run_append honest (after old x) cs ds xs ys p.1 q)
-run_append honest old [] ds (x ∷ xs) ys p q = absurd p
-run_append honest old (c ∷ cs) ds [] ys p q = absurd p
-
-run_one : (honest : Bool) (old : State) (c : Command) (x : Reply) → MayReply honest old (request_of c.head) c.owned x
-    → Run honest old (c ∷ []) (x ∷ [])
-unfolding Run
-run_one honest old c x p = (p, tt)
-
-run_none : (honest : Bool) → Run honest start [] []
-unfolding Run
-run_none honest = tt
-
--- each command may be refused for want of memory
-abbrev pub refusals : List Command → List Reply
-refusals commands = map (λ c. Refused NoMemory) commands
-
-run_refused : (honest : Bool) (old : State) (cs : List Command) → Run honest old cs (refusals cs)
-unfolding Run
-run_refused honest old [] = tt
-run_refused honest old (c ∷ cs) = (inl (inl (inl (inl refl))), run_refused honest old cs)
-
--- the texts of such refusals, and of replies one behind the other
-abbrev pub refusal_texts : List Command → List (List ℕ)
-refusal_texts commands = map (λ c. line (codes "refused ") (refusal_name NoMemory)) commands
-
-reads_refused : (cs : List Command) → AllMayRead (refusals cs) (refusal_texts cs)
+reads_length : (xs : List Reply) (ts : List (List ℕ)) → AllMayRead xs ts → length ts ≡ length xs
 unfolding AllMayRead
-reads_refused [] = tt
-reads_refused (c ∷ cs) = (λ world. refl, reads_refused cs)
+reads_length [] [] p = refl
+reads_length (x ∷ xs) (t ∷ ts) p = ap suc (reads_length xs ts p.1)
+reads_length [] (t ∷ ts) p = absurd p
+reads_length (x ∷ xs) [] p = absurd p
 
 reads_append : (xs ys : List Reply) (ts us : List (List ℕ)) → AllMayRead xs ts → AllMayRead ys us → AllMayRead (xs ++ ys) (ts ++ us)
 unfolding AllMayRead
@@ -88,197 +55,213 @@ reads_append (x ∷ xs) ys (t ∷ ts) us p q = (p.0, reads_append xs ys ts us p.
 reads_append [] ys (t ∷ ts) us p q = absurd p
 reads_append (x ∷ xs) ys [] us p q = absurd p
 
-reads_one : (x : Reply) (t : List ℕ) → MayRead x t → AllMayRead (x ∷ []) (t ∷ [])
-unfolding AllMayRead
-reads_one x t p = (p, tt)
+-- replies and their texts are right, one after the other, for as long as a world has what is fed
+unfoldable pub RightAlong : World → State → List Command → List Reply → List (List ℕ) → Type 0
+RightAlong world old [] [] [] = Unit {0}
+RightAlong world old (c ∷ cs) (x ∷ xs) (t ∷ ts) = AgreesAt world old (request_of c.head) c.owned x
+    → IsReply old (request_of c.head) c.owned x × (t ≡ reply_text world x) × RightAlong world (after old x) cs xs ts
+RightAlong world old cs xs ts = ⊥
 
-reads_none : AllMayRead [] []
-unfolding AllMayRead
-reads_none = tt
+right_append : (world : World) (old : State) (cs ds : List Command) (xs ys : List Reply) (ts us : List (List ℕ))
+    → RightAlong world old cs xs ts → ((later : State) → RightAlong world later ds ys us)
+    → RightAlong world old (cs ++ ds) (xs ++ ys) (ts ++ us)
+unfolding RightAlong
+right_append world old [] ds [] ys [] us p q = q old
+right_append world old (c ∷ cs) ds (x ∷ xs) ys (t ∷ ts) us p q = λ agrees.
+    let here = p agrees in
+    (here.0, here.1, right_append world (after old x) cs ds xs ys ts us here.2 q)
+right_append world old [] ds [] ys (t ∷ ts) us p q = absurd p
+right_append world old [] ds (x ∷ xs) ys ts us p q = absurd p
+right_append world old (c ∷ cs) ds [] ys ts us p q = absurd p
+right_append world old (c ∷ cs) ds (x ∷ xs) ys [] us p q = absurd p
 
-refused_right : (world : World) (cs : List Command) → joined (refusal_texts cs) ≡ replies_text world (refusals cs)
-refused_right world [] = refl
-refused_right world (c ∷ cs) = ap (λ l. line (codes "refused ") (refusal_name NoMemory) ++ l) (refused_right world cs)
+-- then those of each front are right
+front_right : (world : World) (old : State) (cs : List Command) (xs : List Reply) (ts : List (List ℕ)) → RightAlong world old cs xs ts
+    → (n : ℕ) → Agrees world old (take n cs) (take n xs)
+    → StrictRun old (take n cs) (take n xs) × (joined (take n ts) ≡ replies_text world (take n xs))
+unfolding RightAlong Along
+front_right world old cs xs ts right zero agrees = (tt, refl)
+front_right world old [] [] [] right (suc n) agrees = (tt, refl)
+front_right world old (c ∷ cs) (x ∷ xs) (t ∷ ts) right (suc n) agrees =
+    let here = right agrees.0 in
+    let rest = front_right world (after old x) cs xs ts here.2 n agrees.1 in
+    ((here.0, rest.0), λ i. here.1 i ++ rest.1 i)
+front_right world old [] [] (t ∷ ts) right (suc n) agrees = absurd right
+front_right world old [] (x ∷ xs) ts right (suc n) agrees = absurd right
+front_right world old (c ∷ cs) [] ts right (suc n) agrees = absurd right
+front_right world old (c ∷ cs) (x ∷ xs) [] right (suc n) agrees = absurd right
 
-strict_refused : (old : State) (cs : List Command) → StrictRun old cs (refusals cs)
-unfolding StrictRun
-strict_refused old [] = tt
-strict_refused old (c ∷ cs) = (inl (inl refl), strict_refused old cs)
+-- ---- commands that are executed
 
-strict_append : (old : State) (cs ds : List Command) (xs ys : List Reply) → StrictRun old cs xs → StrictRun (state_after old xs) ds ys
-    → StrictRun old (cs ++ ds) (xs ++ ys)
-unfolding StrictRun
-strict_append old [] ds [] ys p q = q
-strict_append old (c ∷ cs) ds (x ∷ xs) ys p q = (p.0, strict_append (after old x) cs ds xs ys p.1 q)
-strict_append old [] ds (x ∷ xs) ys p q = absurd p
-strict_append old (c ∷ cs) ds [] ys p q = absurd p
+-- a disk is as honest as it was
+honest_steps : (was is : Bool) (request : Request) (owned : List Record) (store next : Store) (reply : code.Reply) → is ≡ was
+    → Steps is request owned store reply next → Steps was request owned store reply next
+honest_steps was is request owned store next reply same steps = subst (λ h. Steps h request owned store reply next) same steps
 
-strict_one : (old : State) (c : Command) (x : Reply) → IsReply old (request_of c.head) c.owned x → StrictRun old (c ∷ []) (x ∷ [])
-unfolding StrictRun
-strict_one old c x p = (p, tt)
-
-strict_none : StrictRun start [] []
-unfolding StrictRun
-strict_none = tt
-
-agrees_front : (honest : Bool) (world : World) (old : State) (cs ds : List Command) (xs ys : List Reply) → Run honest old cs xs
-    → Agrees world old (cs ++ ds) (xs ++ ys) → Agrees world old cs xs
-unfolding Run Agrees
-agrees_front honest world old [] ds [] ys run all = tt
-agrees_front honest world old (c ∷ cs) ds (x ∷ xs) ys run all = (all.0, agrees_front honest world (after old x) cs ds xs ys run.1 all.1)
-agrees_front honest world old [] ds (x ∷ xs) ys run all = absurd run
-agrees_front honest world old (c ∷ cs) ds [] ys run all = absurd run
-
-agrees_next : (honest : Bool) (world : World) (old : State) (cs ds : List Command) (c : Command) (xs ys : List Reply) (y : Reply)
-    → Run honest old cs xs → Agrees world old (cs ++ c ∷ ds) (xs ++ y ∷ ys)
-    → AgreesAt world (state_after old xs) (request_of c.head) c.owned y
-unfolding Run Agrees
-agrees_next honest world old [] ds c [] ys y run all = all.0
-agrees_next honest world old (d ∷ cs) ds c (x ∷ xs) ys y run all = agrees_next honest world (after old x) cs ds c xs ys y run.1 all.1
-agrees_next honest world old [] ds c (x ∷ xs) ys y run all = absurd run
-agrees_next honest world old (d ∷ cs) ds c [] ys y run all = absurd run
-
-count_one : (reply : Reply) → count_by is_refused (reply ∷ []) ≡ (if is_refused reply then 1 else 0)
-count_one reply = grind arith
-
-count_append : (xs : List Reply) (x : Reply) → count_by is_refused (xs ++ x ∷ []) ≡ count_by is_refused xs + (if is_refused x then 1 else 0)
-count_append xs x = sum_by-append (λ r. if is_refused r then 1 else 0) xs (x ∷ []) ∙ ap (λ n. count_by is_refused xs + n) (count_one x)
-
--- faults, one reply more and others
-faults_append : (xs ys : List Reply) → count_by is_fault (xs ++ ys) ≡ count_by is_fault xs + count_by is_fault ys
-faults_append xs ys = sum_by-append (λ r. if is_fault r then 1 else 0) xs ys
-
-fault_one : (reply : Reply) → count_by is_fault (reply ∷ []) ≡ (if is_fault reply then 1 else 0)
-fault_one reply = grind arith
-
-no_faults : (cs : List Command) → count_by is_fault (refusals cs) ≡ 0
-no_faults [] = refl
-no_faults (c ∷ cs) = faults_append (Refused NoMemory ∷ []) (refusals cs) ∙ (λ i. fault_one (Refused NoMemory) i + no_faults cs i)
-
--- the commands before, their replies and the texts of these, what was written, and the commands that are left
-pub record RunSoFar (disk : Disk) (commands : List Command) (old new : Option (List ℕ)) (refused : ℕ) (left : List Command) (store :
-    Store) :
-    Type 0 where
-  pub before : List Command
+-- what the machine does meanwhile: its replies, and what is told of them by those of the code
+pub record Comes (honest : Bool) (state : State) (commands : List Command) (answers : List code.Reply) (old : Store) : Type 0 where
   pub replies : List Reply
-  pub texts : List (List ℕ)
-  pub all : commands ≡ before ++ left
-  pub output : IsOutput disk before replies texts
-  pub counts : count_by is_refused replies ≡ refused
-  pub represents : Represents (state_after start replies) store
-  pub fits : IsTrue disk.honest → (world : World) → Agrees world start before replies → FitsWorld world store
-  pub writes : Appends old new (joined texts)
+  pub runs : Run honest state commands replies
+  pub faults : count_by is_fault replies ≡ sum_by faults_in answers
+  pub refused : count_by is_refused replies ≡ count_by is_refusal answers
+  pub reads : AllMayRead replies (map said_text answers)
+  pub right : IsTrue honest → (world : World) → FitsWorld world old → RightAlong world state commands replies (map said_text answers)
 
-pub ran_start : (disk : Disk) → disk.failed ≡ disk.failed_now → (commands : List Command) (known : Option (List ℕ)) (store : Store) → store
-    ≡ empty → RunSoFar disk commands known known 0 commands store
-ran_start disk same commands known store is =
-    subst (RunSoFar disk commands known known 0 commands) (sym is)
-    (record {
-      before = [];
-      replies = [];
-      texts = [];
-      all = refl;
-      output = record {
-        runs = run_none disk.honest;
-        faults = omega (arith, same);
-        reads = reads_none;
-        strict = λ right world agrees.
-            strict_none;
-        right = λ right world agrees. refl;
-      };
-      counts = refl;
-      represents = record { columns = refl; query = refl; replicas = λ name. refl; saved = λ name. tt; limit = refl };
-      fits = λ right world agrees. record { of_columns = tt; fit = λ name. tt; files = λ name. tt };
-      writes = Appends-nil known;
-    })
+none_come : (honest : Bool) (state : State) (old : Store) → Comes honest state [] [] old
+unfolding Along AllMayRead RightAlong
+none_come honest state old =
+    record { replies = []; runs = tt; faults = refl; refused = refl; reads = tt; right = λ so world fits. tt }
 
--- an output with one reply more, and others that are refused
-module _ {disk : Disk} {later : ℕ} {commands left : List Command} {old mid : Option (List ℕ)} {refused : ℕ} {store next : Store}
-    {c : Command} {reply : code.Reply}
-    (ran : RunSoFar disk commands old mid refused (c ∷ left) store) (step : Steps disk.honest (request_of c.head) c.owned store reply next)
-    (failing : disk.failed_now + faults_in reply ≡ later) where
-  abbrev answers : Answers disk.honest (state_after start ran.replies) (request_of c.head) c.owned store reply next
-  answers = step.steps (state_after start ran.replies) ran.represents
+one_comes : (honest : Bool) (state : State) (c : Command) (cs : List Command) (answer : code.Reply) (answers : List code.Reply)
+    (old next : Store) (is : Answers honest state (request_of c.head) c.owned old answer next)
+    → Comes honest (after state is.said) cs answers next → Comes honest state (c ∷ cs) (answer ∷ answers) old
+unfolding Along AllMayRead RightAlong
+one_comes honest state c cs answer answers old next is rest = record {
+  replies = is.said ∷ rest.replies;
+  runs = (is.may, rest.runs);
+  faults = sum_by-cons (λ r. if is_fault r then 1 else 0) is.said rest.replies
+      ∙ (λ i. (if sym is.faulted i then 1 else 0) + rest.faults i) ∙ sym (sum_by-cons faults_in answer answers);
+  refused = sum_by-cons (λ r. if is_refused r then 1 else 0) is.said rest.replies
+      ∙ (λ i. (if sym is.refused i then 1 else 0) + rest.refused i)
+      ∙ sym (sum_by-cons (λ r. if is_refusal r then 1 else 0) answer answers);
+  reads = (is.reads, rest.reads);
+  right = λ so world fits agrees. (
+    is.strict so world fits agrees,
+    is.text so world fits agrees,
+    rest.right so world (is.fits so world fits agrees),
+  );
+}
 
-  front : (world : World) (more : List Command) (ys : List Reply) → Agrees world start (ran.before ++ c ∷ more) (ran.replies ++ answers.said
-      ∷ ys) → Agrees world start ran.before ran.replies
-  front world more ys agrees = agrees_front disk.honest world start ran.before (c ∷ more) ran.replies (answers.said ∷ ys) ran.output.runs
-      agrees
+comes : {D : Type 0} (g : Ghosts D) (honest : Bool) (state : State) (old new : Store) (before after_all : D) (cs : List Command)
+    (answers : List code.Reply) → g.honest before ≡ honest → Represents state old → Executed g old before cs answers new after_all
+    → Comes honest state cs answers old
+unfolding Executed
+comes g honest state old new before last [] [] so is done = none_come honest state old
+comes g honest state old new before last (c ∷ cs) (answer ∷ answers) so is done =
+    let step = (honest_steps honest (g.honest before) (request_of c.head) c.owned old done.0 answer so done.2.answers).steps state is in
+    one_comes honest state c cs answer answers old done.0 step
+    (comes g honest (after state step.said) done.0 new done.1 last cs answers (done.2.disk.honesty ∙ so) step.represents done.3)
+comes g honest state old new before last [] (answer ∷ answers) so is done = absurd done
+comes g honest state old new before last (c ∷ cs) [] so is done = absurd done
 
-  here : (world : World) (more : List Command) (ys : List Reply) → Agrees world start (ran.before ++ c ∷ more) (ran.replies ++ answers.said
-      ∷ ys) → AgreesAt world (state_after start ran.replies) (request_of c.head) c.owned answers.said
-  here world more ys agrees = agrees_next disk.honest world start ran.before more c ran.replies ys answers.said ran.output.runs agrees
+-- how often the disk failed meanwhile
+executed_faults : {D : Type 0} (g : Ghosts D) (old new : Store) (before last : D) (cs : List Command) (answers : List code.Reply)
+    → Executed g old before cs answers new last → g.failures last ≡ g.failures before + sum_by faults_in answers
+unfolding Executed
+executed_faults g old new before last [] [] done =
+    let none : g.failures last ≡ g.failures before = ap g.failures done.1 in
+    omega (arith, none)
+executed_faults g old new before last (c ∷ cs) (answer ∷ answers) done =
+    let rest = executed_faults g done.0 new done.1 last cs answers done.3 in
+    let here = done.2.disk.failures in
+    let all = sum_by-cons faults_in answer answers in
+    omega (arith, rest, here, all)
+executed_faults g old new before last [] (answer ∷ answers) done = absurd done
+executed_faults g old new before last (c ∷ cs) [] done = absurd done
 
-  output_more : (more : List Command) → IsOutput (record disk { failed_now = later }) (ran.before ++ c ∷ more) (ran.replies ++ answers.said
-      ∷ refusals more) (ran.texts ++ said_text reply ∷ refusal_texts more)
-  output_more more =
-      let said = answers.said in
-      record {
-        runs = run_append disk.honest start ran.before (c ∷ more) ran.replies (said ∷ refusals more) ran.output.runs
-            (run_append disk.honest (state_after start ran.replies) (c ∷ []) more (said ∷ []) (refusals more)
-            (run_one disk.honest (state_after start ran.replies) c said answers.may)
-            (run_refused disk.honest (after (state_after start ran.replies) said) more));
-        faults =
-            let all : count_by is_fault (ran.replies ++ said ∷ refusals more) ≡ count_by is_fault ran.replies
-            + ((if is_fault said then 1 else 0) + 0) =
-            faults_append ran.replies (said ∷ refusals more)
-            ∙ ap (λ n. count_by is_fault ran.replies + n) (faults_append (said ∷ []) (refusals more)
-            ∙ (λ i. fault_one said i + no_faults more i)) in
-            let one : faults_in reply ≡ (if is_fault said then 1 else 0) = ap (λ b. if b then 1 else 0) answers.faulted in
-            let had = ran.output.faults in
-            omega (arith, all, one, had, failing);
-        reads = reads_append ran.replies (said ∷ refusals more) ran.texts (said_text reply ∷ refusal_texts more) ran.output.reads
-            (reads_append (said ∷ []) (refusals more) (said_text reply ∷ []) (refusal_texts more)
-            (reads_one said (said_text reply) answers.reads) (reads_refused more));
-        strict = λ right world agrees.
-            strict_append start ran.before (c ∷ more) ran.replies (said ∷ refusals more)
-            (ran.output.strict right world (front world more (refusals more) agrees))
-            (strict_append (state_after start ran.replies) (c ∷ []) more (said ∷ []) (refusals more)
-            (strict_one (state_after start ran.replies) c said
-            (answers.strict right world (ran.fits right world (front world more (refusals more) agrees))
-            (here world more (refusals more) agrees)))
-            (strict_refused (after (state_after start ran.replies) said) more));
-        right = λ right world agrees.
-            let before = front world more (refusals more) agrees in
-            let text : said_text reply ≡ reply_text world said = answers.text right world (ran.fits right world before)
-            (here world more (refusals more) agrees) in
-            flat_map-append (λ t. t) ran.texts (said_text reply ∷ refusal_texts more)
-            ∙ (λ i. ran.output.right right world before i ++ (text i ++ refused_right world more i))
-            ∙ sym (flat_map-append (reply_text world) ran.replies (said ∷ refusals more));
-      }
+-- one command more
+executed_more : {D : Type 0} (g : Ghosts D) (old mid new : Store) (before disk last : D) (cs : List Command) (answers : List code.Reply)
+    (c : Command) (answer : code.Reply) → Executed g old before cs answers mid disk
+    → Executes g (request_of c.head) c.owned mid disk answer new last
+    → Executed g old before (cs ++ c ∷ []) (answers ++ answer ∷ []) new last
+unfolding Executed
+executed_more g old mid new before disk last [] [] c answer done step = (
+  new,
+  last,
+  subst (λ store. Executes g (request_of c.head) c.owned store before answer new last) done.0
+      (subst (λ d. Executes g (request_of c.head) c.owned mid d answer new last) done.1 step),
+  (refl, refl),
+)
+executed_more g old mid new before disk last (d ∷ cs) (x ∷ answers) c answer done step =
+    (done.0, done.1, done.2, executed_more g done.0 mid new done.1 disk last cs answers c answer done.3 step)
+executed_more g old mid new before disk last [] (x ∷ answers) c answer done step = absurd done
+executed_more g old mid new before disk last (d ∷ cs) [] c answer done step = absurd done
+
+executed_none : {D : Type 0} (g : Ghosts D) (store : Store) (disk : D) → Executed g store disk [] [] store disk
+unfolding Executed
+executed_none g store disk = (refl, refl)
+
+-- ---- a run of commands
+
+-- all commands but those that are left were executed, and their replies are written
+pub record RunSoFar {D : Type 0} (g : Ghosts D) (commands left : List Command) (before disk : D) (store : Store) (refused : ℕ)
+    (old new : Option (List ℕ)) : Type 0 where
+  pub done : List Command
+  pub all : commands ≡ done ++ left
+  pub answers : List code.Reply
+  pub each : Executed g empty before done answers store disk
+  pub counts : count_by is_refusal answers ≡ refused
+  pub writes : Appends old new (said_texts answers)
+
+pub ran_start : {D : Type 0} (g : Ghosts D) (commands : List Command) (disk : D) (store : Store) (known : Option (List ℕ)) → store ≡ empty
+    → RunSoFar g commands commands disk disk store 0 known known
+ran_start g commands disk store known is = record {
+  done = [];
+  all = refl;
+  answers = [];
+  each = subst (λ s. Executed g empty disk [] [] s disk) (sym is) (executed_none g empty disk);
+  counts = refl;
+  writes = Appends-nil known;
+}
+
+-- all of it was written
+pub ran_all : {D : Type 0} (g : Ghosts D) (commands left : List Command) (before disk : D) (store : Store) (refused : ℕ)
+    (old new : Option (List ℕ)) → RunSoFar g commands left before disk store refused old new
+    → ExecutesAllBut g left commands before disk (AreWritten old new refused)
+ran_all g commands left before disk store refused old new ran = record {
+  done = ran.done;
+  all = ran.all;
+  replies = ran.answers;
+  new = store;
+  each = ran.each;
+  writes = record { counts = ran.counts; writes = ran.writes };
+}
+
+-- no command is left
+pub ran_done : {D : Type 0} (g : Ghosts D) (commands left : List Command) (before disk : D) (store : Store) (refused : ℕ)
+    (old new : Option (List ℕ)) → RunSoFar g commands left before disk store refused old new → left ≡ []
+    → ExecutesAllBut g [] commands before disk (AreWritten old new refused)
+ran_done g commands left before disk store refused old new ran none =
+    subst (λ rest. ExecutesAllBut g rest commands before disk (AreWritten old new refused)) none
+    (ran_all g commands left before disk store refused old new ran)
+
+module _ {D : Type 0} {g : Ghosts D} {commands left : List Command} {before disk last : D} {store next : Store} {refused : ℕ}
+    {old mid : Option (List ℕ)} {c : Command} {reply : code.Reply}
+    (ran : RunSoFar g commands (c ∷ left) before disk store refused old mid)
+    (step : Executes g (request_of c.head) c.owned store disk reply next last) where
+  each_more : Executed g empty before (ran.done ++ c ∷ []) (ran.answers ++ reply ∷ []) next last
+  each_more = executed_more g empty store next before disk last ran.done ran.answers c reply ran.each step
+
+  texts_more : said_texts (ran.answers ++ reply ∷ []) ≡ said_texts ran.answers ++ said_text reply
+  texts_more = flat_map-append said_text ran.answers (reply ∷ []) ∙ ap (λ l. said_texts ran.answers ++ l) (append-nil (said_text reply))
 
   -- it goes on
   pub ran_more : (new : Option (List ℕ)) (more : ℕ) → Appends mid new (said_text reply) → more ≡ refused
-      + (if is_refusal reply then 1 else 0) → RunSoFar (record disk { failed_now = later }) commands old new more left next
-  ran_more new more wrote counts =
-      record {
-        before = ran.before ++ (c ∷ []);
-        replies = ran.replies ++ (answers.said ∷ []);
-        texts = ran.texts ++ (said_text reply ∷ []);
-        all = ran.all ∙ sym (append_assoc ran.before (c ∷ []) left);
-        output = output_more [];
-        counts = count_append ran.replies answers.said ∙ ap (λ n. n + (if is_refused answers.said then 1 else 0)) ran.counts
-            ∙ ap (λ b. refused + (if b then 1 else 0)) (sym answers.refused) ∙ sym counts;
-        represents = subst (λ state. Represents state next) (sym (state_append start ran.replies (answers.said ∷ []))) answers.represents;
-        fits = λ right world agrees. answers.fits right world (ran.fits right world (front world [] [] agrees)) (here world [] [] agrees);
-        writes = subst (Appends old new) (sym (flat_map-append (λ t. t) ran.texts (said_text reply ∷ [])
-            ∙ ap (λ l. joined ran.texts ++ l) (append-nil (said_text reply))))
-            (Appends-trans old mid new _ _ ran.writes wrote);
-      }
+      + (if is_refusal reply then 1 else 0) → RunSoFar g commands left before last next more old new
+  ran_more new more wrote counts = record {
+    done = ran.done ++ c ∷ [];
+    all = ran.all ∙ sym (append_assoc ran.done (c ∷ []) left);
+    answers = ran.answers ++ reply ∷ [];
+    each = each_more;
+    counts =
+        let one : count_by is_refusal (reply ∷ []) ≡ (if is_refusal reply then 1 else 0) = grind arith in
+        sum_by-append (λ r. if is_refusal r then 1 else 0) ran.answers (reply ∷ [])
+        ∙ (λ i. ran.counts i + one i) ∙ sym counts;
+    writes = subst (Appends old new) (sym texts_more) (Appends-trans old mid new _ _ ran.writes wrote);
+  }
 
-  -- it stops within a reply: what was written is the front of an output in which each command behind is refused
+  -- it stops within a reply
   pub ran_front : (new : Option (List ℕ)) → StopsShort mid new (said_text reply)
-      → WritesFront (record disk { failed_now = later }) commands old new
-  ran_front new wrote =
-      record {
-        replies = ran.replies ++ answers.said ∷ refusals left;
-        texts = ran.texts ++ said_text reply ∷ refusal_texts left;
-        output = subst (λ cs. IsOutput (record disk { failed_now = later }) cs (ran.replies ++ answers.said ∷ refusals left) (ran.texts
-            ++ said_text reply ∷ refusal_texts left)) (sym ran.all) (output_more left);
-        writes = subst (StopsShort old new) (sym (flat_map-append (λ t. t) ran.texts (said_text reply ∷ refusal_texts left)))
-            (short-second old mid new (joined ran.texts) (joined (said_text reply ∷ refusal_texts left)) ran.writes
-            (short-first mid new (said_text reply) (joined (refusal_texts left)) wrote));
-      }
+      → ExecutesAllBut g left commands before last (λ replies. StopsShort old new (said_texts replies))
+  ran_front new wrote = record {
+    done = ran.done ++ c ∷ [];
+    all = ran.all ∙ sym (append_assoc ran.done (c ∷ []) left);
+    replies = ran.answers ++ reply ∷ [];
+    new = next;
+    each = each_more;
+    writes = subst (StopsShort old new) (sym texts_more) (short-second old mid new (said_texts ran.answers)
+        (said_text reply) ran.writes wrote);
+  }
 
 -- what two calls leave of a disk, one after the other
 pub left_both : {D : Type 0} (g : Ghosts D) (old mid new : D) → (n : ℕ) × DiskFrame g n old mid → (n : ℕ) × DiskFrame g n mid new → (n : ℕ)
@@ -294,104 +277,166 @@ left_both g old mid new (a, first) (b, second) =
       },
     )
 
--- a disk is as honest as it was
-pub honest_steps : (was is : Bool) (request : Request) (owned : List Record) (store next : Store) (reply : code.Reply) → is ≡ was
-    → Steps is request owned store reply next → Steps was request owned store reply next
-honest_steps was is request owned store next reply same steps = subst (λ h. Steps h request owned store reply next) same steps
+-- ---- outputs
 
--- it stops with commands left
-pub ran_stop : (disk : Disk) (later : ℕ) → disk.failed_now ≤ later → (commands left : List Command) (old new : Option (List ℕ))
-    (refused : ℕ) (store : Store) → RunSoFar disk commands old new refused left store
-    → WritesBefore (record disk { failed_now = later }) commands old new
-ran_stop disk later low commands left old new refused store ran =
-    record {
-      before = ran.before;
-      left = left;
-      all = ran.all;
-      refused = refused;
-      failed_before = disk.failed_now;
-      later = low;
-      writes = record {
-        replies = ran.replies;
-        texts = ran.texts;
-        output = record {
-          runs = ran.output.runs;
-          faults = ran.output.faults;
-          reads = ran.output.reads;
-          strict = ran.output.strict;
-          right =
-              ran.output.right;
-        };
-        counts = ran.counts;
-        writes = ran.writes;
-      };
-    }
+represents_start : Represents start empty
+represents_start = record { columns = refl; query = refl; replicas = λ name. refl; saved = λ name. tt; limit = refl }
 
--- ---- a whole run
+fits_start : (world : World) → FitsWorld world empty
+fits_start world = record { of_columns = tt; fit = λ name. tt; files = λ name. tt }
 
-none_yet : (disk : Disk) → disk.failed ≤ disk.failed_now → (commands : List Command) (known : Option (List ℕ))
-    → WritesBefore disk commands known known
-none_yet disk low commands known =
-    let begun : Disk = record disk { failed_now = disk.failed } in
-    ran_stop begun disk.failed_now low commands commands known known 0 empty (ran_start begun refl commands known empty refl)
+-- commands that were executed have an output, each front of which is right over an honest disk
+module _ {D : Type 0} (g : Ghosts D) (before last : D) (cs : List Command) (answers : List code.Reply) (new : Store)
+    (done : Executed g empty before cs answers new last) where
+  pub answered : Comes (g.honest before) start cs answers empty
+  answered = comes g (g.honest before) start empty new before last cs answers refl represents_start done
 
--- a script that was not read
-pub stops_unread : (disk : Disk) → disk.failed ≤ disk.failed_now → (a b known : Option (List ℕ)) (most : ℕ) (e : InputError)
-    → StopsReading a b most e
-    → IfSome a (λ script. StopsAt disk most script known known (run_error e))
-stops_unread disk low None b known most e h = tt
-stops_unread disk low (Some script) b known most input.ReadFault h = tt
-stops_unread disk low (Some script) b known most input.NoMemory h = (λ _. Keeps-refl known, none_yet disk low (commands_in script) known)
-stops_unread disk low (Some script) b known most input.TooLong h = consumes-longer (Some script) b h.0 most h.1 h.2
+  pub output : IsOutput (disk_over g before last) cs answered.replies (map said_text answers)
+  output = record {
+    runs = answered.runs;
+    faults = ap (λ n. g.failures before + n) answered.faults ∙ sym (executed_faults g empty new before last cs answers done);
+    reads = answered.reads;
+    right = λ so n world agrees. front_right world start cs answered.replies (map said_text answers) (answered.right so world
+        (fits_start world)) n agrees;
+  }
 
-told_as : (T : Type 0) (e : InputError) → tells_read_fault {A = T} (Err (run_error e)) ≡ is_read_fault e
-told_as T input.ReadFault = refl
-told_as T input.NoMemory = refl
-told_as T input.TooLong = refl
+texts_joined : (answers : List code.Reply) → joined (map said_text answers) ≡ said_texts answers
+texts_joined [] = refl
+texts_joined (answer ∷ answers) = ap (λ ts. said_text answer ++ ts) (texts_joined answers)
 
--- a script that was not read tells a fault where reading it did
-pub faults_unread : (T : Type 0) (result : Result T RunError) (e : InputError) (failed : Bool) → IsErrAnd result (λ x. x ≡ run_error e)
-    → is_read_fault e ≡ failed → tells_read_fault result ≡ failed
-faults_unread T (Ok x) e failed passed h = absurd passed
-faults_unread T (Err x) e failed passed h = ap (λ x. tells_read_fault {A = T} (Err x)) passed ∙ told_as T e ∙ h
+-- all of it was written
+pub writes_all : {D : Type 0} (g : Ghosts D) (commands : List Command) (before last : D) (old new : Option (List ℕ)) (refused : ℕ)
+    → ExecutesAllBut g [] commands before last (AreWritten old new refused) → WritesAll (disk_over g before last) commands old new refused
+writes_all g commands before last old new refused works =
+    let whole : commands ≡ works.done = works.all ∙ append-nil works.done in
+    let made = answered g before last works.done works.replies works.new works.each in
+    subst (λ cs. WritesAll (disk_over g before last) cs old new refused) (sym whole) (record {
+      replies = made.replies;
+      texts = map said_text works.replies;
+      output = output g before last works.done works.replies works.new works.each;
+      counts = made.refused ∙ works.writes.counts;
+      writes = subst (Appends old new) (sym (texts_joined works.replies)) works.writes.writes;
+    })
 
--- a script that was read tells none
-pub faults_read : {T : Type 0} (disk : Disk) (commands : List Command) (result : Result T RunError) (P : T
-    → Type 0) (old new : Option (List ℕ))
-    → MatchResult result P (λ e. WritesSome disk commands old new e) → tells_read_fault result ≡ false
-faults_read disk commands (Ok x) P old new h = refl
-faults_read disk commands (Err stop.ReadFault) P old new h = absurd h
-faults_read disk commands (Err stop.InputTooLong) P old new h = refl
-faults_read disk commands (Err stop.WriteFault) P old new h = refl
-faults_read disk commands (Err stop.NoMemory) P old new h = refl
+-- the front of it was
+pub writes_front : {D : Type 0} (g : Ghosts D) (left commands : List Command) (before last : D) (wrote : List code.Reply → Type 0)
+    (wanted : List ℕ → Type 0) → ((replies : List code.Reply) → wrote replies → wanted (said_texts replies))
+    → ExecutesAllBut g left commands before last wrote → WritesFront (disk_over g before last) commands wanted
+writes_front g left commands before last wrote wanted so works = record {
+  done = works.done;
+  left = left;
+  all = works.all;
+  replies = (answered g before last works.done works.replies works.new works.each).replies;
+  texts = map said_text works.replies;
+  output = output g before last works.done works.replies works.new works.each;
+  writes = subst wanted (sym (texts_joined works.replies)) (so works.replies works.writes);
+}
 
--- what is told of a writer by an error passed on is what the error that it is tells
-pub fails_as : {W T : Type 0} (result : Result T RunError) (e : RunError) (old new : Fused W) → IsErrAnd result (λ x. x ≡ e)
-    → FailsAsTold old new (tells_write_fault {A = T} (Err e)) → FailsAsTold old new (tells_write_fault result)
-fails_as (Ok x) e old new failed h = absurd failed
-fails_as {T = T} (Err x) e old new failed h = subst (λ y. FailsAsTold old new (tells_write_fault {A = T} (Err y))) (sym failed) h
+-- ---- the words of outputs
 
--- a script that was not read tells no fault of a writer
-pub fails_unread : {W T : Type 0} (result : Result T RunError) (e : InputError) (writer : Fused W) → IsErrAnd result (λ x. x ≡ run_error e)
-    → FailsAsTold writer writer (tells_write_fault result)
-fails_unread result input.ReadFault writer passed = fails_as result stop.ReadFault writer writer passed (λ sound. sym sound)
-fails_unread result input.NoMemory writer passed = fails_as result stop.NoMemory writer writer passed (λ sound. sym sound)
-fails_unread result input.TooLong writer passed = fails_as result stop.InputTooLong writer writer passed (λ sound. sym sound)
+-- an output is right as a whole
+take_long : {X : Type 0} (xs : List X) (n : ℕ) → length xs ≡ n → take n xs ≡ xs
+take_long [] zero e = refl
+take_long [] (suc n) e = refl
+take_long (x ∷ xs) zero e = absurd (omega (arith, e))
+take_long (x ∷ xs) (suc n) e = ap (λ l. x ∷ l) (take_long xs n (omega (arith, e)))
 
-stops_so : (disk : Disk) (most : ℕ) (script : List ℕ) (old new : Option (List ℕ)) (e : RunError) → length script ≤ most
-    → WritesSome disk (commands_in script) old new e → StopsAt disk most script old new e
-stops_so disk most script old new stop.InputTooLong short h = absurd h
-stops_so disk most script old new stop.ReadFault short h = tt
-stops_so disk most script old new stop.WriteFault short h = (short, h)
-stops_so disk most script old new stop.NoMemory short h = (λ long. absurd (omega arith), h)
+-- the lengths of an output
+pub output_lengths : (disk : Disk) (commands : List Command) (replies : List Reply) (texts : List (List ℕ))
+    → IsOutput disk commands replies texts → (length replies ≡ length commands) × (length texts ≡ length replies)
+output_lengths disk commands replies texts is =
+    (along_length (MayReply disk.honest) start commands replies is.runs, reads_length replies texts is.reads)
 
--- a script that was read whole
-pub stops_read : {T : Type 0} (disk : Disk) (result : Result T RunError) (P : T → Type 0) (a b old new : Option (List ℕ)) (script : List ℕ)
-    (most : ℕ) → length script ≤ most
-    → Consumes a b script → IsAtEnd b → MatchResult result P (λ e. WritesSome disk (commands_in script) old new e)
-    → IfErr result (λ e. IfSome a (λ xs. StopsAt disk most xs old new e))
-stops_read disk (Ok x) P a b old new script most short took ended h = tt
-stops_read disk (Err e) P None b old new script most short took ended h = tt
-stops_read disk (Err e) P (Some all) b old new script most short took ended h =
-    subst (λ xs. StopsAt disk most xs old new e) (sym (consumes-all (Some all) b script took ended))
-    (stops_so disk most script old new e short h)
+pub right_whole : (disk : Disk) (commands : List Command) (replies : List Reply) (texts : List (List ℕ))
+    → IsOutput disk commands replies texts → IsTrue disk.honest → AreRight commands replies texts
+right_whole disk commands replies texts is so =
+    let lengths = output_lengths disk commands replies texts is in
+    subst (λ cs. AreRight cs replies texts) (take_long commands (length commands) refl)
+    (subst (λ xs. AreRight (take (length commands) commands) xs texts) (take_long replies (length commands) lengths.0)
+    (subst (λ ts. AreRight (take (length commands) commands) (take (length commands) replies) ts)
+    (take_long texts (length commands) (lengths.1 ∙ lengths.0)) (is.right so (length commands))))
+
+-- where each front is right, replies are right for as long as a world has what is fed
+right_fronts : (world : World) (old : State) (cs : List Command) (xs : List Reply) (ts : List (List ℕ)) → length xs ≡ length cs
+    → length ts ≡ length xs
+    → ((n : ℕ) → Agrees world old (take n cs) (take n xs)
+    → StrictRun old (take n cs) (take n xs) × (joined (take n ts) ≡ replies_text world (take n xs)))
+    → RightAlong world old cs xs ts
+unfolding RightAlong Along
+right_fronts world old [] [] [] same same_texts fronts = tt
+right_fronts world old (c ∷ cs) (x ∷ xs) (t ∷ ts) same same_texts fronts = λ agrees.
+    let first = fronts 1 (agrees, tt) in
+    let text : t ≡ reply_text world x = append_cancel_right t (reply_text world x) [] first.1 in (
+      first.0.0,
+      text,
+      right_fronts world (after old x) cs xs ts (omega (arith, same)) (omega (arith, same_texts)) (λ n rest.
+          let more = fronts (suc n) (agrees, rest) in (
+            more.0.1,
+            append_cancel_left t (joined (take n ts)) (replies_text world (take n xs)) (more.1
+                ∙ ap (λ l. l ++ replies_text world (take n xs)) (sym text)),
+          )),
+    )
+right_fronts world old [] [] (t ∷ ts) same same_texts fronts = absurd (omega (arith, same_texts))
+right_fronts world old [] (x ∷ xs) ts same same_texts fronts = absurd (omega (arith, same))
+right_fronts world old (c ∷ cs) [] ts same same_texts fronts = absurd (omega (arith, same))
+right_fronts world old (c ∷ cs) (x ∷ xs) [] same same_texts fronts = absurd (omega (arith, same_texts))
+
+-- each command may be refused for want of memory
+abbrev refusals : List Command → List Reply
+refusals commands = map (λ c. Refused NoMemory) commands
+
+abbrev refusal_texts : List Command → List (List ℕ)
+refusal_texts commands = map (λ c. line (codes "refused ") (refusal_name NoMemory)) commands
+
+run_refused : (honest : Bool) (old : State) (cs : List Command) → Run honest old cs (refusals cs)
+unfolding Along
+run_refused honest old [] = tt
+run_refused honest old (c ∷ cs) = (As_always (For_memory refl), run_refused honest old cs)
+
+reads_refused : (cs : List Command) → AllMayRead (refusals cs) (refusal_texts cs)
+unfolding AllMayRead
+reads_refused [] = tt
+reads_refused (c ∷ cs) = (λ world. refl, reads_refused cs)
+
+right_refused : (world : World) (old : State) (cs : List Command) → RightAlong world old cs (refusals cs) (refusal_texts cs)
+unfolding RightAlong
+right_refused world old [] = tt
+right_refused world old (c ∷ cs) = λ agrees. (For_memory refl, refl, right_refused world old cs)
+
+no_faults : (cs : List Command) → count_by is_fault (refusals cs) ≡ 0
+no_faults [] = refl
+no_faults (c ∷ cs) =
+    let all = sum_by-cons (λ r. if is_fault r then 1 else 0) (Refused NoMemory) (refusals cs) in
+    let rest = no_faults cs in
+    omega (arith, all, rest)
+
+-- an output of the first commands with such refusals of the others is one of all
+module _ (disk : Disk) (done left : List Command) (replies : List Reply) (texts : List (List ℕ))
+    (is : IsOutput disk done replies texts) where
+  pub refused_rest : IsOutput disk (done ++ left) (replies ++ refusals left) (texts ++ refusal_texts left)
+  refused_rest = record {
+    runs = along_append (MayReply disk.honest) start done left replies (refusals left) is.runs
+        (λ later. run_refused disk.honest later left);
+    faults =
+        let all = sum_by-append (λ r. if is_fault r then 1 else 0) replies (refusals left) in
+        let none = no_faults left in
+        let had = is.faults in
+        omega (arith, all, none, had);
+    reads = reads_append replies (refusals left) texts (refusal_texts left) is.reads (reads_refused left);
+    right = λ so n world. front_right world start (done ++ left) (replies ++ refusals left) (texts ++ refusal_texts left)
+        (right_append world start done left replies (refusals left) texts (refusal_texts left)
+        (right_fronts world start done replies texts (output_lengths disk done replies texts is).0 (output_lengths disk done replies texts
+        is).1 (λ m. is.right so m world)) (λ later. right_refused world later left)) n;
+  }
+
+-- so what was written of the first commands is the front of an output of all
+pub front_of_all : (disk : Disk) (commands : List Command) (old new : Option (List ℕ)) → WritesFront disk commands (StopsShort old new)
+    → (replies : List Reply) × (texts : List (List ℕ)) × IsOutput disk commands replies texts × StopsShort old new (joined texts)
+front_of_all disk commands old new front = (
+  front.replies ++ refusals front.left,
+  front.texts ++ refusal_texts front.left,
+  subst (λ cs. IsOutput disk cs (front.replies ++ refusals front.left) (front.texts ++ refusal_texts front.left)) (sym front.all)
+      (refused_rest disk front.done front.left front.replies front.texts front.output),
+  subst (StopsShort old new) (sym (flat_map-append (λ t. t) front.texts (refusal_texts front.left)))
+      (short-first old new (joined front.texts) (joined (refusal_texts front.left)) front.writes),
+)

@@ -21,8 +21,8 @@ same_set : {here there : State} {a b : List ℕ} {world other : World} (k : Know
 same_set k = same_knowledge k.known k.known_there k.same
 
 pub same_answers : (here there : State) (a b : List ℕ) (world other : World) (r s : Reply) → KnowTheSame here there a b world other
-    → r ≡ answer_reply here.query (here.replicas a) → s ≡ answer_reply there.query (there.replicas b) → reply_text world r
-    ≡ reply_text other s
+    → r ≡ answer_reply here.query (here.replicas a) → s ≡ answer_reply there.query (there.replicas b)
+    → (reply_text world r ≡ reply_text other s) × (file_saved world r ≡ file_saved other s)
 same_answers here there a b world other r s k one two =
     rw (
       one,
@@ -34,12 +34,13 @@ same_answers here there a b world other r s k one two =
       sym (same_set k),
       known_alone (meaning k.query) world other k.known
           k.rows,
-    ) refl
+    ) (refl, refl)
 
 pub same_lists : (here there : State) (a b : List ℕ) (world other : World) (r s : Reply) → KnowTheSame here there a b world other
-    → r ≡ known_reply (here.replicas a) → s ≡ known_reply (there.replicas b) → reply_text world r ≡ reply_text other s
+    → r ≡ known_reply (here.replicas a) → s ≡ known_reply (there.replicas b)
+    → (reply_text world r ≡ reply_text other s) × (file_saved world r ≡ file_saved other s)
 same_lists here there a b world other r s k one two =
-    rw (one, two, k.knows_here, k.knows_there, sym (same_set k)) refl
+    rw (one, two, k.knows_here, k.knows_there, sym (same_set k)) (refl, refl)
 
 -- two worlds have the same rows of what is known
 abbrev SameKnown : Knowledge → World → World → Type 0
@@ -90,10 +91,10 @@ same_file query known world other same = λ i. file_in Second query (map (λ ori
 pub same_files : (here there : State) (a b saved other_saved : List ℕ) (world other : World) (r s : Reply)
     → KnowTheSame here there a b world other
     → r ≡ save_reply here.query (here.replicas a) saved → s ≡ save_reply there.query (there.replicas b) other_saved
-    → (file_saved world r ≡ file_saved other s) × (reply_text world r ≡ reply_text other s)
+    → (reply_text world r ≡ reply_text other s) × (file_saved world r ≡ file_saved other s)
 same_files here there a b saved other_saved world other r s k one two =
     let files = same_file k.query k.known world other k.rows in
     rw (one, two, k.asked, k.asked_there, k.knows_here, k.knows_there, sym (same_set k)) (
-      ap (λ (bytes : List ℕ). Some bytes) files,
       ap (λ (bytes : List ℕ). line (codes "saved ") (decimal (length bytes))) files,
+      ap (λ (bytes : List ℕ). Some bytes) files,
     )

@@ -1,6 +1,6 @@
 -- What the code keeps, before and after a command.
 use Rattle.std.specs.Prelude.{◌≡◌, ◌≢◌, ◌<◌, ◌≤◌, ◌⊎◌, ◌&&◌, nat_le, refl, ℕ, Bool, true, false, if◌then◌else◌, List, [], length, Option}
-use Rattle.std.specs.Prelude.{Some, None, IfSome, IsTrue, option_map, unwrap_or, string_bytes, codes, Result, Ok, Err, IfOk, IfErr}
+use Rattle.std.specs.Prelude.{Some, None, IfSome, IsTrue, option_map, unwrap_or, string_bytes, codes, Err}
 use Rattle.std.proofs.Common.{◌∙◌, ap, sym, subst, inl, inr, arith}
 use Rattle.std.specs.declared.alloc.Global.{Global}
 use Rattle.std.specs.declared.vec.Vec.{Vec}
@@ -13,19 +13,22 @@ use Rattle.std.specs.HashMap.{HashMap, UpdatesBy}
 use Rattle.std.proofs.lemmas.Slice.Eq.{bytes_eq-Decides}
 use Rattle.std.proofs.lemmas.Bool.{true≢false, false_from_ne_true}
 use Rattle.script_machine.proofs.Words.{World, IsWorld, Knowledge, nothing, learn, union, Column, kinds, IsSchemaText, printed, Checked}
-use Rattle.script_machine.proofs.Words.{meaning, Accepts, known_list, reply_of, Parts, Held, told, Fits, SameQuery, MergeTells, Record, Fed}
+use Rattle.script_machine.proofs.Words.{meaning, Accepts, known_list, reply_of, Held, told, Fits, SameQuery, MergeTells, Record, Fed}
 use Rattle.script_machine.proofs.Words.{IsBatch, IsNoBatch, IsNoQuery, Takes, IsOfBatch, IsOtherBatch, State, ColumnsReply, QueryReply}
 use Rattle.script_machine.proofs.Words.{limit_reply, replica_reply, FeedReply, known_reply, answer_reply, merge_reply, save_reply}
 use Rattle.script_machine.proofs.Words.{load_reply, Replies, IsReply, FeedAgrees, uses_tapes, with_replica, line, known_text, answer_text}
 use Rattle.script_machine.proofs.Words.{said_text, FeedApart, IsHeldAt, TellsDisagreement, Store, IsStore, IsFileOf, AreSaved, IsFitting}
 use Rattle.script_machine.proofs.Words.{Represents, FitsWorld, Answers, Steps, JoinRefused, JoinsNames, Updates, Files, replica_at}
 use Rattle.script_machine.proofs.Words.{saved_at, knowledge_of, limit_out_of_range, columns_refusal, merge_refusal, Refusal}
+use Rattle.script_machine.proofs.Words.{Becomes, KeepsAll, TakesFed, Rightly}
+use Rattle.script_machine.proofs.Words.{For_memory, For_fault, As_always, For_disagreement, For_damage}
 use Rattle.grouping_model.specs.Answer.{answer}
 use Rattle.grouping_model.specs.Aggregates.{Outcome}
 use Rattle.query_checks.specs.Spelling.{spelling}
 use Rattle.having_filter.specs.Kept.{by_names, headers}
 use Rattle.grouping_model.specs.declared.delivered.Delivered.{Delivered}
 use Rattle.summary_codec.specs.Reading.{IsSaved}
+use Rattle.replica_merge.specs.Results.{MergesHeld}
 use Rattle.summary_codec.specs.WorldFile.{world_file}
 use Rattle.script_commands.specs.Commands as ask
 use Rattle.script_commands.specs.Commands.{Request}
@@ -215,6 +218,15 @@ same_files limit columns query replicas old new e =
           (λ es. lookup (λ (key : Vec ℕ Global). bytes_eq name key.items) es) e;
       limit = refl;
     }
+
+keeps_all : (old new : Store) → Same old new → KeepsAll old new
+keeps_all old new s = record { replicas = s.replicas; saved = s.saved }
+
+-- what is refused leaves replicas and files as they were
+refused_keeps : (honest : Bool) (request : Request) (owned : List Record) (old new : Store) (refusal : Refusal) → Same old new
+    → Becomes honest request owned old (says.Refused refusal) new
+refused_keeps honest (ask.Feed name origin number told) owned old new refusal s = keeps_all old new s
+refused_keeps honest request owned old new refusal s = keeps_all old new s
 
 still : (state : State) (old new : Store) → Same old new → Represents state old → Represents state new
 still state old new s r =
@@ -473,7 +485,7 @@ module _ {honest : Bool} where
       record {
         steps = λ state r. record {
           said = machine.Refused refusal;
-          may = inl (inl (may state r));
+          may = As_always (may state r);
           strict = λ right world f agrees. may state r;
           represents = still state old new s r;
           refused = refl;
@@ -482,6 +494,7 @@ module _ {honest : Bool} where
           reads = λ world. refl;
           text = λ right world f agrees. refl;
         };
+        becomes = refused_keeps honest request owned old new refusal s;
       }
 
   -- a refusal since the disk gave back what was not written to it
@@ -491,7 +504,7 @@ module _ {honest : Bool} where
       record {
         steps = λ state r. record {
           said = machine.Refused why.TapeDamaged;
-          may = inr (record { dishonest = false_from_ne_true honest never; aggregates = uses; refused = refl });
+          may = For_damage (record { dishonest = false_from_ne_true honest never; aggregates = uses; refused = refl });
           strict = λ right. absurd (never right);
           represents = still state old new s r;
           refused = refl;
@@ -500,21 +513,22 @@ module _ {honest : Bool} where
           reads = λ world. refl;
           text = λ right. absurd (never right);
         };
+        becomes = refused_keeps honest request owned old new why.TapeDamaged s;
       }
 
   pub no_memory_same : (request : Request) (owned : List Record) (old new : Store) → Same old new
       → Steps honest request owned old (says.Refused why.NoMemory) new
-  no_memory_same request owned old new s = refused_for request owned old new why.NoMemory s (λ state r. inl (inl refl))
+  no_memory_same request owned old new s = refused_for request owned old new why.NoMemory s (λ state r. For_memory refl)
 
   pub out_of_memory : (request : Request) (owned : List Record) (store : Store)
       → Steps honest request owned store (says.Refused why.NoMemory) store
-  out_of_memory request owned store = refused_for request owned store store why.NoMemory (same store) (λ state r. inl (inl refl))
+  out_of_memory request owned store = refused_for request owned store store why.NoMemory (same store) (λ state r. For_memory refl)
 
   pub refused : (request : Request) (owned : List Record) (store : Store) (refusal : Refusal)
       → ((state : State) → Represents state store → Replies state request owned (machine.Refused refusal))
       → Steps honest request owned store (says.Refused refusal) store
   refused request owned store refusal replies = refused_for request owned store store refusal (same store)
-      (λ state r. inr (replies state r))
+      (λ state r. Rightly (replies state r))
 
   -- a refusal that may be for want of memory
   pub refused_or_memory : (request : Request) (owned : List Record) (old new : Store) (refusal : Refusal) → Same old new
@@ -525,8 +539,8 @@ module _ {honest : Bool} where
     where
       go : (state : State) → Represents state old → (refusal ≡ why.NoMemory) ⊎ (refusal ≢ why.NoMemory)
           → IsReply state request owned (machine.Refused refusal)
-      go state r (inl e) = inl (inl (ap machine.Refused e))
-      go state r (inr other) = inr (replies other state r)
+      go state r (inl e) = For_memory (ap machine.Refused e)
+      go state r (inr other) = Rightly (replies other state r)
 
   pub columns_there : (store : Store) (text : List ℕ) (owned : List Record) → is_some store.columns ≡ true
       → Steps honest (ask.Columns text) owned store (says.Refused why.BadCommand) store
@@ -563,9 +577,9 @@ module _ {honest : Bool} where
       record {
         steps = λ state r. record {
           said = machine.Has_columns columns;
-          may = inl (inl (inr (subst (λ cs. ColumnsReply cs text (machine.Has_columns columns))
-              (sym (r.columns ∙ none_there store.columns none)) (inl (record { what = columns; is_so = is; says = refl })))));
-          strict = λ right world f agrees. inr (subst (λ cs. ColumnsReply cs text (machine.Has_columns columns))
+          may = As_always (Rightly (subst (λ cs. ColumnsReply cs text (machine.Has_columns columns))
+              (sym (r.columns ∙ none_there store.columns none)) (inl (record { what = columns; is_so = is; says = refl }))));
+          strict = λ right world f agrees. Rightly (subst (λ cs. ColumnsReply cs text (machine.Has_columns columns))
               (sym (r.columns ∙ none_there store.columns none)) (inl (record { what = columns; is_so = is; says = refl })));
           represents = record { columns = refl; query = r.query; replicas = r.replicas; saved = r.saved; limit = r.limit };
           refused = refl;
@@ -574,6 +588,7 @@ module _ {honest : Bool} where
           reads = λ world. ap (λ n. said_text (says.Columns n)) counted;
           text = λ right world f agrees. ap (λ n. said_text (says.Columns n)) counted;
         };
+        becomes = record { replicas = λ name. refl; saved = λ name. refl };
       }
 
   pub query_too_early : (store : Store) (text : List ℕ) (owned : List Record) → store.columns ≡ None
@@ -609,9 +624,9 @@ module _ {honest : Bool} where
       record {
         steps = λ state r. record {
           said = machine.Has_query query;
-          may = inl (inl (inr (query_says state store text columns None (machine.Has_query query) r told (none_there store.query none)
-              (inl (record { what = query; is_so = is; says = refl })))));
-          strict = λ right world f agrees. inr (query_says state store text columns None (machine.Has_query query) r told
+          may = As_always (Rightly (query_says state store text columns None (machine.Has_query query) r told (none_there store.query none)
+              (inl (record { what = query; is_so = is; says = refl }))));
+          strict = λ right world f agrees. Rightly (query_says state store text columns None (machine.Has_query query) r told
               (none_there store.query none) (inl (record { what = query; is_so = is; says = refl })));
           represents = record { columns = r.columns; query = refl; replicas = r.replicas; saved = r.saved; limit = r.limit };
           refused = refl;
@@ -620,6 +635,7 @@ module _ {honest : Bool} where
           reads = λ world. ap (λ bytes. line (codes "query ") bytes) spelled;
           text = λ right world f agrees. ap (λ bytes. line (codes "query ") bytes) spelled;
         };
+        becomes = record { replicas = λ name. refl; saved = λ name. refl };
       }
 
   pub limit_told : (store : Store) (bytes : ℕ) (owned : List Record) → MIN_LIMIT ≤ bytes → bytes ≤ MAX_LIMIT
@@ -630,8 +646,8 @@ module _ {honest : Bool} where
       record {
         steps = λ state r. record {
           said = machine.Has_limit bytes;
-          may = inl (inl (inr reply));
-          strict = λ right world f agrees. inr reply;
+          may = As_always (Rightly reply);
+          strict = λ right world f agrees. Rightly reply;
           represents = record { columns = r.columns; query = r.query; replicas = r.replicas; saved = r.saved; limit = refl };
           refused = refl;
           faulted = refl;
@@ -639,6 +655,7 @@ module _ {honest : Bool} where
           reads = λ world. refl;
           text = λ right world f agrees. refl;
         };
+        becomes = record { replicas = λ name. refl; saved = λ name. refl };
       }
     where
       within : (nat_le MIN_LIMIT bytes && nat_le bytes MAX_LIMIT) ≡ true
@@ -678,10 +695,10 @@ module _ {honest : Bool} where
       record {
         steps = λ state r. record {
           said = machine.Created name.now;
-          may = inl (inl (inr (sym (ap (λ q. replica_reply q (state.replicas name.now) name.now) (r.query ∙ told)
+          may = As_always (Rightly (sym (ap (λ q. replica_reply q (state.replicas name.now) name.now) (r.query ∙ told)
               ∙ ap (λ known. replica_reply (Some query) known name.now) (r.replicas name.now
-              ∙ ap (option_map knowledge_of) (none_there (replica_at old name.now) none))))));
-          strict = λ right world f agrees. inr (sym (ap (λ q. replica_reply q (state.replicas name.now) name.now) (r.query ∙ told)
+              ∙ ap (option_map knowledge_of) (none_there (replica_at old name.now) none)))));
+          strict = λ right world f agrees. Rightly (sym (ap (λ q. replica_reply q (state.replicas name.now) name.now) (r.query ∙ told)
               ∙ ap (λ known. replica_reply (Some query) known name.now) (r.replicas name.now
               ∙ ap (option_map knowledge_of) (none_there (replica_at old name.now) none))));
           represents = represents_updated state old new name.now (record { query = query; parts = [] }) nothing r u refl;
@@ -692,6 +709,7 @@ module _ {honest : Bool} where
           reads = λ world. refl;
           text = λ right world f agrees. refl;
         };
+        becomes = record { query = query; asked = told; updates = u };
       }
 
   -- a batch of another world
@@ -703,7 +721,7 @@ module _ {honest : Bool} where
       record {
         steps = λ state r. record {
           said = machine.Refused (why.OriginDisagrees of at);
-          may = inl (inr (record {
+          may = For_disagreement (record {
             instead = machine.Took name other.fed (reply_of (told held.parts) (other.fed.origin, other.fed.number));
             would = subst (λ known. FeedReply (unwrap_or state.columns []) known name origin number told_rows owned
                 (machine.Took name other.fed (reply_of (told held.parts) (other.fed.origin, other.fed.number))))
@@ -718,7 +736,7 @@ module _ {honest : Bool} where
             origin = of;
             told = at;
             refused = refl;
-          }));
+          });
           strict = λ right world f agrees.
               absurd (other.never world (subst (λ o. IfSome o (Fits world)) there (f.fit name))
               (fed_of_world world state old name origin number told_rows owned held is there r agrees.1 other.fed other.is_batch));
@@ -729,6 +747,7 @@ module _ {honest : Bool} where
           reads = λ world. refl;
           text = λ right world f agrees. refl;
         };
+        becomes = keeps_all old new s;
       }
 
   pub feed_nowhere : (store : Store) (name origin number : List ℕ) (told_rows : ℕ) (owned : List Record) → replica_at store name ≡ None
@@ -754,7 +773,7 @@ module _ {honest : Bool} where
           → Steps honest request owned old (says.Refused refusal) new
       of_batch refusal bad =
           refused_for request owned old new refusal s
-          (λ state r. inr (subst (λ known. FeedReply (unwrap_or state.columns []) known name origin number told_rows owned
+          (λ state r. Rightly (subst (λ known. FeedReply (unwrap_or state.columns []) known name origin number told_rows owned
           (machine.Refused refusal)) (sym (known_there state old name held r there))
           (inr (record {
             refusal = refusal;
@@ -768,28 +787,29 @@ module _ {honest : Bool} where
           → (IsOfBatch refusal → IsNoBatch (kinds held.query.columns) origin number told_rows owned refusal)
           → Steps honest request owned old (says.Refused refusal) new
       go why.NoMemory agreed undamaged bad = no_memory_same request owned old new s
-      go why.TapeFault agreed undamaged bad = refused_for request owned old new why.TapeFault s (λ state r. inl (inr (refl, refl)))
+      go why.TapeFault agreed undamaged bad = refused_for request owned old new why.TapeFault s (λ state r. For_fault refl refl)
       go (why.OriginDisagrees of at) agreed undamaged bad = absurd (agreed of at refl)
       go why.TapeDamaged agreed undamaged bad = damaged request owned old new s (λ right. undamaged right refl) refl
       go refusal agreed undamaged bad = of_batch refusal (bad tt)
 
   pub feed_took : (old new : Store) (name origin number : List ℕ) (told_rows : ℕ) (owned : List Record) (held later : Held)
       (delivered : Delivered) → IsStore old
-      → replica_at old name ≡ Some held → Takes honest origin number told_rows owned held later delivered → Updates old new name later
+      → replica_at old name ≡ Some held → Takes honest origin number told_rows owned held later delivered
+      → TakesFed honest old new name origin number told_rows owned delivered → Updates old new name later
       → Steps honest (ask.Feed name origin number told_rows) owned old (says.Delivered delivered) new
-  feed_took old new name origin number told_rows owned held later delivered is there takes u =
+  feed_took old new name origin number told_rows owned held later delivered is there takes becomes u =
       record {
         steps = λ state r. record {
           said = machine.Took name takes.fed delivered;
-          may = inl (inl (inr (subst (λ known. FeedReply (unwrap_or state.columns []) known name origin number told_rows owned
+          may = As_always (Rightly (subst (λ known. FeedReply (unwrap_or state.columns []) known name origin number told_rows owned
               (machine.Took name takes.fed delivered)) (sym (known_there state old name held r there))
               (inl (record {
                 what = takes.fed;
                 is_so = subst (λ cs. IsBatch (kinds cs) origin number told_rows owned takes.fed)
                     (sym (feed_columns state old name held r is there)) takes.is_batch;
                 says = ap (machine.Took name takes.fed) takes.reply;
-              })))));
-          strict = λ right world f agrees. inr
+              }))));
+          strict = λ right world f agrees. Rightly
               (subst (λ known. FeedReply (unwrap_or state.columns []) known name origin number told_rows owned
               (machine.Took name takes.fed delivered)) (sym (known_there state old name held r there))
               (inl (record {
@@ -810,6 +830,7 @@ module _ {honest : Bool} where
           reads = λ world. refl;
           text = λ right world f agrees. refl;
         };
+        becomes = becomes;
       }
 
   pub known_nowhere_at : (store : Store) (name : List ℕ) (owned : List Record) → replica_at store name ≡ None
@@ -824,8 +845,8 @@ module _ {honest : Bool} where
       record {
         steps = λ state r. record {
           said = machine.Listed (known_list (told held.parts));
-          may = inl (inl (inr (sym (ap known_reply (known_there state store name held r there)))));
-          strict = λ right world f agrees. inr (sym (ap known_reply (known_there state store name held r there)));
+          may = As_always (Rightly (sym (ap known_reply (known_there state store name held r there))));
+          strict = λ right world f agrees. Rightly (sym (ap known_reply (known_there state store name held r there)));
           represents = r;
           refused = refl;
           faulted = refl;
@@ -833,6 +854,7 @@ module _ {honest : Bool} where
           reads = λ world. shown;
           text = λ right world f agrees. shown;
         };
+        becomes = record { replicas = λ name. refl; saved = λ name. refl };
       }
 
   pub answer_nowhere : (store : Store) (name : List ℕ) (owned : List Record) → replica_at store name ≡ None
@@ -857,9 +879,9 @@ module _ {honest : Bool} where
       record {
         steps = λ state r. record {
           said = machine.Answered held.query (told held.parts);
-          may = inl (inl (inr (sym (ap (λ q. answer_reply q (state.replicas name)) (r.query ∙ asks.0)
-              ∙ ap (λ known. answer_reply (Some held.query) known) (known_there state store name held r there)))));
-          strict = λ right world f agrees. inr (sym (ap (λ q. answer_reply q (state.replicas name)) (r.query ∙ asks.0)
+          may = As_always (Rightly (sym (ap (λ q. answer_reply q (state.replicas name)) (r.query ∙ asks.0)
+              ∙ ap (λ known. answer_reply (Some held.query) known) (known_there state store name held r there))));
+          strict = λ right world f agrees. Rightly (sym (ap (λ q. answer_reply q (state.replicas name)) (r.query ∙ asks.0)
               ∙ ap (λ known. answer_reply (Some held.query) known) (known_there state store name held r there)));
           represents = r;
           refused = refl;
@@ -872,6 +894,7 @@ module _ {honest : Bool} where
               ap (λ n. answer_text n table.items) is.0
               ∙ ap (λ bytes. answer_text (length (answer (meaning held.query) world (told held.parts))) bytes) is.1;
         };
+        becomes = record { replicas = λ name. refl; saved = λ name. refl };
       }
 
   -- an answer for which memory was wanting, or the disk of tapes failed
@@ -912,14 +935,14 @@ module _ {honest : Bool} where
           (sym is) (merge_nowhere store into from owned (inr two))
       go (Some own) (Some theirs) one two why.NoMemory undamaged is = out_of_memory (ask.Merge into from) owned store
       go (Some own) (Some theirs) one two why.TapeFault undamaged is = refused_for (ask.Merge into from) owned store store why.TapeFault
-          (same store) (λ state r. inl (inr (refl, refl)))
+          (same store) (λ state r. For_fault refl refl)
       go (Some own) (Some theirs) one two why.TapeDamaged undamaged is = damaged (ask.Merge into from) owned store store (same store)
           (λ right. undamaged right refl) refl
       go (Some own) (Some theirs) one two (why.OriginDisagrees of at) undamaged never =
           record {
             steps = λ state r. record {
               said = machine.Refused (why.OriginDisagrees of at);
-              may = inl (inr (record {
+              may = For_disagreement (record {
                 instead = machine.Merged into from;
                 would = both own theirs one two state r;
                 takes = refl;
@@ -927,7 +950,7 @@ module _ {honest : Bool} where
                     of;
                 told = at;
                 refused = refl;
-              }));
+              });
               strict = λ right world f agrees.
                   absurd (never world (subst (λ o. IfSome o (Fits world)) one (f.fit into))
                   (subst (λ o. IfSome o (Fits world)) two (f.fit from)));
@@ -938,6 +961,7 @@ module _ {honest : Bool} where
               reads = λ world. refl;
               text = λ right world f agrees. refl;
             };
+            becomes = keeps_all store store (same store);
           }
       go (Some own) (Some theirs) one two refusal undamaged is = absurd is
 
@@ -945,16 +969,16 @@ module _ {honest : Bool} where
       ≡ Some own → replica_at old from ≡ Some theirs
       → told later.parts ≡ union (told own.parts) (told theirs.parts)
       → (IsTrue honest → (world : World) → IsWorld (kinds own.query.columns) world → Fits world own → Fits world theirs → Fits world later)
-      → Updates old new into later → Steps honest (ask.Merge into from) owned old says.Merged new
-  merged old new into from owned own theirs later is one two learns fits u =
+      → MergesHeld honest own theirs later → Updates old new into later → Steps honest (ask.Merge into from) owned old says.Merged new
+  merged old new into from owned own theirs later is one two learns fits merges u =
       record {
         steps = λ state r.
             let reply : machine.Merged into from ≡ merge_reply (state.replicas into) (state.replicas from) into from =
             sym (λ i. merge_reply (known_there state old into own r one i) (known_there state old from theirs r two i) into from) in
             record {
               said = machine.Merged into from;
-              may = inl (inl (inr reply));
-              strict = λ right world f agrees. inr reply;
+              may = As_always (Rightly reply);
+              strict = λ right world f agrees. Rightly reply;
               represents = represents_updated state old new into later _ r u
                   ((λ i. union (unwrap_or (known_there state old into own r one i) nothing)
                   (unwrap_or (known_there state old from theirs r two i) nothing)) ∙ sym learns);
@@ -966,6 +990,15 @@ module _ {honest : Bool} where
               reads = λ world. refl;
               text = λ right world f agrees. refl;
             };
+        becomes = record {
+          own = own;
+          theirs = theirs;
+          later = later;
+          there = one;
+          there_too = two;
+          merges = merges;
+          updates = u;
+        };
       }
 
   pub save_nowhere : (store : Store) (name saved : List ℕ) (owned : List Record) → replica_at store name ≡ None
@@ -992,8 +1025,8 @@ module _ {honest : Bool} where
             ∙ ap (λ known. save_reply (Some held.query) known saved) (known_there state old name held r there)) in
             record {
               said = machine.Saved saved held.query (told held.parts);
-              may = inl (inl (inr reply));
-              strict = λ right world f agrees. inr reply;
+              may = As_always (Rightly reply);
+              strict = λ right world f agrees. Rightly reply;
               represents = record {
                 columns = r.columns ∙ sym u.columns;
                 query = r.query ∙ sym u.query;
@@ -1021,6 +1054,7 @@ module _ {honest : Bool} where
                   ap (λ n. said_text (says.Saved n)) (counted
                   ∙ ap length (world_is world (subst (λ o. IfSome o (λ (h : Held). Fits world h)) there (f.fit name))));
             };
+        becomes = record { held = held; bytes = bytes; there = there; is_file = file; counted = counted; files = u };
       }
 
   pub load_nowhere : (store : Store) (name saved : List ℕ) (owned : List Record) → saved_at store saved ≡ None
@@ -1038,7 +1072,10 @@ module _ {honest : Bool} where
       → ((held : Held) → IsSaved bytes held.query held.parts → later ≡ held) → Updates old new name later
       → Steps honest (ask.Load name saved) owned old says.Loaded new
   loaded old new name saved owned bytes later there is u =
-      record { steps = λ state r. go state r (state.saved saved) refl (subst (AreSaved (state.saved saved)) there (r.saved saved)) }
+      record {
+        steps = λ state r. go state r (state.saved saved) refl (subst (AreSaved (state.saved saved)) there (r.saved saved));
+        becomes = record { bytes = bytes; later = later; there = there; loaded = is; updates = u };
+      }
     where
       go : (state : State) → Represents state old → (known : Option Knowledge) → state.saved saved ≡ known → AreSaved known (Some bytes)
           → Answers honest state (ask.Load name saved) owned old says.Loaded new
@@ -1047,8 +1084,8 @@ module _ {honest : Bool} where
           let reply : machine.Loaded name known ≡ load_reply (state.saved saved) name = sym (ap (λ k. load_reply k name) e) in
           record {
             said = machine.Loaded name known;
-            may = inl (inl (inr reply));
-            strict = λ right world f agrees. inr reply;
+            may = As_always (Rightly reply);
+            strict = λ right world f agrees. Rightly reply;
             represents = represents_updated state old new name later _ r u (sym are.tells ∙ ap knowledge_of (sym (is are.held are.is)));
             refused = refl;
             faulted = refl;

@@ -18,17 +18,20 @@ pub use Rattle.replies.specs.declared.refusal.Refusal.{Refusal}
 pub use Rattle.script_commands.specs.Commands.{Command, command_at, commands_of, owned_by, request_of}
 pub use Rattle.script_io.specs.Records.{Record}
 pub use Rattle.tape_disks.specs.Disk.{DiskFrame}
-unfoldable pub use Rattle.script_machine.specs.Agreement.{AreAmong}
-pub use Rattle.script_machine.specs.Agreement.{ColumnsOf, FeedsAmong, IsOfColumns, KnowTheSame, OneBatchEach, after_all, world_of}
+pub use Rattle.script_machine.specs.Agreement.{AreAmong, ColumnsOf, FeedsAmong, FeedsOf, IsOfColumns, KnowTheSame, OneBatchEach}
+pub use Rattle.script_machine.specs.Agreement.{PrintTheSame, after_all, world_of}
 pub use Rattle.script_machine.specs.Disagreements.{FeedAlike, FeedApart, IsHeldAt, TellsDisagreement}
 pub use Rattle.hash_agg.specs.Counting.{no_work}
-pub use Rattle.script_machine.specs.Executing.{Executes, JoinsNamed}
+unfoldable pub use Rattle.script_machine.specs.Executing.{Executed}
+pub use Rattle.script_machine.specs.Executing.{AreWritten, Executes, ExecutesAllBut, JoinsNamed, Works, WorksThrough, said_texts}
 pub use Rattle.script_machine.specs.Limits.{FeedWorked, WorksAtLimit, setting_at}
-unfoldable pub use Rattle.script_machine.specs.Machine.{Run, StrictRun}
-unfoldable pub use Rattle.script_machine.specs.Machine.{Agrees}
+unfoldable pub use Rattle.script_machine.specs.Machine.{Along}
+pub use Rattle.script_machine.specs.Machine.{Agrees, Run, Step, StrictRun, Rightly, For_memory, For_fault, As_always, For_disagreement}
+pub use Rattle.script_machine.specs.Machine.{For_damage}
 pub use Rattle.script_machine.specs.Machine.{AgreesAt, AgreesWith, ColumnsReply, FeedAgrees, FeedReply, IsAccepted, IsNoSchema}
 pub use Rattle.script_machine.specs.Machine.{IsRefusedFor, IsReply, MayReply, QueryReply, Refused, Replies, State, after, answer_reply}
 pub use Rattle.script_machine.specs.Machine.{is_fault, is_refused, known_reply, limit_reply, load_reply, merge_reply, replica_reply}
 pub use Rattle.script_machine.specs.Machine.{save_reply, start, uses_tapes, with_replica}
 pub use Rattle.script_machine.specs.Views.{Answers, AreSaved, Files, FitsWorld, IsFileOf, IsFitting, IsStore, JoinRefused, JoinsNames}
-pub use Rattle.script_machine.specs.Views.{Represents, Steps, Store, Updates, empty, knowledge_of, replica_at, saved_at}
+pub use Rattle.script_machine.specs.Views.{Becomes, KeepsAll, Loads, Makes, Represents, Saves, Steps, Store, TakesFed, TakesIn, Updates}
+pub use Rattle.script_machine.specs.Views.{empty, knowledge_of, replica_at, saved_at}

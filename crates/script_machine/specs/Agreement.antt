@@ -5,11 +5,12 @@ use Rattle.grouping_model.specs.Datum.{HasKinds}
 use Rattle.grouping_model.specs.declared.limits.TheConstants.{LAST_ORIGIN, LAST_NUMBER, MAX_ROWS}
 use Rattle.packed_rows.specs.Columns.{Column, kinds}
 use Rattle.script_io.specs.Records.{Record}
-use Rattle.script_commands.specs.Commands.{Command, Request, Feed, request_of}
+use Rattle.script_commands.specs.Commands.{Command, Request, Feed, Answer, Known, Save}
 use Rattle.grouping_model.specs.World.{World, Batch, Knowledge, knows}
 use Rattle.query_checks.specs.Checks.{Checked}
 use Rattle.replies.specs.Batches.{Fed, IsBatch}
-use Rattle.script_machine.specs.Machine.{State, Reply, Has_columns, after}
+use Rattle.script_machine.specs.Machine.{State, Reply, Has_columns, Step, Along, Replies, after}
+use Rattle.script_machine.specs.Text.{reply_text, file_saved}
 
 -- what is there after replies, one after the other
 abbrev pub after_all : State → List Reply → State
@@ -27,6 +28,18 @@ pub record KnowTheSame (here there : State) (a b : List ℕ) (world other : Worl
   pub knows_there : there.replicas b ≡ Some known_there
   pub same : (batch : Batch) → knows known batch ≡ knows known_there batch
   pub rows : (origin number : ℕ) → IsTrue (knows known (origin, number)) → world origin number ≡ other origin number
+
+-- a request of one script and one of another print the same text, and save the same bytes if they save any
+abbrev pub SaysTheSame : (here there : State) (world other : World) (ask asked : Request) → Type 0
+SaysTheSame here there world other ask asked =
+    (owned : List Record) (r s : Reply) → Replies here ask owned r → Replies there asked owned s
+    → (reply_text world r ≡ reply_text other s) × (file_saved world r ≡ file_saved other s)
+
+-- two replicas print and save the same bytes: their answers, what they know, and their files, under whichever names these are saved
+pub record PrintTheSame (here there : State) (a b : List ℕ) (world other : World) : Type 0 where
+  pub answers : SaysTheSame here there world other (Answer a) (Answer b)
+  pub lists : SaysTheSame here there world other (Known a) (Known b)
+  pub files : (saved other_saved : List ℕ) → SaysTheSame here there world other (Save a saved) (Save b other_saved)
 
 -- the world of some batches: the first that has a number counts
 abbrev pub world_of : List Fed → World
@@ -57,9 +70,9 @@ FeedsAmong feds old (Feed name origin number told) owned =
     → Contains feds fed)
 FeedsAmong feds old request owned = Unit {0}
 
--- the batches that a run feeds are among these
-unfoldable pub AreAmong : List Fed → State → List Command → List Reply → Type 0
-AreAmong feds old [] [] = Unit {0}
-AreAmong feds old (command ∷ commands) (reply ∷ replies) =
-    ColumnsOf feds reply × FeedsAmong feds old (request_of command.head) command.owned × AreAmong feds (after old reply) commands replies
-AreAmong feds old commands replies = ⊥
+-- the batches that a run feeds are among these, which are of the columns that are told
+abbrev pub FeedsOf : List Fed → Step
+FeedsOf feds old request owned reply = ColumnsOf feds reply × FeedsAmong feds old request owned
+
+abbrev pub AreAmong : List Fed → State → List Command → List Reply → Type 0
+AreAmong feds = Along (FeedsOf feds)

@@ -1,20 +1,26 @@
 -- What a command of a script does, in one record. All of this is our own.
-use Rattle.std.specs.Prelude.{◌≢◌, ℕ, IsTrue, List, Result, Ok, Err, IfErr}
+use Rattle.std.specs.Prelude.{ℕ, ◌≡◌, ◌≢◌, IsTrue, List, [], ◌∷◌, ◌++◌, flat_map, count_by, Option, IfSome, Result, Ok, Err, IfErr}
+use Rattle.std.specs.Io.KnownBytes.{Appends}
 use Rattle.tape_disks.specs.Calls.{failed}
 use Rattle.tape_disks.specs.Disk.{DiskFrame}
 use Rattle.tape_disks.specs.declared.disk.TapeDisk.{Ghosts}
 use Rattle.replica_merge.specs.Replicas.{Parts}
 use Rattle.script_io.specs.Records.{Record}
-use Rattle.script_commands.specs.Commands.{Request, Merge}
+use Rattle.script_io.specs.Output.{StopsShort}
+use Rattle.script_commands.specs.Commands.{Command, Request, Merge, request_of}
 use Rattle.replies.specs.Refusals.{refusal_faults}
-use Rattle.replies.specs.Text.{faults_in}
+use Rattle.replies.specs.Text.{faults_in, is_refusal, said_text}
+use Rattle.replies.specs.declared.ending.Outcome.{Outcome}
+use Rattle.replies.specs.declared.error.RunError.{RunError}
+use Rattle.replies.specs.declared.error.RunError.TheVariants.{InputTooLong, NoMemory, ReadFault, WriteFault}
 use Rattle.replies.specs.declared.refusal.Refusal.{Refusal}
 use Rattle.replies.specs.declared.refusal.Refusal.TheVariants.{TapeDamaged}
 use Rattle.replies.specs.declared.reply.Reply.{Reply}
 use Rattle.replies.specs.declared.reply.Reply.TheVariants as says
 use Rattle.script_machine.specs.Disagreements.{TellsDisagreement}
+use Rattle.script_machine.specs.Headline.{Streams, commands_in}
 use Rattle.script_machine.specs.Limits.{WorksAtLimit}
-use Rattle.script_machine.specs.Views.{Store, Steps, JoinsNames}
+use Rattle.script_machine.specs.Views.{Store, Steps, JoinsNames, empty}
 
 -- a command that asks for this and owns these records is answered, over a disk of tapes: the reply and what is kept then are the
 -- machine's; what disagrees is never taken, and disagreement is told of nothing else; the disk failed as often as the reply tells; and an
@@ -40,3 +46,49 @@ pub record JoinsNamed {D : Type 0} (g : Ghosts D) (store : Store) (into from : L
   pub disk : DiskFrame g (failed refusal_faults result) before after
   pub limit : IsTrue (g.honest before) → (owned : List Record)
       → WorksAtLimit store (Merge into from) owned (merge_says result) (g.writes before) (g.writes after)
+
+-- commands are executed one after the other, each where the one before left the session and the disk
+unfoldable pub Executed : {D : Type 0} → Ghosts D → (old : Store) (before : D) → List Command → List Reply → (new : Store) (after : D)
+    → Type 0
+Executed g old before [] [] new after = (new ≡ old) × (after ≡ before)
+Executed {D = D} g old before (command ∷ commands) (reply ∷ replies) new after =
+    (next : Store) × (disk : D) × Executes g (request_of command.head) command.owned old before reply next disk
+    × Executed g next disk commands replies new after
+Executed g old before commands replies new after = ⊥
+
+-- all commands but those that are left were executed, from where nothing is there, and their replies were written so
+pub record ExecutesAllBut {D : Type 0} (g : Ghosts D) (left commands : List Command) (before after : D) (wrote : List Reply → Type 0) :
+    Type 0 where
+  pub done : List Command
+  pub all : commands ≡ done ++ left
+  pub replies : List Reply
+  pub new : Store
+  pub each : Executed g empty before done replies new after
+  pub writes : wrote replies
+
+-- the texts of replies, one behind the other
+abbrev pub said_texts : List Reply → List ℕ
+said_texts replies = flat_map said_text replies
+
+-- so many replies are refusals, and all were written
+pub record AreWritten (old new : Option (List ℕ)) (refused : ℕ) (replies : List Reply) : Type 0 where
+  pub counts : count_by is_refusal replies ≡ refused
+  pub writes : Appends old new (said_texts replies)
+
+-- commands were executed: all of them, where that ended well; up to the one whose reply was not written, where the writer failed; and as
+-- far as memory was there
+abbrev pub Works : {D : Type 0} → Ghosts D → List Command → (old new : Option (List ℕ)) → (before after : D) → Result Outcome RunError
+    → Type 0
+Works g commands old new before after (Ok outcome) = ExecutesAllBut g [] commands before after (AreWritten old new outcome.refused)
+Works g commands old new before after (Err WriteFault) = (left : List Command)
+    × ExecutesAllBut g left commands before after (λ replies. StopsShort old new (said_texts replies))
+Works {D = D} g commands old new before after (Err NoMemory) = (left : List Command) × (disk : D) × (refused faults : ℕ)
+    × DiskFrame g faults disk after × ExecutesAllBut g left commands before disk (AreWritten old new refused)
+Works g commands old new before after (Err error) = ⊥
+
+-- the commands of a script were, unless it was not read
+abbrev pub WorksThrough : {D : Type 0} → Ghosts D → Streams → (before after : D) → Result Outcome RunError → Type 0
+WorksThrough g streams before after (Err InputTooLong) = after ≡ before
+WorksThrough g streams before after (Err ReadFault) = after ≡ before
+WorksThrough g streams before after result = IfSome streams.script
+    (λ script. Works g (commands_in script) streams.old streams.new before after result)

@@ -1,3 +1,4 @@
+pub mod Headline
 pub mod Machine
 pub mod Text
 pub mod Output
@@ -6,5 +7,6 @@ pub mod Views
 pub mod Limits
 pub mod Disagreements
 pub mod Executing
+pub mod Running
 pub mod Agreement
 pub mod Coding

@@ -147,13 +147,11 @@ uses_tapes (Feed name origin number told) = true
 uses_tapes (Merge into from) = true
 uses_tapes request = false
 
--- a command is refused for want of memory, or since the disk of tapes failed
-abbrev pub IsRefusedStep : Request → Reply → Type 0
-IsRefusedStep request reply = (reply ≡ Refused NoMemory) ⊎ (IsTrue (uses_tapes request) × (reply ≡ Refused TapeFault))
-
--- how a command may be answered: in its one way, or by such a refusal
-abbrev pub IsReply : State → Request → List Record → Reply → Type 0
-IsReply old request owned reply = IsRefusedStep request reply ⊎ Replies old request owned reply
+-- how a command may be answered: in its one way, or by a refusal for want of memory, or since the disk of tapes failed
+pub data IsReply (old : State) (request : Request) (owned : List Record) (reply : Reply) : Type 0 where
+  Rightly : Replies old request owned reply → IsReply old request owned reply
+  For_memory : reply ≡ Refused NoMemory → IsReply old request owned reply
+  For_fault : IsTrue (uses_tapes request) → reply ≡ Refused TapeFault → IsReply old request owned reply
 
 -- whether a replica takes batches with a reply
 abbrev pub takes_batches : Reply → Bool
@@ -177,10 +175,11 @@ pub record IsDamage (honest : Bool) (request : Request) (reply : Reply) : Type 0
   pub aggregates : IsTrue (uses_tapes request)
   pub refused : reply ≡ Refused TapeDamaged
 
--- the same where origins need not keep to one batch a number, and the disk of tapes may be honest or not
-abbrev pub MayReply : Bool → State → Request → List Record → Reply → Type 0
-MayReply honest old request owned reply = (IsReply old request owned reply ⊎ IsDisagreement old request owned reply)
-    ⊎ IsDamage honest request reply
+-- the same where origins need not keep to one batch a number, and the disk of tapes may be honest or not: two refusals more
+pub data MayReply (honest : Bool) (old : State) (request : Request) (owned : List Record) (reply : Reply) : Type 0 where
+  As_always : IsReply old request owned reply → MayReply honest old request owned reply
+  For_disagreement : IsDisagreement old request owned reply → MayReply honest old request owned reply
+  For_damage : IsDamage honest request reply → MayReply honest old request owned reply
 
 -- under a name is this, and under the others what was there
 abbrev pub with_replica : (List ℕ → Option Knowledge) → List ℕ → Knowledge → List ℕ → Option Knowledge
@@ -203,12 +202,24 @@ after old (Saved saved query known) = record old { saved = with_replica old.save
 after old (Loaded name known) = record old { replicas = with_replica old.replicas name known }
 after old reply = old
 
--- commands may be answered so, one after the other
-unfoldable pub Run : Bool → State → List Command → List Reply → Type 0
-Run honest old [] [] = Unit {0}
-Run honest old (command ∷ commands) (reply ∷ replies) = MayReply honest old (request_of command.head) command.owned reply
-    × Run honest (after old reply) commands replies
-Run honest old commands replies = ⊥
+-- what holds of a command and its reply, where this is there
+abbrev pub Step : Type 1
+Step = State → Request → List Record → Reply → Type 0
+
+-- a step holds of each command and its reply, one after the other, of as many replies as commands
+unfoldable pub Along : Step → State → List Command → List Reply → Type 0
+Along step old [] [] = Unit {0}
+Along step old (command ∷ commands) (reply ∷ replies) =
+    step old (request_of command.head) command.owned reply × Along step (after old reply) commands replies
+Along step old commands replies = ⊥
+
+-- commands may be answered so
+abbrev pub Run : Bool → State → List Command → List Reply → Type 0
+Run honest = Along (MayReply honest)
+
+-- the same, each in its one way, or refused for want of memory or by the disk of tapes
+abbrev pub StrictRun : State → List Command → List Reply → Type 0
+StrictRun = Along IsReply
 
 abbrev pub is_refused : Reply → Bool
 is_refused (Refused why) = true
@@ -218,13 +229,6 @@ is_refused reply = false
 abbrev pub is_fault : Reply → Bool
 is_fault (Refused why) = tells_fault why
 is_fault reply = false
-
--- the same, each in its one way, or refused for want of memory or by the disk of tapes
-unfoldable pub StrictRun : State → List Command → List Reply → Type 0
-StrictRun old [] [] = Unit {0}
-StrictRun old (command ∷ commands) (reply ∷ replies) = IsReply old (request_of command.head) command.owned reply
-    × StrictRun (after old reply) commands replies
-StrictRun old commands replies = ⊥
 
 -- a world is one of the columns that were told
 abbrev pub AgreesWith : World → Reply → Type 0
@@ -238,12 +242,9 @@ FeedAgrees world old (Feed name origin number told) owned =
     → world fed.origin fed.number ≡ Some fed.rows)
 FeedAgrees world old request owned = Unit {0}
 
-abbrev pub AgreesAt : World → State → Request → List Record → Reply → Type 0
+abbrev pub AgreesAt : World → Step
 AgreesAt world old request owned reply = AgreesWith world reply × FeedAgrees world old request owned
 
 -- a script agrees with a world if each batch that it feeds is the world's: then no origin gave a number to two batches
-unfoldable pub Agrees : World → State → List Command → List Reply → Type 0
-Agrees world old [] [] = Unit {0}
-Agrees world old (command ∷ commands) (reply ∷ replies) =
-    AgreesAt world old (request_of command.head) command.owned reply × Agrees world (after old reply) commands replies
-Agrees world old commands replies = ⊥
+abbrev pub Agrees : World → State → List Command → List Reply → Type 0
+Agrees world = Along (AgreesAt world)

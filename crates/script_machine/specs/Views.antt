@@ -1,22 +1,26 @@
 -- What a clause sees of the values of the code.
-use Rattle.std.specs.Prelude.{ℕ, ◌≡◌, Bool, false, List, [], Option, Some, None, IfSome, IsTrue, option_map, Result, Ok, Err}
+use Rattle.std.specs.Prelude.{ℕ, ◌≡◌, Bool, false, List, [], length, Option, Some, None, IfSome, IsTrue, option_map, Result, Ok, Err}
 use Rattle.std.specs.declared.alloc.Global.{Global}
 use Rattle.std.specs.declared.vec.Vec.{Vec}
 use Rattle.std.specs.Map.{lookup}
 use Rattle.std.specs.Str.{bytes_eq}
 use Rattle.hash_agg.specs.declared.means.TheConstants.{DEFAULT_LIMIT}
 use Rattle.grouping_model.specs.World.{World, IsWorld, Knowledge}
+use Rattle.grouping_model.specs.declared.delivered.Delivered.{Delivered}
+use Rattle.batch_reader.specs.Rows.{packings}
 use Rattle.packed_rows.specs.Columns.{Column, kinds}
 use Rattle.query_checks.specs.Checks.{Checked}
-use Rattle.replica_merge.specs.Replicas.{Parts, Held, told, Fits}
-use Rattle.replica_merge.specs.Results.{JoinsHeld}
+use Rattle.replica_merge.specs.Replicas.{Parts, Held, told, Fits, DeliversAt}
+use Rattle.replica_merge.specs.Results.{JoinsHeld, MergesHeld}
 use Rattle.summary_codec.specs.Reading.{IsSaved}
 use Rattle.script_io.specs.Records.{Record}
-use Rattle.script_commands.specs.Commands.{Request}
+use Rattle.script_commands.specs.Commands.{Request, Replica, Feed, Merge, Save, Load}
+use Rattle.replies.specs.Batches.{Fed, IsBatch}
 use Rattle.replies.specs.Text.{said_text, is_refusal, is_tape_fault}
 use Rattle.replies.specs.declared.refusal.Refusal.{Refusal}
 use Rattle.replies.specs.declared.refusal.Refusal.TheVariants.{NoMemory, OriginDisagrees, TapeFault, TapeDamaged, NoSuchName}
 use Rattle.replies.specs.declared.reply.Reply.{Reply}
+use Rattle.replies.specs.declared.reply.Reply.TheVariants as says
 use Rattle.script_machine.specs.Machine as machine
 use Rattle.script_machine.specs.Machine.{State, IsReply, MayReply, AgreesAt, after}
 use Rattle.script_machine.specs.Text.{MayRead, reply_text}
@@ -89,26 +93,6 @@ pub record FitsWorld (world : World) (store : Store) : Type 0 where
   pub fit : (name : List ℕ) → IfSome (replica_at store name) (Fits world)
   pub files : (name : List ℕ) → IfSome (saved_at store name) (IsFitting world)
 
--- a reply of the code to what is asked, over a disk of tapes that may be honest, is one of the machine's, and what is kept then is what is
--- there then. Over an honest disk it is the right one
-pub record Answers (honest : Bool) (state : State) (request : Request) (owned : List Record) (old : Store) (reply : Reply) (new : Store) :
-    Type 0 where
-  pub said : machine.Reply
-  pub may : MayReply honest state request owned said
-  pub represents : Represents (after state said) new
-  pub refused : is_refusal reply ≡ machine.is_refused said
-  pub faulted : is_tape_fault reply ≡ machine.is_fault said
-  pub reads : MayRead said (said_text reply)
-  pub strict : IsTrue honest → (world : World) → FitsWorld world old → AgreesAt world state request owned said
-      → IsReply state request owned said
-  pub fits : IsTrue honest → (world : World) → FitsWorld world old → AgreesAt world state request owned said → FitsWorld world new
-  pub text : IsTrue honest → (world : World) → FitsWorld world old → AgreesAt world state request owned said → said_text reply
-      ≡ reply_text world said
-
--- the same for whatever is there
-pub record Steps (honest : Bool) (request : Request) (owned : List Record) (old : Store) (reply : Reply) (new : Store) : Type 0 where
-  pub steps : (state : State) → Represents state old → Answers honest state request owned old reply new
-
 -- one name has this replica now, and nothing else changed
 pub record Updates (old new : Store) (name : List ℕ) (held : Held) : Type 0 where
   pub columns : new.columns ≡ old.columns
@@ -126,6 +110,86 @@ pub record Files (old new : Store) (name : List ℕ) (bytes : List ℕ) : Type 0
   pub own : saved_at new name ≡ Some bytes
   pub others : (other : List ℕ) → bytes_eq name other ≡ false → saved_at new other ≡ saved_at old other
   pub limit : new.limit ≡ old.limit
+
+-- a reply of the code to what is asked, over a disk of tapes that may be honest, is one of the machine's, and what is kept then is what is
+-- there then. Over an honest disk it is the right one
+pub record Answers (honest : Bool) (state : State) (request : Request) (owned : List Record) (old : Store) (reply : Reply) (new : Store) :
+    Type 0 where
+  pub said : machine.Reply
+  pub may : MayReply honest state request owned said
+  pub represents : Represents (after state said) new
+  pub refused : is_refusal reply ≡ machine.is_refused said
+  pub faulted : is_tape_fault reply ≡ machine.is_fault said
+  pub reads : MayRead said (said_text reply)
+  pub strict : IsTrue honest → (world : World) → FitsWorld world old → AgreesAt world state request owned said
+      → IsReply state request owned said
+  pub fits : IsTrue honest → (world : World) → FitsWorld world old → AgreesAt world state request owned said → FitsWorld world new
+  pub text : IsTrue honest → (world : World) → FitsWorld world old → AgreesAt world state request owned said → said_text reply
+      ≡ reply_text world said
+
+-- the replicas and the files stay
+pub record KeepsAll (old new : Store) : Type 0 where
+  pub replicas : (name : List ℕ) → replica_at new name ≡ replica_at old name
+  pub saved : (name : List ℕ) → saved_at new name ≡ saved_at old name
+
+-- a replica of a name that holds nothing
+pub record Makes (old new : Store) (name : List ℕ) : Type 0 where
+  pub query : Checked
+  pub asked : old.query ≡ Some query
+  pub updates : Updates old new name (record { query = query; parts = [] })
+
+-- the replica of a name takes the batch that was fed
+pub record TakesFed (honest : Bool) (old new : Store) (name origin number : List ℕ) (told : ℕ) (owned : List Record)
+    (delivered : Delivered) : Type 0 where
+  pub held : Held
+  pub later : Held
+  pub fed : Fed
+  pub there : replica_at old name ≡ Some held
+  pub is_batch : IsBatch (kinds held.query.columns) origin number told owned fed
+  pub delivers : DeliversAt honest held.query held.parts fed.origin fed.number (packings fed.rows) later.parts delivered
+  pub updates : Updates old new name later
+
+-- the replica of a name takes in that of another
+pub record TakesIn (honest : Bool) (old new : Store) (into from : List ℕ) : Type 0 where
+  pub own : Held
+  pub theirs : Held
+  pub later : Held
+  pub there : replica_at old into ≡ Some own
+  pub there_too : replica_at old from ≡ Some theirs
+  pub merges : MergesHeld honest own theirs later
+  pub updates : Updates old new into later
+
+-- the replica of a name is saved under another, in so many bytes
+pub record Saves (old new : Store) (name saved : List ℕ) (count : ℕ) : Type 0 where
+  pub held : Held
+  pub bytes : List ℕ
+  pub there : replica_at old name ≡ Some held
+  pub is_file : IsSaved bytes held.query held.parts
+  pub counted : count ≡ length bytes
+  pub files : Files old new saved bytes
+
+-- the replica of a name is the one that was saved under another
+pub record Loads (old new : Store) (name saved : List ℕ) : Type 0 where
+  pub bytes : List ℕ
+  pub later : Held
+  pub there : saved_at old saved ≡ Some bytes
+  pub loaded : (held : Held) → IsSaved bytes held.query held.parts → later ≡ held
+  pub updates : Updates old new name later
+
+-- what becomes of the replicas and the files after a request that is answered so
+abbrev pub Becomes : (honest : Bool) → Request → List Record → (old : Store) → Reply → (new : Store) → Type 0
+Becomes honest (Replica name) owned old (says.Created made) new = Makes old new name
+Becomes honest (Feed name origin number told) owned old (says.Delivered delivered) new =
+    TakesFed honest old new name origin number told owned delivered
+Becomes honest (Merge into from) owned old says.Merged new = TakesIn honest old new into from
+Becomes honest (Save name saved) owned old (says.Saved count) new = Saves old new name saved count
+Becomes honest (Load name saved) owned old says.Loaded new = Loads old new name saved
+Becomes honest request owned old reply new = KeepsAll old new
+
+-- the same for whatever is there, and what becomes of what is kept
+pub record Steps (honest : Bool) (request : Request) (owned : List Record) (old : Store) (reply : Reply) (new : Store) : Type 0 where
+  pub steps : (state : State) → Represents state old → Answers honest state request owned old reply new
+  pub becomes : Becomes honest request owned old reply new
 
 -- what the replicas of two names hold together, or why it is refused
 abbrev pub JoinRefused : Option Held → Option Held → Refusal → Type 0

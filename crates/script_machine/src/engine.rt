@@ -1,12 +1,14 @@
 //! Runs a script.
 
-ghost use Rattle.std.specs.Prelude.{◌≡◌, ◌≤◌, ◌+◌, ℕ, length, IfErr, IfOk, MatchResult};
+ghost use Rattle.std.specs.Prelude.{◌≡◌, ◌≤◌, ◌+◌, ℕ, length, IsTrue, OnOk};
 ghost use Rattle.tape_disks.specs.Disk.{DiskFrame};
 ghost use Rattle.script_io.specs.Fused.{FailsAsTold, has_failed, unread, written};
 ghost use Rattle.script_io.specs.Input.{ConsumesAtMost};
 ghost use Rattle.script_commands.specs.Commands.{commands_of};
 ghost use Rattle.script_machine.specs.Views.{empty};
-ghost use Rattle.script_machine.specs.Output.{AnswersAll, AnswersSome, KeepsUnread, WritesAll, WritesSome, commands_in, disk_over};
+ghost use Rattle.script_machine.specs.Executing.{Works};
+ghost use Rattle.script_machine.specs.Headline.{WritesRight, commands_in, streams};
+ghost use Rattle.script_machine.specs.Running.{RunsOver};
 ghost use Rattle.script_machine.specs.Output.{tells_read_fault, tells_write_fault};
 
 use crate::lines::Lines;
@@ -48,6 +50,7 @@ fn tell<O: Observer>(
 }
 
 /// Answers the commands that are left, one after the other, where nothing is there.
+#[tactic(auto, using(crate::proofs::RunLaws::ran_done))]
 fn answer_all<W: Write, O: Observer, D: TapeDisk>(
     records: &mut Records<'_>,
     session: &mut Session,
@@ -58,11 +61,8 @@ fn answer_all<W: Write, O: Observer, D: TapeDisk>(
 ) -> Result<Outcome, RunError>
     requires few { length records.old ≤ MAX_INPUT_LEN + 1 }
     requires none { session.old ≡ empty }
-    ensures writes { MatchResult result
-        (λ outcome. WritesAll (disk_over D.TapeDisk disk.old disk.new) (commands_of records.old) (written W.contents writer.old)
-        (written W.contents writer.new) outcome.refused)
-        (λ e. WritesSome (disk_over D.TapeDisk disk.old disk.new) (commands_of records.old) (written W.contents writer.old)
-        (written W.contents writer.new) e) }
+    ensures works { Works D.TapeDisk (commands_of records.old) (written W.contents writer.old) (written W.contents writer.new) disk.old
+        disk.new result }
     ensures write_fault { FailsAsTold writer.old writer.new (tells_write_fault result) }
     ensures disk { (faults : ℕ) × DiskFrame D.TapeDisk faults disk.old disk.new }
 {
@@ -88,11 +88,8 @@ fn run_script<W: Write, O: Observer, D: TapeDisk>(
     seed: Seed,
 ) -> Result<Outcome, RunError>
     requires { length script.now ≤ MAX_INPUT_LEN }
-    ensures writes { MatchResult result
-        (λ outcome. WritesAll (disk_over D.TapeDisk disk.old disk.new) (commands_in script.now) (written W.contents writer.old)
-        (written W.contents writer.new) outcome.refused)
-        (λ e. WritesSome (disk_over D.TapeDisk disk.old disk.new) (commands_in script.now) (written W.contents writer.old)
-        (written W.contents writer.new) e) }
+    ensures works { Works D.TapeDisk (commands_in script.now) (written W.contents writer.old) (written W.contents writer.new) disk.old
+        disk.new result }
     ensures write_fault { FailsAsTold writer.old writer.new (tells_write_fault result) }
     ensures disk { (faults : ℕ) × DiskFrame D.TapeDisk faults disk.old disk.new }
 {
@@ -123,25 +120,16 @@ pub fn run<R: Read, W: Write, D: TapeDisk>(
     disk: &mut D,
 ) -> Result<Outcome, RunError>
     // No more is read than the longest script and one byte.
-    ensures reads { ConsumesAtMost (unread R.remaining reader.old) (unread R.remaining reader.new)
-        (MAX_INPUT_LEN + 1) }
-    // A script within the limit is answered as the machine does over such a disk, with so many refusals.
-    ensures done { IfOk result
-        (λ outcome. AnswersAll (disk_over D.TapeDisk disk.old disk.new) (unread R.remaining reader.old)
-        (written W.contents writer.old) (written W.contents writer.new) outcome.refused) }
-    // What was written where the run stopped.
-    ensures stopped { IfErr result
-        (AnswersSome (disk_over D.TapeDisk disk.old disk.new)
-        (unread R.remaining reader.old) (written W.contents writer.old)
-        (written W.contents writer.new)) }
-    // Nothing was written where the script was not read.
-    ensures silent { IfErr result (KeepsUnread (written W.contents writer.old) (written W.contents writer.new)) }
+    ensures reads { ConsumesAtMost (unread R.remaining reader.old) (unread R.remaining reader.new) (MAX_INPUT_LEN + 1) }
+    // The promise: what is written is the right output of the script.
+    ensures headline { OnOk result (IsTrue (D.TapeDisk.honest disk.old) → WritesRight
+        (streams R.remaining W.contents reader.old writer.old writer.new)) }
+    // What holds of any disk, honest or not, and where the run stops: what is written, what commands do, what becomes of the disk.
+    ensures any_disk { RunsOver D.TapeDisk disk.old disk.new (streams R.remaining W.contents reader.old writer.old writer.new) result }
     // The script is told to be unreadable exactly where its reader failed.
     ensures fault { tells_read_fault result ≡ has_failed reader.new }
     // The output is told to be unwritable exactly where its writer failed, if that had not failed before.
     ensures write_fault { FailsAsTold writer.old writer.new (tells_write_fault result) }
-    // The disk is as honest as it was, so that another script can run over it.
-    ensures disk { (faults : ℕ) × DiskFrame D.TapeDisk faults disk.old disk.new }
 {
     run_observed(alloc, reader, writer, &mut Unobserved, disk, DEFAULT_SEED)
 }
@@ -157,19 +145,12 @@ pub fn run_observed<R: Read, W: Write, O: Observer, D: TapeDisk>(
     disk: &mut D,
     seed: Seed,
 ) -> Result<Outcome, RunError>
-    ensures reads { ConsumesAtMost (unread R.remaining reader.old) (unread R.remaining reader.new)
-        (MAX_INPUT_LEN + 1) }
-    ensures done { IfOk result
-        (λ outcome. AnswersAll (disk_over D.TapeDisk disk.old disk.new) (unread R.remaining reader.old)
-        (written W.contents writer.old) (written W.contents writer.new) outcome.refused) }
-    ensures stopped { IfErr result
-        (AnswersSome (disk_over D.TapeDisk disk.old disk.new)
-        (unread R.remaining reader.old) (written W.contents writer.old)
-        (written W.contents writer.new)) }
-    ensures silent { IfErr result (KeepsUnread (written W.contents writer.old) (written W.contents writer.new)) }
+    ensures reads { ConsumesAtMost (unread R.remaining reader.old) (unread R.remaining reader.new) (MAX_INPUT_LEN + 1) }
+    ensures headline { OnOk result (IsTrue (D.TapeDisk.honest disk.old) → WritesRight
+        (streams R.remaining W.contents reader.old writer.old writer.new)) }
+    ensures any_disk { RunsOver D.TapeDisk disk.old disk.new (streams R.remaining W.contents reader.old writer.old writer.new) result }
     ensures fault { tells_read_fault result ≡ has_failed reader.new }
     ensures write_fault { FailsAsTold writer.old writer.new (tells_write_fault result) }
-    ensures disk { (faults : ℕ) × DiskFrame D.TapeDisk faults disk.old disk.new }
 {
     let script = read_input(alloc, reader, MAX_INPUT_LEN)?;
     run_script(alloc, &script, writer, observer, disk, seed)

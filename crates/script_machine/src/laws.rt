@@ -1,17 +1,19 @@
 //! Laws of the machine that a script runs.
 
-ghost use Rattle.std.specs.Prelude.{◌≡◌, List, ℕ};
+ghost use Rattle.std.specs.Prelude.{◌≡◌, IsTrue, List, Option, ℕ};
 ghost use Rattle.grouping_model.specs.declared.limits.TheConstants.{LAST_ORIGIN, LAST_NUMBER, MAX_ROWS, MAX_COLUMNS, MAX_KEYS, MAX_CALLS};
 ghost use Rattle.grouping_model.specs.declared.limits.TheConstants.{MAX_ITEMS, MAX_QUERY_LEN, DEEPEST_CONDITION, MAX_OPEN, MAX_NAME_LEN};
 ghost use Rattle.grouping_model.specs.declared.limits.TheConstants.{MAX_TEXT_LEN, MAX_INPUT_LEN};
 ghost use Rattle.hash_agg.specs.declared.means.TheConstants.{MIN_LIMIT, MAX_LIMIT, DEFAULT_LIMIT};
-ghost use Rattle.grouping_model.specs.World.{World};
+ghost use Rattle.script_io.specs.Output.{StopsShort};
 ghost use Rattle.script_io.specs.Records.{Record};
-ghost use Rattle.script_commands.specs.Commands.{Command, Request, Answer, Known, Save};
+ghost use Rattle.script_commands.specs.Commands.{Command, Request};
 ghost use Rattle.replies.specs.Batches.{Fed};
-ghost use Rattle.script_machine.specs.Agreement.{after_all, KnowTheSame, OneBatchEach, AreAmong, world_of};
+ghost use Rattle.script_machine.specs.Agreement.{OneBatchEach, AreAmong, world_of};
+ghost use Rattle.script_machine.specs.Headline.{AreRight, SameKnowledgeSameBytes};
+ghost use Rattle.script_machine.specs.Output.{Disk, IsOutput, WritesFront};
+ghost use Rattle.script_machine.specs.Text.{joined};
 ghost use Rattle.script_machine.specs.Machine.{State, Reply, Replies, Agrees, start};
-ghost use Rattle.script_machine.specs.Text.{reply_text, file_saved};
 
 /// A command has one reply, memory being there: the machine's step is a function of what is there and the command. There are never
 /// two, nor is there ever none.
@@ -22,34 +24,22 @@ pub fn one_reply()
         ((reply : Reply) → ¬ (Replies old request owned reply)) → ⊥ }
 {}
 
-/// Two replicas of one query that know the same batches print and save the same bytes, be they of one script or of two: whatever the order
-/// in which these came, and however often, an answer is the same text, so is the list of what is known, and a file that is saved has the
+/// Two replicas of one query that know the same batches print and save the same bytes, be they of one script or of two: in whatever order
+/// these came, and however often, an answer is the same text, so is the list of what is known, and a file that is saved has the
 /// same bytes, under whichever name.
 pub fn same_batches_same_bytes()
-    ensures answers { (here there : List Reply) (a b : List ℕ) (world other : World)
-        (owned : List Record) (r s : Reply) →
-        KnowTheSame (after_all start here) (after_all start there) a b world other →
-        Replies (after_all start here) (Answer a) owned r →
-        Replies (after_all start there) (Answer b) owned s →
-        reply_text world r ≡ reply_text other s }
-    ensures lists { (here there : List Reply) (a b : List ℕ) (world other : World)
-        (owned : List Record) (r s : Reply) →
-        KnowTheSame (after_all start here) (after_all start there) a b world other →
-        Replies (after_all start here) (Known a) owned r →
-        Replies (after_all start there) (Known b) owned s →
-        reply_text world r ≡ reply_text other s }
-    ensures files { (here there : List Reply) (a b saved other_saved : List ℕ) (world other : World)
-        (owned : List Record) (r s : Reply) →
-        KnowTheSame (after_all start here) (after_all start there) a b world other →
-        Replies (after_all start here) (Save a saved) owned r →
-        Replies (after_all start there) (Save b other_saved) owned s →
-        file_saved world r ≡ file_saved other s }
-    ensures lengths { (here there : List Reply) (a b saved other_saved : List ℕ) (world other : World)
-        (owned : List Record) (r s : Reply) →
-        KnowTheSame (after_all start here) (after_all start there) a b world other →
-        Replies (after_all start here) (Save a saved) owned r →
-        Replies (after_all start there) (Save b other_saved) owned s →
-        reply_text world r ≡ reply_text other s }
+    ensures { SameKnowledgeSameBytes }
+{}
+
+/// What is said of the fronts of an output says this of the whole, and of what a run wrote that stopped: over an honest disk, and where
+/// all of its commands agree with a world, all of an output is right; and what was written of it is the front of an output of all
+/// commands, in which each that was not answered is refused for want of memory.
+pub fn outputs_as_a_whole()
+    ensures whole { (disk : Disk) (commands : List Command) (replies : List Reply) (texts : List (List ℕ)) →
+        IsOutput disk commands replies texts → IsTrue disk.honest → AreRight commands replies texts }
+    ensures front { (disk : Disk) (commands : List Command) (old new : Option (List ℕ)) →
+        WritesFront disk commands (StopsShort old new) →
+        (replies : List Reply) × (texts : List (List ℕ)) × IsOutput disk commands replies texts × StopsShort old new (joined texts) }
 {}
 
 /// A script agrees with a world if its origins give each number to one batch: the world of the batches that are fed.

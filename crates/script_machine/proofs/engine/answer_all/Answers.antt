@@ -5,7 +5,8 @@ use Rattle.csv.specs.Records.{fields_of}
 use Rattle.tape_disks.specs.DiskLaws.{leaves_none}
 use Rattle.script_machine.proofs.Words.{command_at, owned_by, is_refusal}
 use Rattle.replies.specs.declared.error.RunError.TheVariants as stop
-use Rattle.script_machine.proofs.RunLaws.{passed_as, fails_as, honest_steps, left_both, ran_front, ran_more, ran_start, ran_stop}
+use Rattle.script_machine.proofs.EndLaws.{fails_passed, works_passed}
+use Rattle.script_machine.proofs.RunLaws.{left_both, ran_all, ran_front, ran_more, ran_start}
 use Rattle.script_machine.proofs.engine.answer_all.Goals as goal
 use Rattle.script_machine.proofs.engine.answer_all.Goals.{then-is_refused, else-is_refused}
 
@@ -13,50 +14,49 @@ pub loop-command-init : goal.loop-command-init
 loop-command-init g c =
     record {
       room = omega arith;
-      ran = ran_start _ refl _ _ _ c.requires.none;
+      ran = ran_start g.D.TapeDisk _ c.args.disk.now _ _ c.requires.none;
       sound = λ sound. sound;
       left = (0, leaves_none g.D.TapeDisk c.args.disk.now);
     }
 
 pub returns-in_err-command : goal.returns-in_err-command
 returns-in_err-command g c =
+    let inv = c.loop-command.invariant in
     record {
-      writes = passed_as c.from_residual.result stop.NoMemory _ _ c.from_residual.ensures.1
-          (ran_stop _ _ (omega arith) _ _ _ _ _ _ c.loop-command.invariant.ran);
-      write_fault = fails_as c.from_residual.result stop.NoMemory c.args.writer.now c.loop-command.writer c.from_residual.ensures.1
-          (λ sound. sym (c.loop-command.invariant.sound sound));
-      disk = c.loop-command.invariant.left;
+      works = works_passed g.D.TapeDisk c.from_residual.result stop.NoMemory c.from_residual.ensures.1 _ _ _ _ _
+          (_, c.loop-command.disk, _, 0, leaves_none g.D.TapeDisk c.loop-command.disk, ran_all g.D.TapeDisk _ _ _ _ _ _ _ _ inv.ran);
+      write_fault = fails_passed c.from_residual.result stop.NoMemory c.from_residual.ensures.1 c.args.writer.now c.loop-command.writer
+          (λ sound. sym (inv.sound sound));
+      disk = inv.left;
     }
 
 pub returns-in_err-reply : goal.returns-in_err-reply
 returns-in_err-reply g c =
+    let inv = c.loop-command.invariant in
     let stopped = c.in_err-reply.ensures.stopped in
-    let later : g.D.TapeDisk.failures c.loop-command.disk ≤ g.D.TapeDisk.failures c.execute.new.disk = omega (arith, stopped.1.failures) in
     record {
-      writes = passed_as c.from_residual-in_err-reply.result stop.NoMemory _ _ c.from_residual-in_err-reply.ensures.1
-          (ran_stop _ _ later _ _ _ _ _ _ c.loop-command.invariant.ran);
-      write_fault = fails_as c.from_residual-in_err-reply.result stop.NoMemory c.args.writer.now c.loop-command.writer
-          c.from_residual-in_err-reply.ensures.1 (λ sound. sym (c.loop-command.invariant.sound sound));
-      disk = left_both g.D.TapeDisk c.args.disk.now c.loop-command.disk c.execute.new.disk c.loop-command.invariant.left stopped;
+      works = works_passed g.D.TapeDisk c.from_residual-in_err-reply.result stop.NoMemory c.from_residual-in_err-reply.ensures.1 _ _ _ _ _
+          (_, c.loop-command.disk, _, stopped.0, stopped.1, ran_all g.D.TapeDisk _ _ _ _ _ _ _ _ inv.ran);
+      write_fault = fails_passed c.from_residual-in_err-reply.result stop.NoMemory c.from_residual-in_err-reply.ensures.1
+          c.args.writer.now c.loop-command.writer (λ sound. sym (inv.sound sound));
+      disk = left_both g.D.TapeDisk c.args.disk.now c.loop-command.disk c.execute.new.disk inv.left stopped;
     }
 
 pub returns-in_err-put_reply : goal.returns-in_err-put_reply
 returns-in_err-put_reply g c =
     let next = rw c.in-Some.is at c.in_ok-command.ensures.found in
-    let left = c.loop-command.invariant.left in
+    let inv = c.loop-command.invariant in
+    let executes = c.in_ok-reply.ensures.executes in
     record {
-      writes =
-          passed_as c.from_residual-in_err-put_reply.result stop.WriteFault _ _ c.from_residual-in_err-put_reply.ensures.1
-          (ran_front {c = command_at (fields_of c.in-Some.command.head) c.next_command.new.records}
-          (rw next at c.loop-command.invariant.ran)
-          (honest_steps _ _ _ _ _ _ _ left.1.honesty c.in_ok-reply.ensures.executes.answers) (sym
-          c.in_ok-reply.ensures.executes.disk.failures) _
-          c.in_err-put_reply.ensures.0);
-      write_fault =
-          fails_as c.from_residual-in_err-put_reply.result stop.WriteFault c.args.writer.now c.put_reply.new.writer
-          c.from_residual-in_err-put_reply.ensures.1
-          (λ sound. c.in_err-put_reply.ensures.1 (c.loop-command.invariant.sound sound));
-      disk = left_both g.D.TapeDisk c.args.disk.now c.loop-command.disk c.execute.new.disk left (_, c.in_ok-reply.ensures.executes.disk);
+      works = works_passed g.D.TapeDisk c.from_residual-in_err-put_reply.result stop.WriteFault c.from_residual-in_err-put_reply.ensures.1
+          _ _ _ _ _ (
+            _,
+            ran_front {c = command_at (fields_of c.in-Some.command.head) c.next_command.new.records} (rw next at inv.ran) executes _
+                c.in_err-put_reply.ensures.0,
+          );
+      write_fault = fails_passed c.from_residual-in_err-put_reply.result stop.WriteFault c.from_residual-in_err-put_reply.ensures.1
+          c.args.writer.now c.put_reply.new.writer (λ sound. c.in_err-put_reply.ensures.1 (inv.sound sound));
+      disk = left_both g.D.TapeDisk c.args.disk.now c.loop-command.disk c.execute.new.disk inv.left (_, executes.disk);
     }
 
 pub loop-command-smaller : goal.loop-command-smaller
@@ -87,8 +87,7 @@ loop-command-preserved g c =
       ran =
           rw c.in_ok-reply.ensures.left
           (ran_more {c = command_at (fields_of c.in-Some.command.head) c.next_command.new.records} (rw next at inv.ran)
-          (honest_steps _ _ _ _ _ _ _ inv.left.1.honesty c.in_ok-reply.ensures.executes.answers)
-          (sym c.in_ok-reply.ensures.executes.disk.failures) _ _ c.in_ok-put_reply.ensures.0 counts);
+          c.in_ok-reply.ensures.executes _ _ c.in_ok-put_reply.ensures.0 counts);
       sound = λ sound. sym (c.in_ok-put_reply.ensures.1 (inv.sound sound));
       left = left_both g.D.TapeDisk c.args.disk.now c.loop-command.disk c.execute.new.disk inv.left (
         _,

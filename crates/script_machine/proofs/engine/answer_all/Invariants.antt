@@ -8,14 +8,8 @@ abbrev pub invariant-loop-command : goal.invariant-loop-command
 invariant-loop-command g l =
     record {
       room : l.refused + length l.records ≤ length l.fn.records;
-      ran : RunSoFar (record {
-        honest = g.D.TapeDisk.honest l.fn.disk;
-        failed = g.D.TapeDisk.failures l.fn.disk;
-        failed_now =
-            g.D.TapeDisk.failures l.disk;
-      })
-          (commands_of l.fn.records) (written g.W.Write.contents l.fn.writer) (written g.W.Write.contents l.writer) l.refused
-          (commands_of l.records) l.session;
+      ran : RunSoFar g.D.TapeDisk (commands_of l.fn.records) (commands_of l.records) l.fn.disk l.disk l.session l.refused
+          (written g.W.Write.contents l.fn.writer) (written g.W.Write.contents l.writer);
       sound : has_failed l.fn.writer ≡ false → has_failed l.writer ≡ false;
       left : (faults : ℕ) × DiskFrame g.D.TapeDisk faults l.fn.disk l.disk;
     }

@@ -1,4 +1,4 @@
-use Rattle.std.specs.Prelude.{◌≡◌, take, refl, Some}
+use Rattle.std.specs.Prelude.{take, refl}
 use Rattle.std.proofs.Common.{◌∙◌, ap, sym, subst}
 use Rattle.std.proofs.lemmas.Result.{IfErr-at_err}
 use Rattle.std.specs.Option.{is_some}
@@ -6,7 +6,7 @@ use Rattle.query_checks.specs.Checks.{Checked}
 use Rattle.batch_reader.specs.Refusal.{BuildFault}
 use Rattle.replies.specs.BatchLaws.{read_are_packed}
 use Rattle.script_commands.specs.Commands as ask
-use Rattle.script_machine.proofs.Words.{BatchError, Executes, Held, IsRead, Store, Updates, kinds}
+use Rattle.script_machine.proofs.Words.{Executes, Store, Updates, kinds}
 use Rattle.replies.specs.declared.refusal.Refusal.{Refusal}
 use Rattle.replies.specs.declared.refusal.Refusal.TheVariants as why
 use Rattle.replies.specs.declared.reply.Reply.TheVariants as says

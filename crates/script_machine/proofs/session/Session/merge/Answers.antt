@@ -1,9 +1,9 @@
-use Rattle.std.specs.Prelude.{◌≡◌, Some, IsTrue}
+use Rattle.std.specs.Prelude.{◌≡◌, Some}
 use Rattle.std.proofs.Common.{ap, sym, subst}
 use Rattle.std.specs.Option.{is_some}
 use Rattle.replica_merge.specs.MergeLaws.{merged_told, merged_fits}
 use Rattle.replica_merge.specs.Results.{JoinsHeld, MergesHeld}
-use Rattle.script_machine.proofs.Words.{Held, Parts, Store, Updates, replica_at}
+use Rattle.script_machine.proofs.Words.{Held, Store, Updates, replica_at}
 use Rattle.script_machine.proofs.StoreLaws.{merge_refused, merged, one_there, store_replaced, turns_it, updated}
 use Rattle.script_machine.proofs.session.Session.merge.Goals as goal
 
@@ -75,7 +75,7 @@ returns g c = λ owned.
     let held : MergesHeld honest own theirs later = c.commit.ensures honest theirs joins in
     record {
       answers = turns_it c.self.view_is (merged old new c.args.into.now c.args.from.now owned own theirs later c.self.invariant there
-          found.3 (merged_told honest own theirs later held) (merged_fits honest own theirs later held) u);
+          found.3 (merged_told honest own theirs later held) (merged_fits honest own theirs later held) held u);
       tells = c.in-Ok.ensures.tells owned;
       disk = c.in-Ok.ensures.disk;
       limit = λ right. c.in-Ok.ensures.limit right owned;

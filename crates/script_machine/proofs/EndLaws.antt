@@ -1,0 +1,205 @@
+-- How a run of a script ends, by what its commands did.
+use Rattle.std.specs.Prelude.{◌≡◌, ◌≤◌, refl, ℕ, Bool, false, IsTrue, List, length, Option, Some, None, IfSome, OnOk, Result}
+use Rattle.std.specs.Prelude.{Ok, Err}
+use Rattle.std.proofs.Common.{sym, subst, arith}
+use Rattle.std.specs.Io.KnownBytes.{Appends, Consumes, IsAtEnd}
+use Rattle.std.specs.Result.{IsErrAnd}
+use Rattle.std.proofs.KnownBytes.{Keeps-refl}
+use Rattle.grouping_model.specs.declared.limits.TheConstants.{MAX_INPUT_LEN}
+use Rattle.tape_disks.specs.DiskLaws.{leaves_none}
+use Rattle.tape_disks.specs.declared.disk.TapeDisk.{Ghosts}
+use Rattle.script_io.specs.Fused.{FailsAsTold}
+use Rattle.script_io.specs.Input.{StopsReading, is_read_fault}
+use Rattle.script_io.specs.InputLaws.{consumes-all, consumes-longer}
+use Rattle.script_io.specs.Output.{StopsShort}
+use Rattle.script_io.specs.declared.fused.Fused.{Fused}
+use Rattle.script_io.specs.declared.input.InputError.{InputError}
+use Rattle.script_io.specs.declared.input.InputError.TheVariants as input
+use Rattle.replies.specs.declared.ending.Outcome.{Outcome}
+use Rattle.replies.specs.declared.error.RunError.{RunError}
+use Rattle.replies.specs.declared.error.RunError.TheVariants as stop
+use Rattle.script_machine.proofs.Words.{AreWritten, Command, DiskFrame, ExecutesAllBut, Works, WorksThrough, empty, run_error}
+use Rattle.script_machine.proofs.RunLaws.{output_lengths, ran_all, ran_start, writes_all, writes_front}
+use Rattle.script_machine.specs.Headline.{IsRightOutput, Streams, WritesRight, commands_in}
+use Rattle.script_machine.specs.Output.{Ends, KeepsUnread, StopsAt, WritesAll, disk_over, tells_read_fault, tells_write_fault}
+use Rattle.script_machine.specs.Running.{RunsOver}
+use Rattle.script_machine.specs.Text.{joined}
+
+-- what holds of an error that it is passed on as holds of the result
+pub passed_on : {T E : Type 0} (result : Result T E) (e : E) (P : Result T E → Type 0) → IsErrAnd result (λ x. x ≡ e) → P (Err e) → P result
+passed_on (Ok x) e P failed p = absurd failed
+passed_on (Err x) e P failed p = subst (λ y. P (Err y)) (sym failed) p
+
+-- the same of what a run tells
+module _ {T : Type 0} (result : Result T RunError) (e : RunError) (passed : IsErrAnd result (λ x. x ≡ e)) where
+  pub never_fine : (P : Type 0) → OnOk result P
+  never_fine P = passed_on result e (λ r. OnOk r P) passed tt
+
+  pub fails_passed : {W : Type 0} (old new : Fused W) → FailsAsTold old new (tells_write_fault {A = T} (Err e))
+      → FailsAsTold old new (tells_write_fault result)
+  fails_passed old new h = passed_on result e (λ r. FailsAsTold old new (tells_write_fault r)) passed h
+
+  pub faults_passed : (failed : Bool) → tells_read_fault {A = T} (Err e) ≡ failed → tells_read_fault result ≡ failed
+  faults_passed failed h = passed_on result e (λ r. tells_read_fault r ≡ failed) passed h
+
+module _ {D : Type 0} (g : Ghosts D) (result : Result Outcome RunError) (e : RunError) (passed : IsErrAnd result (λ x. x ≡ e)) where
+  pub works_passed : (commands : List Command) (old new : Option (List ℕ)) (before after : D)
+      → Works g commands old new before after (Err e)
+      → Works g commands old new before after result
+  works_passed commands old new before after h = passed_on result e (λ r. Works g commands old new before after r) passed h
+
+  pub runs_passed : (before after : D) (streams : Streams) → RunsOver g before after streams (Err e)
+      → RunsOver g before after streams result
+  runs_passed before after streams h = passed_on result e (λ r. RunsOver g before after streams r) passed h
+
+-- ---- a script that was read
+
+module _ {D : Type 0} (g : Ghosts D) (before after : D) (streams : Streams) (script : List ℕ) (short : length script ≤ MAX_INPUT_LEN)
+  where
+    ends_of : (result : Result Outcome RunError) → Works g (commands_in script) streams.old streams.new before after result
+        → (faults : ℕ) × DiskFrame g faults before after
+        → Ends (disk_over g before after) (record streams { script = Some script }) result
+    ends_of (Ok outcome) works disk = (short, writes_all g (commands_in script) before after streams.old streams.new outcome.refused works)
+    ends_of (Err stop.WriteFault) works disk = (
+      (
+        short,
+        writes_front g works.0 (commands_in script) before after _ (StopsShort streams.old streams.new) (λ replies wrote. wrote) works.1,
+      ),
+      tt,
+    )
+    ends_of (Err stop.NoMemory) works disk =
+        let later = works.4.failures in (
+          (
+            λ long. absurd (omega (arith, long, short)),
+            g.failures works.1,
+            omega (arith, later),
+            writes_front g works.0 (commands_in script) before works.1 (AreWritten streams.old streams.new works.2)
+                (Appends streams.old streams.new) (λ replies wrote. wrote.writes) works.5,
+          ),
+          tt,
+        )
+    ends_of (Err stop.InputTooLong) works disk = absurd works
+    ends_of (Err stop.ReadFault) works disk = absurd works
+
+    through_of : (result : Result Outcome RunError) → Works g (commands_in script) streams.old streams.new before after result
+        → WorksThrough g (record streams { script = Some script }) before after result
+    through_of (Ok outcome) works = works
+    through_of (Err stop.WriteFault) works = works
+    through_of (Err stop.NoMemory) works = works
+    through_of (Err stop.InputTooLong) works = absurd works
+    through_of (Err stop.ReadFault) works = absurd works
+
+    runs_known : (result : Result Outcome RunError) → Works g (commands_in script) streams.old streams.new before after result
+        → (faults : ℕ) × DiskFrame g faults before after → RunsOver g before after (record streams { script = Some script }) result
+    runs_known result works disk =
+        record { ends = ends_of result works disk; works = through_of result works; disk = disk }
+
+-- the same where nothing is known of the script
+runs_unknown : {D : Type 0} (g : Ghosts D) (before after : D) (commands : List Command) (old new : Option (List ℕ))
+    (result : Result Outcome RunError) → Works g commands old new before after result → (faults : ℕ) × DiskFrame g faults before after
+    → RunsOver g before after (record { script = None; old = old; new = new }) result
+runs_unknown g before after commands old new (Ok outcome) works disk = record { ends = tt; works = tt; disk = disk }
+runs_unknown g before after commands old new (Err stop.WriteFault) works disk = record { ends = (tt, tt); works = tt; disk = disk }
+runs_unknown g before after commands old new (Err stop.NoMemory) works disk = record { ends = (tt, tt); works = tt; disk = disk }
+runs_unknown g before after commands old new (Err stop.InputTooLong) works disk = absurd works
+runs_unknown g before after commands old new (Err stop.ReadFault) works disk = absurd works
+
+pub runs_read : {D : Type 0} (g : Ghosts D) (before after : D) (a b old new : Option (List ℕ)) (script : List ℕ)
+    (result : Result Outcome RunError) → length script ≤ MAX_INPUT_LEN → Consumes a b script → IsAtEnd b
+    → Works g (commands_in script) old new before after result → (faults : ℕ) × DiskFrame g faults before after
+    → RunsOver g before after (record { script = a; old = old; new = new }) result
+runs_read g before after None b old new script result short took ended works disk =
+    runs_unknown g before after (commands_in script) old new result works disk
+runs_read g before after (Some all) b old new script result short took ended works disk =
+    subst (λ xs. RunsOver g before after (record { script = Some xs; old = old; new = new }) result)
+    (sym (consumes-all (Some all) b script took ended))
+    (runs_known g before after (record { script = Some script; old = old; new = new }) script short result works disk)
+
+-- a script that was read tells no fault of its reader
+pub faults_read : {D : Type 0} (g : Ghosts D) (before after : D) (commands : List Command) (old new : Option (List ℕ))
+    (result : Result Outcome RunError) → Works g commands old new before after result → tells_read_fault result ≡ false
+faults_read g before after commands old new (Ok outcome) works = refl
+faults_read g before after commands old new (Err stop.WriteFault) works = refl
+faults_read g before after commands old new (Err stop.NoMemory) works = refl
+faults_read g before after commands old new (Err stop.InputTooLong) works = absurd works
+faults_read g before after commands old new (Err stop.ReadFault) works = absurd works
+
+-- ---- a script that was not read
+
+module _ {D : Type 0} (g : Ghosts D) (disk : D) (known : Option (List ℕ)) where
+  -- nothing was executed yet
+  none_yet : (commands : List Command) → ExecutesAllBut g commands commands disk disk (AreWritten known known 0)
+  none_yet commands = ran_all g commands commands disk disk empty 0 known known (ran_start g commands disk empty known refl)
+
+  stops_unread : (a b : Option (List ℕ)) (e : InputError) → StopsReading a b MAX_INPUT_LEN e
+      → IfSome a (λ script. StopsAt (disk_over g disk disk) script known known (run_error e))
+  stops_unread None b e h = tt
+  stops_unread (Some script) b input.ReadFault h = tt
+  stops_unread (Some script) b input.TooLong h = consumes-longer (Some script) b h.0 MAX_INPUT_LEN h.1 h.2
+  stops_unread (Some script) b input.NoMemory h = (
+    λ long. Keeps-refl known,
+    g.failures disk,
+    omega arith,
+    writes_front g (commands_in script) (commands_in script) disk disk (AreWritten known known 0) (Appends known known)
+        (λ replies wrote. wrote.writes) (none_yet (commands_in script)),
+  )
+
+  keeps_unread : (e : InputError) → KeepsUnread known known (run_error e)
+  keeps_unread input.ReadFault = Keeps-refl known
+  keeps_unread input.TooLong = Keeps-refl known
+  keeps_unread input.NoMemory = tt
+
+  through_unread : (a : Option (List ℕ)) (e : InputError) → WorksThrough g (record { script = a; old = known; new = known }) disk disk
+      (Err (run_error e))
+  through_unread a input.ReadFault = refl
+  through_unread a input.TooLong = refl
+  through_unread None input.NoMemory = tt
+  through_unread (Some script) input.NoMemory =
+      (commands_in script, disk, 0, 0, leaves_none g disk, none_yet (commands_in script))
+
+  pub runs_unread : (a b : Option (List ℕ)) (e : InputError) → StopsReading a b MAX_INPUT_LEN e
+      → RunsOver g disk disk (record { script = a; old = known; new = known }) (Err (run_error e))
+  runs_unread a b e h = record {
+    ends = (stops_unread a b e h, keeps_unread e);
+    works = through_unread a e;
+    disk = (0, leaves_none g disk);
+  }
+
+pub told_as : (e : InputError) → tells_read_fault {A = Outcome} (Err (run_error e)) ≡ is_read_fault e
+told_as input.ReadFault = refl
+told_as input.NoMemory = refl
+told_as input.TooLong = refl
+
+-- it tells no fault of a writer
+pub fails_unread : {W : Type 0} (e : InputError) (writer : Fused W) → FailsAsTold writer writer (tells_write_fault {A = Outcome}
+    (Err (run_error e)))
+fails_unread input.ReadFault writer = λ sound. sym sound
+fails_unread input.NoMemory writer = λ sound. sym sound
+fails_unread input.TooLong writer = λ sound. sym sound
+
+-- ---- the promise
+
+-- over an honest disk a run that ended well wrote the right output
+pub writes_right : {D : Type 0} (g : Ghosts D) (before after : D) (streams : Streams) (result : Result Outcome RunError)
+    → RunsOver g before after streams result → OnOk result (IsTrue (g.honest before) → WritesRight streams)
+writes_right g before after streams (Err e) runs = tt
+writes_right g before after streams (Ok outcome) runs = λ so. go so streams.script runs.ends
+  where
+    go : IsTrue (g.honest before) → (script : Option (List ℕ)) → IfSome script (λ s. (length s ≤ MAX_INPUT_LEN)
+        × WritesAll (disk_over g before after) (commands_in s) streams.old streams.new outcome.refused)
+        → IfSome script (λ s. (output : List ℕ) × Appends streams.old streams.new output × IsRightOutput s output)
+    go so None ends = tt
+    go so (Some script) ends =
+        let all = ends.1 in
+        let lengths = output_lengths (disk_over g before after) (commands_in script) all.replies all.texts all.output in (
+          joined all.texts,
+          all.writes,
+          record {
+            replies = all.replies;
+            texts = all.texts;
+            each = lengths.0;
+            each_text = lengths.1;
+            right = all.output.right so;
+            whole = refl;
+          },
+        )
