@@ -57,6 +57,11 @@ def _text(text: str) -> bytes:
     return text.encode("utf-8", "surrogatepass")
 
 
+def _bytes(data: Bytes) -> bytes:
+    """A copy of what can be changed, since other threads run while a call works."""
+    return data if isinstance(data, bytes) else bytes(memoryview(data))
+
+
 class Summary:
     """The state of a grouping query: of each origin it knows the batches 1 to some number, as groups, and those that came early.
 
@@ -99,7 +104,7 @@ class Summary:
     @classmethod
     def from_bytes(cls: Type[Summary], data: Bytes, *, limit: int = USUAL_LIMIT) -> Summary:
         """The summary of the bytes of a summary file, in either version of the format. Any bytes may be given."""
-        data = bytes(data)
+        data = _bytes(data)
         summary = cls.__new__(cls)
         summary._open(_library.LIBRARY.agg_load, (data, len(data)), limit)
         return summary
@@ -126,8 +131,7 @@ class Summary:
 
     def feed(self, batch: Union[Bytes, str]) -> Delivered:
         """Feeds a batch file: records in CSV, of which the first is `batch,ORIGIN,NUMBER,ROWS`."""
-        # A copy of what can be changed, since other threads run meanwhile.
-        data = _text(batch) if isinstance(batch, str) else bytes(batch)
+        data = _text(batch) if isinstance(batch, str) else _bytes(batch)
         return self._delivered(*self._handle.deliver(_library.LIBRARY.agg_feed, data, len(data)))
 
     def feed_rows(self, origin: int, number: int, rows: Any) -> Delivered:
@@ -154,7 +158,7 @@ class Summary:
     def merge(self, other: Union[Summary, Bytes]) -> None:
         """Learns what another summary knows, or what the bytes of one do. The other stays as it is."""
         if not isinstance(other, Summary):
-            data = bytes(other)
+            data = _bytes(other)
             self._handle.change(_library.LIBRARY.agg_merge_bytes, data, len(data))
         elif other._handle is not self._handle:
             self._handle.merge(other._handle)

@@ -100,6 +100,15 @@ class Merging(unittest.TestCase):
         with self.assertRaises(TypeError):
             hash(one)
 
+    def test_no_bytes(self):
+        one = self.fed((0, 1))
+        for call in (one.feed, one.merge, agg.Summary.from_bytes):
+            for bad in (5, None, [1, 2]):
+                with self.assertRaises(TypeError):
+                    call(bad)
+        with self.assertRaises(TypeError):
+            agg.Summary.from_bytes("text")
+
     def test_another_query_and_disagreement(self):
         one = self.fed((0, 1), (1, 5))
         with self.assertRaises(agg.errors.DifferentQuery):

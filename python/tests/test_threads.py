@@ -4,6 +4,7 @@ import concurrent.futures
 import gc
 import multiprocessing
 import threading
+import time
 import unittest
 
 import agg
@@ -105,23 +106,23 @@ class Threads(unittest.TestCase):
         return summary
 
     def test_others_run_while_a_call_works(self):
-        rows = batch(0, 1, [("city" + str(number), number, None) for number in range(100_000)])
-        summary, counted, ended = new(), [0], threading.Event()
+        data = batch(0, 1, [("city" + str(number), number, None) for number in range(300_000)])
+        summary, worked, seen = new(), [], []
 
         def work():
-            for _ in range(5):
-                summary.merge(agg.Summary.from_bytes(file))
-            ended.set()
+            worked.append(time.monotonic())
+            summary.feed(data)
+            worked.append(time.monotonic())
 
-        summary.feed(rows)
-        file = bytes(summary)
         thread = threading.Thread(target=work)
         thread.start()
-        while not ended.wait(0.0005):
-            counted[0] += 1
+        while thread.is_alive():
+            seen.append(time.monotonic())
+            time.sleep(0.001)
         thread.join()
-        # Ten calls, each of some hundredths of a second: where they held the interpreter, this would count once or twice a call.
-        self.assertGreater(counted[0], 40)
+        begun, ended = worked
+        # Where the call held the interpreter, there would be one or two.
+        self.assertGreater(sum(begun < moment < ended for moment in seen), 10)
 
     def test_processes(self):
         with concurrent.futures.ProcessPoolExecutor(2, mp_context=multiprocessing.get_context("spawn")) as executor:

@@ -1,2 +1,3 @@
 mod RowLaws
+mod SessionLaws
 mod StatusLaws

@@ -118,7 +118,8 @@ impl Session {
     ///
     /// Those of [`command_replicas::feed`]. Nothing changes then.
     pub fn feed(&mut self, file: &[u8]) -> Result<Delivered, Refusal>
-        ensures { FeedsSession (read_file file.now) self.old self.new result }
+        ensures feeds { FeedsSession (read_file file.now) self.old self.new result }
+        ensures same { OnErr result (self.new ≡ self.old) }
     {
         let mut disk = MemDisk::new(self.alloc);
         command_replicas::feed(
@@ -143,7 +144,8 @@ impl Session {
         count: u32,
         rows: &[u8],
     ) -> Result<Delivered, Refusal>
-        ensures { FeedsSession (batch_of origin number count rows.now) self.old self.new result }
+        ensures feeds { FeedsSession (batch_of origin number count rows.now) self.old self.new result }
+        ensures same { OnErr result (self.new ≡ self.old) }
     {
         let mut disk = MemDisk::new(self.alloc);
         let schema = self.replica.query().schema();
@@ -166,7 +168,8 @@ impl Session {
     ///
     /// Those of [`Replica::merge`]. Nothing changes then.
     pub fn merge(&mut self, other: &Session) -> Result<(), Refusal>
-        ensures { MergesSession other.now self.old self.new result }
+        ensures merges { MergesSession other.now self.old self.new result }
+        ensures same { OnErr result (self.new ≡ self.old) }
     {
         let mut disk = MemDisk::new(self.alloc);
         match self
@@ -184,7 +187,8 @@ impl Session {
     ///
     /// Those of [`command_replicas::merge`]. Nothing changes then.
     pub fn merge_file(&mut self, file: &[u8]) -> Result<(), Refusal>
-        ensures { MergesFileSession file.now self.old self.new result }
+        ensures merges { MergesFileSession file.now self.old self.new result }
+        ensures same { OnErr result (self.new ≡ self.old) }
     {
         let mut disk = MemDisk::new(self.alloc);
         command_replicas::merge(
