@@ -178,9 +178,9 @@ typedef struct {
 } agg_place;
 
 /*
- * The sentence of the last call on the slot that was refused by a status from 10 on, which is for people: as agg_tool says it, or a short
- * one of agg_feed_rows and where there was no memory for that; no bytes where none was refused. Ask for it behind such a status, before
- * other calls on the slot. It works on a slot without a summary, too, behind a refusal of agg_new or agg_load.
+ * A sentence of the last call on the slot that was refused by a status from 10 on, which is for people: a short one in this version, of the
+ * status and its place alone; no bytes where none was refused. Ask for it behind such a status, before other calls on the slot. It works on
+ * a slot without a summary, too, behind a refusal of agg_new or agg_load.
  */
 uint32_t agg_reason(agg_slot *slot, agg_place *place, size_t *wanted);
 

@@ -1,15 +1,30 @@
 -- What the exports do to slots, by what they do to what these keep.
 use Rattle.std.specs.Prelude.{◌≡◌, ℕ, List, length, Option, Some, None, Result, Ok, Err, IfOk, OnOk, OnErr, refl}
-use Rattle.std.proofs.Common.{ap, subst, sym}
+use Rattle.std.proofs.Common.{ap, subst, sym, inr}
 use Rattle.replica_merge.specs.Replicas.{Held}
 use Rattle.replies.specs.declared.refusal.Refusal.{Refusal}
+use Rattle.replies.specs.declared.refusal.Refusal.TheVariants.{NoMemory}
+use Rattle.engine.specs.Calls.{Creates, Loads}
 use Rattle.engine.specs.Sessions.{SessionState}
-use Rattle.engine.specs.Statuses.{number_told}
+use Rattle.engine.specs.Statuses.{number_told, status_number}
 use Rattle.engine.specs.declared.status.Status.{Status}
 use Rattle.engine.specs.declared.status.Status.TheVariants.{NotOpen}
-use Rattle.engine_calls.specs.Calls.{OnSession, Asks}
+use Rattle.engine.specs.declared.status.Status.TheVariants as says
+use Rattle.engine_calls.specs.Calls.{OnSession, OpensBy, Asks}
 use Rattle.engine_calls.specs.Keeping.{KeptState}
 use Rattle.engine_c.specs.Exports.{kept_by, CallsSlot, AsksSlot}
+
+-- nothing is given
+pub given_nothing : {T : Type 0} (r : Result T Status) → IfOk r (λ _. Unit {0})
+given_nothing (Ok x) = tt
+given_nothing (Err e) = tt
+
+-- for want of memory no session is made
+pub unmade_for_memory : (columns query : List ℕ) (limit : ℕ) → OpensBy {T = Unit {0}} (Creates columns query limit) None None (Err says.NoMemory)
+unmade_for_memory columns query limit = (NoMemory, (λ other. absurd (other refl)), refl)
+
+pub unloaded_for_memory : (file : List ℕ) (limit : ℕ) → OpensBy {T = Unit {0}} (Loads file limit) None None (Err says.NoMemory)
+unloaded_for_memory file limit = (NoMemory, inr tt, refl)
 
 module _ {T : Type 0} (does : (old new : Option SessionState) → Result T Status → Type 0) (gives : T → Type 0) where
   -- a call on what a slot keeps is one on the slot
@@ -30,15 +45,15 @@ module _ {T : Type 0} (does : (old new : Option SessionState) → Result T Statu
       }
 
   -- a slot that stays empty keeps nothing, before and after
-  pub empty_slot : (old new : Option KeptState) (status : Status) → old ≡ None → new ≡ None → does None None (Err status)
-      → CallsSlot does gives old new (number_told {T} (Err status))
-  empty_slot old new status was is calls =
+  pub empty_slot : (old new : Option KeptState) (status : Status) (number : ℕ) → old ≡ None → new ≡ None → does None None (Err status)
+      → number ≡ status_number status → CallsSlot does gives old new number
+  empty_slot old new status number was is calls ended =
       let before = ap kept_by was in let after = ap kept_by is in
       record {
         outcome = Err status;
         calls = subst (λ (x : KeptState). does x.session (kept_by new).session (Err status)) (sym before)
             (subst (λ (x : KeptState). does None x.session (Err status)) (sym after) calls);
-        ended = refl;
+        ended = ended;
         given = tt;
         told = subst (λ (x : KeptState). x.told ≡ (kept_by old).told) (sym after) (sym (ap (λ (x : KeptState). x.told) before));
         same = subst (λ (x : KeptState). x ≡ kept_by old) (sym after) (sym before);
@@ -67,16 +82,16 @@ module _ {T : Type 0} (tells : Held → List ℕ → T → Type 0) (refuses : He
       ok (Err e) p = tt
 
   -- an empty slot has no session that is asked
-  pub unasked_slot : (old new : Option KeptState) (wanted : ℕ) → old ≡ None → new ≡ None
-      → AsksSlot tells refuses gives old new wanted (number_told {T} (Err NotOpen))
-  unasked_slot old new wanted was is =
+  pub unasked_slot : (old new : Option KeptState) (wanted number : ℕ) → old ≡ None → new ≡ None → number ≡ status_number NotOpen
+      → AsksSlot tells refuses gives old new wanted number
+  unasked_slot old new wanted number was is ended =
       let before = ap kept_by was in let after = ap kept_by is in
       record {
         outcome = Err NotOpen;
         asks = subst (λ (x : KeptState). OnSession (Asks tells refuses (kept_by new).told) x.session (kept_by new).session (Err NotOpen))
             (sym before) (subst (λ (x : KeptState). OnSession (Asks tells refuses (kept_by new).told) None x.session (Err NotOpen)) (sym after)
             (refl, refl));
-        ended = refl;
+        ended = ended;
         given = tt;
         wanted = tt;
         same = subst (λ (x : KeptState). x ≡ kept_by old) (sym after) (sym before);

@@ -95,13 +95,12 @@ pub extern "C" fn agg_feed(
     };
     let outcome = kept.feed(batch);
     *slot = filled(kept);
-    match outcome {
-        Ok(told) => {
-            *delivered = delivery(told);
-            Status::Done.number()
-        }
-        Err(status) => status.number(),
-    }
+    let told = match outcome {
+        Ok(told) => told,
+        Err(status) => return status.number(),
+    };
+    *delivered = delivery(told);
+    Status::Done.number()
 }
 
 /// Feeds the batch of an origin and a number whose rows are records in CSV, as many as are told.
@@ -123,13 +122,12 @@ pub extern "C" fn agg_feed_rows(
     };
     let outcome = kept.feed_rows(origin, number, count, rows);
     *slot = filled(kept);
-    match outcome {
-        Ok(told) => {
-            *delivered = delivery(told);
-            Status::Done.number()
-        }
-        Err(status) => status.number(),
-    }
+    let told = match outcome {
+        Ok(told) => told,
+        Err(status) => return status.number(),
+    };
+    *delivered = delivery(told);
+    Status::Done.number()
 }
 
 /// Merges what the session of another slot knows.
@@ -244,13 +242,12 @@ pub extern "C" fn agg_answer(
     let outcome = kept.answer(format_by(aligned));
     *wanted = kept.told().len();
     *slot = filled(kept);
-    match outcome {
-        Ok(count) => {
-            *rows = count;
-            Status::Done.number()
-        }
-        Err(status) => status.number(),
-    }
+    let count = match outcome {
+        Ok(count) => count,
+        Err(status) => return status.number(),
+    };
+    *rows = count;
+    Status::Done.number()
 }
 
 /// Tells the sentence of the last refusal, and its place: it is fetched by `agg_fetch`.
@@ -271,13 +268,12 @@ pub extern "C" fn agg_reason(
     let outcome = kept.explain();
     *wanted = kept.told().len();
     *slot = filled(kept);
-    match outcome {
-        Ok(found) => {
-            *place = found;
-            Status::Done.number()
-        }
-        Err(status) => status.number(),
-    }
+    let found = match outcome {
+        Ok(found) => found,
+        Err(status) => return status.number(),
+    };
+    *place = found;
+    Status::Done.number()
 }
 
 /// Copies what was told last to the bytes at `out`, if it fits there, and tells how long it is.

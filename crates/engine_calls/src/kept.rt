@@ -15,14 +15,11 @@ ghost use Rattle.engine.specs.Calls.{Creates, Loads, FeedsSession, batch_of, Mer
 ghost use Rattle.engine_calls.specs.Calls.{OnSession, OpensBy, Asks, ForMemory, MergesWith};
 
 use crate::place::Place;
-use crate::reasons::{sentence, texts_reason};
 use engine::{Session, Status};
-use fault_sentences::Reason;
-use file_sentences::{FileKind, file_reason, saving_reason, summary_reason};
 use hash_agg::Seed;
 use replica_merge::Delivered;
 use replies::{Format, Refusal};
-use std::alloc::{AllocError, Global};
+use std::alloc::Global;
 use std::marker::Model;
 
 /// What a caller from outside keeps between its calls: a session, if one is open, what was told last, and why a call was refused last.
@@ -32,7 +29,6 @@ pub struct Kept {
     session: Option<Session>,
     told: Vec<u8>,
     why: Option<Refusal>,
-    reason: Option<Reason>,
 }
 
 impl Model for Kept {
@@ -56,17 +52,15 @@ impl Kept {
             session: None,
             told: Vec::new(alloc),
             why: None,
-            reason: None,
         }
     }
 
-    /// Keeps why a call was refused, with its reason where one was found and there was memory to say it.
-    fn refuse(&mut self, why: Refusal, reason: Result<Option<Reason>, AllocError>) -> Status
+    /// Keeps why a call was refused.
+    fn refuse(&mut self, why: Refusal) -> Status
         ensures status { result ≡ status_of why }
         ensures same { self.new ≡ self.old }
     {
         self.why = Some(why);
-        self.reason = reason.unwrap_or(None);
         Status::from(why)
     }
 
@@ -84,20 +78,17 @@ impl Kept {
     ) -> Result<(), Status>
         ensures opens { OpensBy (Creates columns.now query.now limit) self.old.session self.new.session result }
         ensures told { self.new.told ≡ self.old.told }
+        ensures same { OnErr result (self.new ≡ self.old) }
     {
         if self.session.is_some() {
             return Err(Status::AlreadyOpen);
         }
-        match Session::create(self.alloc, columns, query, limit, seed) {
-            Ok(session) => {
-                self.session = Some(session);
-                Ok(())
-            }
-            Err(why) => {
-                let reason = texts_reason(self.alloc, columns, query, why);
-                Err(self.refuse(why, reason))
-            }
-        }
+        let session = match Session::create(self.alloc, columns, query, limit, seed) {
+            Ok(session) => session,
+            Err(why) => return Err(self.refuse(why)),
+        };
+        self.session = Some(session);
+        Ok(())
     }
 
     /// Opens a session of the replica that a summary file is of.
@@ -108,20 +99,17 @@ impl Kept {
     pub fn load(&mut self, file: &[u8], limit: u64, seed: Seed) -> Result<(), Status>
         ensures opens { OpensBy (Loads file.now limit) self.old.session self.new.session result }
         ensures told { self.new.told ≡ self.old.told }
+        ensures same { OnErr result (self.new ≡ self.old) }
     {
         if self.session.is_some() {
             return Err(Status::AlreadyOpen);
         }
-        match Session::load(self.alloc, file, limit, seed) {
-            Ok(session) => {
-                self.session = Some(session);
-                Ok(())
-            }
-            Err(why) => {
-                let reason = summary_reason(self.alloc, file, why);
-                Err(self.refuse(why, reason))
-            }
-        }
+        let session = match Session::load(self.alloc, file, limit, seed) {
+            Ok(session) => session,
+            Err(why) => return Err(self.refuse(why)),
+        };
+        self.session = Some(session);
+        Ok(())
     }
 
     /// Feeds a batch file.
@@ -137,14 +125,11 @@ impl Kept {
         let Some(session) = &mut self.session else {
             return Err(Status::NotOpen);
         };
-        match session.feed(file) {
-            Ok(delivered) => Ok(delivered),
-            Err(why) => {
-                let kind = FileKind::Batch;
-                let reason = file_reason(self.alloc, kind, session.replica(), file, why);
-                Err(self.refuse(why, reason))
-            }
-        }
+        let why = match session.feed(file) {
+            Ok(delivered) => return Ok(delivered),
+            Err(why) => why,
+        };
+        Err(self.refuse(why))
     }
 
     /// Feeds the batch of an origin and a number whose rows are records in CSV, as many as are told.
@@ -166,10 +151,11 @@ impl Kept {
         let Some(session) = &mut self.session else {
             return Err(Status::NotOpen);
         };
-        match session.feed_rows(origin, number, count, rows) {
-            Ok(delivered) => Ok(delivered),
-            Err(why) => Err(self.refuse(why, Ok(None))),
-        }
+        let why = match session.feed_rows(origin, number, count, rows) {
+            Ok(delivered) => return Ok(delivered),
+            Err(why) => why,
+        };
+        Err(self.refuse(why))
     }
 
     /// Merges the replica of another session.
@@ -188,14 +174,11 @@ impl Kept {
         let Some(session) = &mut self.session else {
             return Err(Status::NotOpen);
         };
-        match session.merge(theirs) {
-            Ok(()) => Ok(()),
-            Err(why) => {
-                let kind = FileKind::Summary;
-                let reason = file_reason(self.alloc, kind, session.replica(), b"", why);
-                Err(self.refuse(why, reason))
-            }
-        }
+        let why = match session.merge(theirs) {
+            Ok(()) => return Ok(()),
+            Err(why) => why,
+        };
+        Err(self.refuse(why))
     }
 
     /// Merges the replica that a summary file is of.
@@ -211,14 +194,11 @@ impl Kept {
         let Some(session) = &mut self.session else {
             return Err(Status::NotOpen);
         };
-        match session.merge_file(file) {
-            Ok(()) => Ok(()),
-            Err(why) => {
-                let kind = FileKind::Summary;
-                let reason = file_reason(self.alloc, kind, session.replica(), file, why);
-                Err(self.refuse(why, reason))
-            }
-        }
+        let why = match session.merge_file(file) {
+            Ok(()) => return Ok(()),
+            Err(why) => why,
+        };
+        Err(self.refuse(why))
     }
 
     /// Tells the summary file.
@@ -234,16 +214,12 @@ impl Kept {
         let Some(session) = &self.session else {
             return Err(Status::NotOpen);
         };
-        match session.save() {
-            Ok(file) => {
-                self.told = file;
-                Ok(())
-            }
-            Err(why) => {
-                let reason = saving_reason(self.alloc, session.replica(), why);
-                Err(self.refuse(why, reason))
-            }
-        }
+        let file = match session.save() {
+            Ok(file) => file,
+            Err(why) => return Err(self.refuse(why)),
+        };
+        self.told = file;
+        Ok(())
     }
 
     /// Tells the table of the answer in a format, and how many rows it has.
@@ -259,13 +235,12 @@ impl Kept {
         let Some(session) = &self.session else {
             return Err(Status::NotOpen);
         };
-        match session.answer(format) {
-            Ok((rows, table)) => {
-                self.told = table;
-                Ok(rows)
-            }
-            Err(_) => Err(self.refuse(Refusal::NoMemory, Ok(None))),
-        }
+        let (rows, table) = match session.answer(format) {
+            Ok(found) => found,
+            Err(_) => return Err(self.refuse(Refusal::NoMemory)),
+        };
+        self.told = table;
+        Ok(rows)
     }
 
     /// Tells what is known, a line for each origin.
@@ -281,13 +256,12 @@ impl Kept {
         let Some(session) = &self.session else {
             return Err(Status::NotOpen);
         };
-        match session.known() {
-            Ok(lines) => {
-                self.told = lines;
-                Ok(())
-            }
-            Err(_) => Err(self.refuse(Refusal::NoMemory, Ok(None))),
-        }
+        let lines = match session.known() {
+            Ok(lines) => lines,
+            Err(_) => return Err(self.refuse(Refusal::NoMemory)),
+        };
+        self.told = lines;
+        Ok(())
     }
 
     /// Tells the canonical text of the query.
@@ -303,13 +277,12 @@ impl Kept {
         let Some(session) = &self.session else {
             return Err(Status::NotOpen);
         };
-        match session.query().as_bytes().to_vec(self.alloc) {
-            Ok(text) => {
-                self.told = text;
-                Ok(())
-            }
-            Err(_) => Err(self.refuse(Refusal::NoMemory, Ok(None))),
-        }
+        let text = match session.query().as_bytes().to_vec(self.alloc) {
+            Ok(text) => text,
+            Err(_) => return Err(self.refuse(Refusal::NoMemory)),
+        };
+        self.told = text;
+        Ok(())
     }
 
     /// Tells the canonical text of the columns.
@@ -325,13 +298,12 @@ impl Kept {
         let Some(session) = &self.session else {
             return Err(Status::NotOpen);
         };
-        match session.columns() {
-            Ok(text) => {
-                self.told = text.into_bytes();
-                Ok(())
-            }
-            Err(_) => Err(self.refuse(Refusal::NoMemory, Ok(None))),
-        }
+        let text = match session.columns() {
+            Ok(text) => text,
+            Err(_) => return Err(self.refuse(Refusal::NoMemory)),
+        };
+        self.told = text.into_bytes();
+        Ok(())
     }
 
     /// Tells the sentence of the last refusal, or nothing where there was none, and its place. The only error is want of memory, and
@@ -344,9 +316,9 @@ impl Kept {
             self.told.clear();
             return Ok(Place::NONE);
         };
-        match sentence(self.alloc, why, &self.reason) {
+        match format!(in self.alloc; "{why}") {
             Ok(text) => {
-                self.told = text;
+                self.told = text.into_bytes();
                 Ok(Place::of(why))
             }
             Err(_) => Err(Status::NoMemory),

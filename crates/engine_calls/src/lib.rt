@@ -3,7 +3,6 @@
 
 mod kept;
 mod place;
-mod reasons;
 
 pub use kept::Kept;
 pub use place::Place;
