@@ -36,7 +36,7 @@ pub record AfterFeed (honest : Bool) (file : Option BatchFile) (old new : Held) 
 pub record AfterMergedFile {T : Type 0} (honest : Bool) (file : List ℕ) (old new : Held) (result : Result T Refusal) : Type 0 where
   pub joined : OnOk result ((other : Held) × IsSummary file other.query other.parts × ¬ (DisagreeSomewhere old.parts other.parts)
       × MergesParts honest old.query old.parts other.parts new.parts × (new.query ≡ old.query) × (other.query ≡ old.query))
-  pub told : OnOk result ((other : Held) × IsSummary file other.query other.parts
+  pub knows : OnOk result ((other : Held) × IsSummary file other.query other.parts
       × (told new.parts ≡ union (told old.parts) (told other.parts)))
   pub fits : OnOk result (IsTrue honest → (world : World) → IsWorld (kinds old.query.columns) world → Fits world old → (other : Held)
       → IsSummary file other.query other.parts → Fits world other → Fits world new)

@@ -22,7 +22,7 @@ use Rattle.replica_merge.specs.declared.error.MergeError.TheVariants.{Join}
 pub record AfterDelivery (honest : Bool) (old : Held) (batch : Batch) (new : Held) (result : Result Delivered RefusedBatch) : Type 0 where
   pub held : AreHeldParts new.query new.parts
   pub reply : IfOk result (λ reply. reply ≡ reply_of (told old.parts) (batch.origin, batch.number))
-  pub told : OnOk result (told new.parts ≡ learn (told old.parts) (batch.origin, batch.number))
+  pub learns : OnOk result (told new.parts ≡ learn (told old.parts) (batch.origin, batch.number))
   pub fits : OnOk result (IsTrue honest → (world : World) (rows : List Row) → IsWorld (kinds old.query.columns) world → Fits world old
       → world batch.origin batch.number ≡ Some rows → batch.rows ≡ packings rows → Fits world new)
   pub agreed : OnOk result (¬ (Disagrees (part_of old.parts batch.origin) batch.number batch.rows))
@@ -45,7 +45,7 @@ pub record AfterJoin (own theirs : Held) (result : Result Parts MergeError) : Ty
 
 -- a replica took in another: it knows what either knew and, over an honest disk, fits each world that both fitted
 pub record AfterMerge {T : Type 0} (honest : Bool) (old other new : Held) (result : Result T MergeError) : Type 0 where
-  pub told : OnOk result (told new.parts ≡ union (told old.parts) (told other.parts))
+  pub knows : OnOk result (told new.parts ≡ union (told old.parts) (told other.parts))
   pub fits : OnOk result (IsTrue honest → (world : World) → IsWorld (kinds old.query.columns) world → Fits world old → Fits world other
       → Fits world new)
   pub apart : TellsApart old other result

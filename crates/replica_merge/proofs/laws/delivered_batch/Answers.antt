@@ -5,7 +5,7 @@ pub returns : goal.returns
 returns c = λ honest old new batch result d. record {
   held = laws.delivery_held honest old new batch result d;
   reply = laws.delivery_reply honest old new batch result d;
-  told = laws.delivery_told honest old new batch result d;
+  learns = laws.delivery_told honest old new batch result d;
   fits = laws.delivery_fits honest old new batch result d;
   agreed = laws.delivery_agreed honest old new batch result d;
   refused = laws.delivery_refused honest old new batch result d;
