@@ -16,6 +16,6 @@ pub fn fed_file()
 
 /// What holds after a summary file was merged, by what `merge` tells.
 pub fn merged_file()
-    ensures { (T : Type 0) (honest : Bool) (file : List ℕ) (old new : Held) (result : Result T Refusal) →
+    ensures { (honest : Bool) (file : List ℕ) (old new : Held) (result : Result (Unit {0}) Refusal) →
         MergesFile honest file old new result → AfterMergedFile honest file old new result }
 {}

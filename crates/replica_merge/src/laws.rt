@@ -33,7 +33,7 @@ pub fn joined_replicas()
 
 /// What holds after a merge, by what `merge` tells.
 pub fn merged_replicas()
-    ensures { (T : Type 0) (honest : Bool) (old other new : Held) (result : Result T MergeError) →
+    ensures { (honest : Bool) (old other new : Held) (result : Result (Unit {0}) MergeError) →
         MergesReplicas honest old other new result → AfterMerge honest old other new result }
 {}
 

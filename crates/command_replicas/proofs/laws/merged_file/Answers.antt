@@ -2,7 +2,7 @@ use Rattle.command_replicas.specs.ResultLaws as laws
 use Rattle.command_replicas.proofs.laws.merged_file.Goals as goal
 
 pub returns : goal.returns
-returns c = λ T honest file old new result m. record {
+returns c = λ honest file old new result m. record {
   joined = laws.merge_joined honest file old new result m;
   knows = laws.merge_told honest file old new result m;
   fits = laws.merge_fits honest file old new result m;
