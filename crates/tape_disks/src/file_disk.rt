@@ -78,13 +78,6 @@ impl<F: SeekableFile + Drop> FileDisk<F> {
         FileDisk { file, count: 0 }
     }
 
-    /// The file.
-    pub fn file(&self) -> &F
-        ensures { result.now ≡ self.now.file }
-    {
-        &self.file
-    }
-
     /// How many writes succeeded, or 2^64 - 1 if that is more.
     pub fn writes(&self) -> u64
         ensures { result ≡ min self.now.count 18446744073709551615 }

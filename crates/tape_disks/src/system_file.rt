@@ -7,7 +7,6 @@ ghost use Rattle.tape_disks.specs.Errors.{disk_faults};
 
 use crate::disk::DiskError;
 use crate::seekable_file::SeekableFile;
-use std::io;
 use std::io::{Read, Seek, SeekFrom, Write};
 use std::marker::Model;
 
@@ -19,8 +18,6 @@ use std::marker::Model;
 pub struct SystemFile<F: Read + Write + Seek + Drop> {
     file: F,
     failures: u128,
-    /// The last failure.
-    cause: Option<io::Error>,
 }
 
 impl<F: Read + Write + Seek + Drop> Model for SystemFile<F> {
@@ -36,16 +33,7 @@ impl<F: Read + Write + Seek + Drop> SystemFile<F> {
     pub fn new(file: F) -> SystemFile<F>
         ensures { result ≡ record { file = file; failures = 0 } }
     {
-        SystemFile {
-            file,
-            failures: 0,
-            cause: None,
-        }
-    }
-
-    /// Why its last call that failed did so, if one did.
-    pub fn cause(&self) -> Option<io::Error> {
-        self.cause
+        SystemFile { file, failures: 0 }
     }
 }
 
@@ -65,9 +53,8 @@ impl<F: Read + Write + Seek + Drop> SeekableFile for SystemFile<F> {
         if self.failures == u128::MAX {
             return Err(DiskError::NoMemory);
         }
-        if let Err(cause) = self.file.seek(SeekFrom::Start(at)) {
+        if self.file.seek(SeekFrom::Start(at)).is_err() {
             self.failures += 1;
-            self.cause = Some(cause);
             return Err(DiskError::TapeFault);
         }
         Ok(())
@@ -84,9 +71,8 @@ impl<F: Read + Write + Seek + Drop> SeekableFile for SystemFile<F> {
         }
         match self.file.read(bytes) {
             Ok(n) => Ok(n),
-            Err(cause) => {
+            Err(_) => {
                 self.failures += 1;
-                self.cause = Some(cause);
                 Err(DiskError::TapeFault)
             }
         }
@@ -99,9 +85,8 @@ impl<F: Read + Write + Seek + Drop> SeekableFile for SystemFile<F> {
         if self.failures == u128::MAX {
             return Err(DiskError::NoMemory);
         }
-        if let Err(cause) = self.file.write_all(bytes) {
+        if self.file.write_all(bytes).is_err() {
             self.failures += 1;
-            self.cause = Some(cause);
             return Err(DiskError::TapeFault);
         }
         Ok(())
