@@ -32,7 +32,7 @@ use query_checks::{
 };
 use std::alloc::{AllocError, Global};
 use std::marker::Model;
-use std::rc::Rc;
+use std::sync::Arc;
 
 /// What is kept of a query that passed all checks.
 #[derive(Drop)]
@@ -47,7 +47,7 @@ pub(crate) struct Kept {
 /// what is kept of it.
 #[derive(Drop)]
 pub struct Query {
-    pub(crate) kept: Rc<Kept, Global>,
+    pub(crate) kept: Arc<Kept, Global>,
 }
 
 impl Model for Query {
@@ -130,10 +130,10 @@ fn placed_with_plan(
 }
 
 /// What is kept of a query, once for all its copies. The only error is a failed allocation.
-fn shared(alloc: Global, kept: Kept) -> Result<Rc<Kept>, AllocError>
+fn shared(alloc: Global, kept: Kept) -> Result<Arc<Kept>, AllocError>
     ensures ok { IfOk result (λ shared. shared.value ≡ kept) }
 {
-    Ok(Rc::new(alloc, kept)?)
+    Ok(Arc::new(alloc, kept)?)
 }
 
 impl Query {
