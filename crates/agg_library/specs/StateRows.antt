@@ -10,7 +10,7 @@ use Rattle.agg_protocol.specs.States.{IsState, rows_of, shape_of, bytes_of}
 use Rattle.agg_protocol.specs.declared.kind.AggKind.{AggKind}
 use Rattle.agg_protocol.specs.Kinds.{function_of, kind_shape, kind_width, row_width}
 
--- the bytes denote these partial results, one of each kind, that count at most so many rows each (own)
+-- the bytes denote these partial results, one of each kind, that count at most this many rows each (own)
 abbrev pub DenotesAll : ℕ → List AggKind → List ℕ → List Partial → Type 0
 DenotesAll most [] bytes [] = bytes ≡ []
 DenotesAll most (kind ∷ kinds) bytes (p ∷ ps) = states.Denotes most (kind_shape kind) (take (kind_width kind) bytes) p
@@ -45,7 +45,7 @@ with_part kinds row i kind part = take (row_width (take i kinds)) row
 abbrev pub state_bytes : List Partial → List ℕ
 state_bytes partials = flat_map bytes_of partials
 
--- partial results of these functions, which count at most so many rows each (own)
+-- partial results of these functions, which count at most this many rows each (own)
 abbrev pub ArePartials : ℕ → List Function → List Partial → Type 0
 ArePartials most [] [] = Unit {0}
 ArePartials most (f ∷ fs) (p ∷ ps) = IsState most (shape_of f) p × ArePartials most fs ps

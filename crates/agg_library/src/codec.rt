@@ -1,6 +1,7 @@
 //! The bytes of states, with the highest byte of a number first and signed numbers in two's complement. A count has 8
-//! bytes; a total 24, of which 8 say how many numbers were added; a number that may be absent 9, of which the first says
-//! whether it is there; and a truth value that may be absent 1: 0 for none, 1 for false, 2 for true.
+//! bytes. A total has 24, of which the first 8 say how many numbers were added. A number that may be absent has 9, of
+//! which the first says whether it is there. A truth value that may be absent has 1: 0 for none, 1 for false, 2 for
+//! true.
 
 ghost use Rattle.std.specs.Prelude.{◌≡◌, ◌≤◌, length, IfOk, OnErr, Option, ℤ, true, false};
 ghost use Rattle.grouping_model.specs.Aggregates.{Partial, Counted, Summed, Number, Truth_value};
@@ -35,8 +36,8 @@ pub fn write_count(count: u64, bytes: &mut [u8])
     BigEndian::write_u64(bytes, count);
 }
 
-/// Reads how many numbers were added, and their total. They are `BadState` if there are more than `MAX_COUNTED`, or if so
-/// many numbers of 64 bits cannot have that total.
+/// Reads how many numbers were added, and their total. They are `BadState` if there are more than `MAX_COUNTED`, or if this many numbers of
+/// 64 bits cannot have that total.
 pub fn read_total(bytes: &[u8]) -> Result<(u64, i128), BadState>
     ensures ok { IfOk result (λ t. Denotes most_rows A_sum bytes.now (Summed t.0 t.1)) }
     ensures err { OnErr result ((p : Partial) → ¬ (Denotes most_rows A_sum bytes.now p)) }
@@ -55,7 +56,7 @@ pub fn read_total(bytes: &[u8]) -> Result<(u64, i128), BadState>
     Ok((how_many, total))
 }
 
-// Whether so many numbers of 64 bits can have this total.
+// Whether this many numbers of 64 bits can have this total.
 fn is_total(how_many: u64, total: i128) -> bool
     requires { how_many ≤ most_rows }
     ensures yes { result ≡ true → IsTotal how_many total }

@@ -35,7 +35,7 @@ pub fn init_part<A: Aggregate>(part: &mut [u8])
     A::serialize(&A::init(), part);
 }
 
-/// Reads a state that counts at most `most` rows.
+/// Reads a state that counts at most `most` rows. Other bytes are `BadState`.
 pub fn read_part<A: Counting>(part: &[u8], most: u64) -> Result<A::State, BadState>
     requires { most ≤ most_rows }
     ensures ok { IfOk result
@@ -50,7 +50,7 @@ pub fn read_part<A: Counting>(part: &[u8], most: u64) -> Result<A::State, BadSta
     Ok(state)
 }
 
-/// Checks that the bytes are those of a state that counts at most `most` rows.
+/// Checks that the bytes are those of a state that counts at most `most` rows. Others are `BadState`.
 pub fn check_part<A: Counting>(part: &[u8], most: u64) -> Result<(), BadState>
     requires { most ≤ most_rows }
     ensures ok { OnOk result ((p : Partial) × Denotes most (shape_of A.function) part.now p) }

@@ -46,7 +46,7 @@ function_number function = (signature function).number
 abbrev pub function_at : ℕ → Function
 function_at number = slice_index_or functions number Every
 
--- a function is told by its number
+-- a function's number leads back to it
 pub function_at_back : (function : Function) → function_at (function_number function) ≡ function
 function_at_back Count_rows = refl
 function_at_back function = refl

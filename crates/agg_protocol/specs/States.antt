@@ -33,7 +33,7 @@ rows_of other = 0
 abbrev pub IsTotal : ℕ → ℤ → Type 0
 IsTotal n z = (neg_ℤ (pos (n * 2 ^ 63)) ≤ℤ z) × (z ≤ℤ pos (n * (2 ^ 63 - 1)))
 
--- a partial result of this shape that counts at most so many rows (own)
+-- a partial result of this shape that counts at most this many rows (own)
 abbrev pub IsState : ℕ → Shape → Partial → Type 0
 IsState most A_count (Counted n) = n ≤ most
 IsState most A_sum (Summed n z) = (n ≤ most) × IsTotal n z
@@ -52,6 +52,6 @@ bytes_of (Truth_value None) = 0 ∷ []
 bytes_of (Truth_value (Some false)) = 1 ∷ []
 bytes_of (Truth_value (Some true)) = 2 ∷ []
 
--- the bytes denote a partial result of this shape that counts at most so many rows (own)
+-- the bytes denote a partial result of this shape that counts at most this many rows (own)
 abbrev pub Denotes : ℕ → Shape → List ℕ → Partial → Type 0
 Denotes most shape bytes p = IsState most shape p × (bytes ≡ bytes_of p)

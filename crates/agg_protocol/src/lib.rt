@@ -26,10 +26,10 @@ use thiserror::Error;
 #[error("the bytes are no state of the aggregate")]
 pub struct BadState;
 
-/// What an aggregate function answers (PostgreSQL 17, 9.21 Aggregate Functions).
+/// The result of an aggregate function (PostgreSQL 17, 9.21 Aggregate Functions).
 #[derive(Clone, Copy, Debug, PartialEq, Eq)]
 pub enum ResultValue<'a> {
-    /// Null: what every function but the counts answers where it had no argument.
+    /// Null: the result of every function but the counts, where it had no argument.
     Null,
     /// A number of 64 bits.
     Bigint(i64),
@@ -140,7 +140,8 @@ pub fn aggregate_values<A: Aggregate>(values: &[Value<'_>]) -> A::State
     state
 }
 
-/// The state of two lists of arguments on end, each aggregated by itself (PostgreSQL 17, 36.12.4 Partial Aggregation).
+/// The state of two lists of arguments appended, each aggregated by itself (PostgreSQL 17, 36.12.4 Partial
+/// Aggregation).
 ///
 /// Each argument is null or of the function's argument kind, and there are at most 2^62 - 1.
 pub fn aggregate_in_parts<A: Aggregate>(first: &[Value<'_>], second: &[Value<'_>]) -> A::State
@@ -152,8 +153,8 @@ pub fn aggregate_in_parts<A: Aggregate>(first: &[Value<'_>], second: &[Value<'_>
     A::combine(aggregate_values::<A>(first), aggregate_values::<A>(second))
 }
 
-/// A transition from the partial result of a list is to that of the list with one more argument. It is also what
-/// combining with the partial result of that argument alone makes.
+/// A transition leads from the partial result of a list to that of the list with one more argument. Combining with the
+/// partial result of that argument alone gives the same.
 pub fn moving()
     ensures one_more { (function : Function) (xs : List Datum) (value : Datum) →
         Takes function value →

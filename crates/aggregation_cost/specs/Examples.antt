@@ -13,11 +13,11 @@ digit n power = 48 + n / power % 10
 abbrev pub numbered : ℕ → Key
 numbered n = 1 ∷ 107 ∷ digit n 1000 ∷ digit n 100 ∷ digit n 10 ∷ digit n 1 ∷ 0 ∷ []
 
--- rows of these texts, the first so many, each once, with the packed number 0 beside it
+-- rows of the first of these texts, as many as the number says, each once, with the packed number 0 beside it
 abbrev pub numbered_rows : ℕ → List Record
 numbered_rows n = map (λ i. of_row (numbered i) (numbered i ++ (1 ∷ 128 ∷ 0 ∷ 0 ∷ 0 ∷ 0 ∷ 0 ∷ 0 ∷ 0 ∷ []))) (range_with_len 0 n)
 
--- so many records of the first few of these keys in turn, of 25, 3,025 and 6,025 bytes on a tape in turn
+-- records of the first `few` of these keys in turn, of 25, 3,025 and 6,025 bytes on a tape in turn
 abbrev pub repeated_rows : ℕ → ℕ → List Record
 repeated_rows keys n = map (λ i. record { key = numbered (i % keys); on_tape = 25 + 3000 * (i % 3) }) (range_with_len 0 n)
 

@@ -22,8 +22,8 @@ pub fn small_tables()
         ≡ record { passes = 16; spilled = 28; pages = 15; most_held = 32768 } }
 {}
 
-/// Keys fill blocks from the left: two of 4,096 bytes share one, two of 4,097 don't, and one that is longer than a block
-/// has one of its own, beside which the block that was begun is filled.
+/// Keys fill blocks from the left. Two of 4,096 bytes share a block, two of 4,097 don't. One that is longer than a
+/// block has a block of its own, and the block that was begun is filled further.
 pub fn keys_in_blocks()
     ensures shared { key_blocks (of_lengths (4096 ∷ 4096 ∷ [])) ≡ 8192 }
     ensures not_split { key_blocks (of_lengths (4097 ∷ 4097 ∷ [])) ≡ 16384 }

@@ -9,19 +9,19 @@ use Rattle.batch_reader.specs.Refusal.{BuildFault}
 use Rattle.batch_reader.specs.declared.error.BatchError.{BatchError}
 use Rattle.batch_reader.specs.declared.error.BatchError.TheVariants.{NoMemory, BadBatchHead}
 
--- the first record of a batch file: the fields of origin and number, and how many rows it tells
+-- the first record of a batch file: the fields of origin and number, and how many rows it states
 pub record FileHead : Type 0 where
   pub origin : List ℕ
   pub number : List ℕ
   pub told : ℕ
 
--- what four fields tell as the head of a batch file
+-- what four fields say as the head of a batch file
 abbrev pub told_by : List ℕ → List ℕ → List ℕ → List ℕ → Option FileHead
 told_by word origin number rows =
     if bytes_eq word (codes "batch") then option_map (λ told. record { origin = origin; number = number; told = told }) (row_count rows)
     else None
 
--- what a record tells as the head of a batch file
+-- what a record says as the head of a batch file
 unfoldable pub file_head : Record → Option FileHead
 file_head (word ∷ origin ∷ number ∷ rows ∷ []) = told_by word origin number rows
 file_head fields = None

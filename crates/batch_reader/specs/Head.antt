@@ -1,4 +1,4 @@
--- Which origin and which number the head of a batch tells, each a field of 1 to 10 digits. All of this is our own.
+-- Which origin and which number the head of a batch states, each a field of 1 to 10 digits. All of this is our own.
 use Rattle.std.specs.Prelude.{◌≡◌, ℕ, ◌≤◌, List, Some}
 use Rattle.grouping_model.specs.declared.limits.TheConstants.{LAST_ORIGIN, LAST_NUMBER}
 use Rattle.script_io.specs.Digits.{number_of}

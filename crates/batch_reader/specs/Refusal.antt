@@ -33,7 +33,7 @@ pub record HeadReads (origin number : List ℕ) : Type 0 where
   pub reads_origin : ReadsOrigin origin origin_value
   pub reads_number : ReadsBatchNumber number number_value
 
--- the error of a batch that its head tells
+-- the error of a batch that its head shows
 abbrev pub HeadFault : List ℕ → List ℕ → ℕ → BatchError → Type 0
 HeadFault origin number told BadBatchHead = ¬ (HeadReads origin number)
 HeadFault origin number told TooManyRows = HeadReads origin number × (MAX_ROWS < told)

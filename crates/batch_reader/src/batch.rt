@@ -28,7 +28,8 @@ pub struct Batch {
 }
 
 /// The batch of records that stand for rows of a schema. Origin and number are 1 to 10 digits each, leading zeros
-/// included; `told` is how many rows the batch's head tells. The first refusal is told, in the order of `BatchError`.
+/// included; `told` is the number of rows that the batch's head states. The error is the first that applies, in the
+/// order of `BatchError`.
 pub fn build_batch(
     alloc: Global,
     schema: &Schema,
@@ -59,10 +60,9 @@ pub fn build_batch(
     })
 }
 
-/// The batch of the next records, as many as told or all where fewer are left, by the rules of `build_batch`. These
-/// records are taken in any case, whatever becomes of the batch. They are packed as they are read, so that no more is kept
-/// of them than their rows, and where the head is refused they are passed over in one buffer; memory is taken for the
-/// records that come, and not for the number told.
+/// The batch of the next `told` records, or of all that are left if they are fewer, by the rules of `build_batch`. These records are
+/// consumed in any case. Each is packed as it is read, so only rows are kept; where the head is refused they are skipped through one
+/// buffer. Memory is taken for the records that come, not for the number that the head states.
 ///
 /// The inner error is why they are no batch. The only outer error is that memory ran out for a record, and after it no
 /// more records come.

@@ -7,7 +7,7 @@ ghost use Rattle.batch_reader.specs.declared.error.BatchError.TheVariants.{NoMem
 use std::alloc::AllocError;
 use thiserror::Error;
 
-/// Why a batch is refused. The first that applies is told, in this order, `NoMemory` aside; `WrongWidth` and
+/// Why a batch is refused. Of several errors the first in this order is given, `NoMemory` aside; `WrongWidth` and
 /// `BadField` are those of the first row that is no row of the schema. Rows and columns are counted from 0.
 #[derive(Clone, Copy, Debug, PartialEq, Eq, Error)]
 pub enum BatchError {
@@ -17,10 +17,10 @@ pub enum BatchError {
     /// The origin isn't 0 to 1,023, or the number isn't 1 to 4,294,967,295, in 1 to 10 digits each.
     #[error("no head of a batch, or an origin or a number out of range")]
     BadBatchHead,
-    /// More rows are told than a batch may have.
+    /// The head states more rows than a batch may have.
     #[error("more rows are told than a batch may have")]
     TooManyRows,
-    /// There are more or fewer rows than told.
+    /// There are more or fewer rows than the head states.
     #[error("more or fewer rows than told")]
     RowCount,
     /// A row has more or fewer fields than the schema has columns.

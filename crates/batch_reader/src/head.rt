@@ -45,7 +45,7 @@ pub(crate) fn read_batch_number(field: &[u8]) -> Option<u32>
     Some(number as u32)
 }
 
-/// The origin and the number of a batch, where its head is right and tells no more rows than a batch may have.
+/// The origin and the number of a batch, where its head is right and states no more rows than a batch may have.
 pub(crate) fn checked_head(
     origin: &[u8],
     number: &[u8],

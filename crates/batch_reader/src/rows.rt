@@ -16,8 +16,7 @@ use packed_rows::{PackedRows, Schema, pack_value, read_value};
 use script_io::{Records, field};
 use std::alloc::{AllocError, Global};
 
-/// Puts the packing of the row that a record's fields stand for into a buffer, in place of what it held. The record is that of
-/// a row, counted from 0, which an error tells.
+/// Packs the row that a record's fields stand for into a buffer, in place of what it held. An error names the row, counted from 0.
 fn pack_record(
     schema: &Schema,
     row: usize,
@@ -42,8 +41,8 @@ fn pack_record(
     Ok(())
 }
 
-/// Adds the packing of the row that a record's fields stand for behind other rows. The buffer serves for one row after the
-/// other. After an error the rows are as they were.
+/// Appends the packing of the row that a record's fields stand for. The buffer serves for one row after the other. After an error the rows
+/// are as they were.
 fn push_record(
     schema: &Schema,
     row: usize,
@@ -79,9 +78,8 @@ pub(crate) fn pack_records(
     Ok(rows)
 }
 
-/// The packings of the rows that the next records stand for, as many as told, which are read one after the other. Where
-/// there are fewer that is the fault, and else the first record that stands for no row; all of them are read in any case.
-/// No more is kept of a record than its row.
+/// The packings of the rows that the next `told` records stand for. Fewer records are the fault; else it is the first record that stands
+/// for no row. All of them are read in any case, and only their rows are kept.
 ///
 /// The only outer error is that memory ran out for a record, and after it no more records come.
 pub(crate) fn pack_next(

@@ -24,9 +24,9 @@ fn word_of(bytes: &[u8]) -> u64
 
 /// A block of memory from the allocator, of at least one byte.
 ///
-/// It is seen as the list of its cells: `None` for a byte that was not written yet, and `Some` of one that was. Reading
-/// takes that the bytes were written, and a byte that was written stays so. Places and lengths count bytes. Only `new`
-/// takes memory, and the block goes back to the allocator when the value is dropped.
+/// Contracts see it as the list of its cells: `None` for a byte that was not written yet, and `Some` of one that was.
+/// Only written bytes can be read, and a written byte stays written. Places and lengths count bytes. Only `new` takes
+/// memory, and the block goes back to the allocator when the value is dropped.
 pub struct RawBlock {
     start: *mut u8,
     len: usize,
@@ -51,7 +51,7 @@ impl Model for RawBlock {
 impl RawBlock {
     /// Takes a block of `len` bytes, of which none is written: its memory is left as it is found.
     ///
-    /// Gives an `AllocError` where there is no memory, and for 2^63 bytes and more.
+    /// The error is a failed allocation, as is any request for 2^63 bytes or more.
     pub fn new(alloc: Global, len: usize) -> Result<RawBlock, AllocError>
         requires { 1 ≤ len }
         ensures unwritten { IfOk result (λ b. b ≡ blank_cells len) }

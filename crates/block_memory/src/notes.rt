@@ -1,7 +1,7 @@
 //! Notes that stand in no memory.
 //!
-//! What a program has to prove of its own state may need more than its state holds, as which parts of a block are in
-//! use, where the memory has no room to say it. Such facts are read off a list of notes, which has no code at all.
+//! A proof may need facts that no memory holds, such as which parts of a block are in use. They are read off a list of
+//! notes, which has no code at all.
 ghost use Rattle.std.specs.Prelude.{◌≡◌, List, [], ◌∷◌};
 ghost use Rattle.std.specs.Borrow.{ftrue};
 

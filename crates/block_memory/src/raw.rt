@@ -1,8 +1,8 @@
 //! The memory behind a block: the one file that touches a raw pointer. Each function here has a proof by hand.
 //!
-//! A pointer owns nothing. The right to the memory that it points to is a value of its own, `Memory`, which no code can
-//! copy or drop: so the memory is given back at most once, and is not reached afterwards. That `give_back` gives it back
-//! at all is what no contract can say; a test of blocks that are together more than there can be shows it.
+//! A pointer owns nothing. The right to the memory that it points to is a value of its own, `Memory`. No code can copy
+//! or drop it, so the memory is given back at most once and not reached afterwards. No contract can say that
+//! `give_back` gives it back at all; a test shows it by taking blocks that together exceed any memory.
 ghost use Rattle.std.specs.Prelude.{◌≡◌, ◌<◌, ◌^◌, Some, length, slice_set, IfOk};
 ghost use Rattle.std.specs.Borrow.{sem};
 ghost use denote.RawPtr.{Ptr};

@@ -1,5 +1,5 @@
--- The content of a context: a finite map from the names of its live chunks to their bytes, as the list of these chunks.
--- (PostgreSQL 17, src/backend/utils/mmgr/README: what memory contexts are for; that a name tells a place and a length: own)
+-- The content of a context: a finite map from the names of its live chunks to their bytes, as the list of these chunks. (PostgreSQL 17,
+-- src/backend/utils/mmgr/README: what memory contexts are for; that a name is a place and a length: own)
 use Rattle.std.specs.Prelude.{◌≡◌, ℕ, ◌+◌, ◌<◌, ◌==◌, ◌&&◌, Bool, true, false, List, [], ◌∷◌, Option, Some, None, length, get_or, IsTrue}
 use Rattle.std.specs.List.{filter}
 use Rattle.chunk_layout.specs.Contents.{ChunkContents, place_of, same_place, has, contents_at, resized}

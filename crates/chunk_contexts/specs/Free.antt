@@ -46,8 +46,8 @@ abbrev pub Linked : (Place → ℕ → ℕ) → List ChunkContents → Type 0
 Linked key [] = Unit {0}
 Linked key (p ∷ ps) = (p.is_live ≡ false → p.bytes ≡ link_bytes (first_free key (key p.place p.room) ps)) × Linked key ps
 
--- what is left of a block of so many bytes is cut into free chunks, in front of the others: for each room in turn one, if
--- it fits with its header
+-- what is left of a block of this many bytes is cut into free chunks, in front of the others: for each room in turn one, if it fits with
+-- its header
 abbrev pub cut_used : ℕ → ℕ → ℕ → ℕ
 cut_used room used size = cond (nat_le (room + HEADER) (size - used)) (used + HEADER + room) used
 

@@ -33,7 +33,7 @@ abbrev pub run_growth : ℕ → RunState → ℕ → ℕ
 run_growth head s n = run_growth_by (is_some (over_most n)) (nat_le (head + rounded n) BLOCK) (nat_le (head + rounded n) s.left) (head
     + rounded n)
 
--- with a chunk: in a block of its own, behind the others, or in a new block
+-- with a chunk: in a block of its own, after the others, or in a new block
 abbrev pub run_taken_by : Bool → Bool → ℕ → RunState → ChunkContents → RunState
 run_taken_by false fits size s p = record {
   chunks = p ∷ s.chunks;

@@ -22,8 +22,8 @@ set_of s = record {
   first = s.first;
 }
 
--- a chunk of a set: its block is there; in the block in use it lies in the used part; it has the room of a class, or is
--- live and larger, and then its block is neither the one in use nor the first
+-- a chunk of a set. Its block is there, and if that is the block in use, the chunk lies in the used part. It has the
+-- room of a class; or it is live and larger, and its block is neither the one in use nor the first
 pub record IsSetChunk (blocks : List (Option ℕ)) (active : Active) (first : Option ℕ) (p : ChunkContents) : Type 0 where
   pub there : IsTrue (is_some (get_or blocks p.place.block None))
   pub used : 0 < active.size → p.place.block ≡ active.block → p.place.offset + p.room ≤ active.used

@@ -53,7 +53,7 @@ impl Active {
         }
     }
 
-    /// Makes a live chunk of no bytes in the block, behind `head` bytes for its header.
+    /// Makes a live chunk of no bytes in the block, after `head` bytes for its header.
     pub(crate) fn carve(&mut self, layout: &mut ChunkLayout, head: usize, room: usize) -> Place
         requires rest { IsRest layout.old self.old }
         requires head { layout.old.head ≡ head }

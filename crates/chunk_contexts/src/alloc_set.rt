@@ -171,7 +171,7 @@ impl AllocSet {
         self.carve_new(room)
     }
 
-    /// Writes `bytes` to a chunk behind the first `kept` of its own, and answers its name.
+    /// Writes `bytes` to a chunk after the first `kept` of its own, and returns its name.
     fn write(&mut self, place: Place, kept: usize, bytes: &[u8]) -> ChunkName
         requires there { IsTrue (has self.old.chunks place) }
         requires kept { kept ≤ length (contents_at self.old.chunks place).bytes }
@@ -189,7 +189,7 @@ impl AllocSet {
         }
     }
 
-    /// Writes `n` zeros to a chunk behind the first `kept` of its bytes, and answers its name.
+    /// Writes `n` zeros to a chunk after the first `kept` of its bytes, and returns its name.
     fn write_zeros(&mut self, place: Place, kept: usize, n: usize) -> ChunkName
         requires there { IsTrue (has self.old.chunks place) }
         requires kept { kept ≤ length (contents_at self.old.chunks place).bytes }
@@ -207,7 +207,7 @@ impl AllocSet {
         }
     }
 
-    /// Gives a chunk the bytes of another, of which there are `len`, as far as `n`, and zeros behind these.
+    /// Gives a chunk the bytes of another, of which there are `len`, as far as `n`, and zeros after these.
     fn fill(&mut self, from: Place, len: usize, to: Place, n: usize)
         requires apart { same_place from to ≡ false }
         requires from { IsTrue (has self.old.chunks from) }

@@ -16,9 +16,9 @@ use chunk_layout::ChunkName;
 
 /// A memory context: a finite map from the names of its live chunks to their bytes, each as long as its name says.
 ///
-/// A chunk lies in a block, and no two share a byte. When blocks are taken and given back, how much room a chunk has, and
-/// which requests are refused, is the rule of each kind: the ghost members say it of any state of the context. Calls that
-/// answer no `Result` take no memory, and neither do `free`, and `alloc` where `growth_for` is 0.
+/// A chunk lies in a block, and no two share a byte. Each kind has its own rule for when blocks are taken and given back, how much room a
+/// chunk has, and which requests are refused. The ghost members state it for any state of the context. Calls that return no `Result` take
+/// no memory, nor does `free`, nor `alloc` where `growth_for` is 0.
 ///
 /// `held` counts the bytes of the blocks alone, and not the list in which they are kept.
 pub trait ChunkContext {
@@ -27,8 +27,8 @@ pub trait ChunkContext {
 
     ghost blocks: { Self → List (Option ℕ) };
 
-    /// How many bytes a chunk of n bytes has room for; why a request of n bytes is refused, whatever memory there is; how
-    /// many bytes of blocks it takes, 0 where it is refused; and whether chunks can be given up one by one.
+    /// The room of a chunk of n bytes; why a request of n bytes is refused, however much memory there is; how many bytes of blocks it
+    /// takes, 0 where it is refused; and whether chunks can be given up one by one.
     ghost room: { Self → ℕ → ℕ };
 
     ghost refusal: { Self → ℕ → Option ContextError };
@@ -37,8 +37,8 @@ pub trait ChunkContext {
 
     ghost frees: { Self → Bool };
 
-    /// Whether the chunk of a request of n bytes may lie in a block: where blocks grow, in one of a number that none had; else
-    /// in the block in use, where a kind cuts chunks from one block at a time and uses none again.
+    /// Whether the chunk of a request of n bytes may lie in a block. Where a block is taken, it is that one, of a number that none had.
+    /// Else a kind that cuts chunks from one block at a time, and uses none again, takes the block in use.
     ghost may_lie: { Self → ℕ → ℕ → Type 0 };
 
     /// The context with a chunk more for a request of n bytes; with other bytes in a chunk that stays where it is, as many

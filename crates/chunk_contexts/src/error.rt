@@ -9,13 +9,13 @@ use thiserror::Error;
 /// Why a call of a context is refused. What the call was given is then as it was.
 #[derive(Clone, Copy, Debug, PartialEq, Eq, Error)]
 pub enum ContextError {
-    /// A block was wanted, and there was no memory for it.
+    /// There is no memory for a block that the call needs.
     #[error("out of memory")]
     NoMemory,
-    /// A chunk has at most 1,073,741,823 bytes.
+    /// More than 1,073,741,823 bytes were asked for, the most that a chunk has.
     #[error("chunk too large")]
     TooLarge,
-    /// The chunks of a slab have one size.
+    /// A slab was asked for a chunk of another size than its own.
     #[error("wrong chunk size")]
     WrongSize,
     /// This kind of context has no such call.

@@ -52,7 +52,7 @@ fn count_one(counts: &mut Vec<u32>, block: u32)
     counts[block as usize] += 1;
 }
 
-/// Counts one chunk less in a block, and answers how many are left.
+/// Counts one chunk less in a block, and returns how many are left.
 fn uncount_one(counts: &mut Vec<u32>, block: u32) -> u32
     requires there { block < length counts.old.items }
     requires some { 1 ≤ get_or counts.old.items block 0 }
@@ -100,7 +100,7 @@ impl Generation {
         place.named(n)
     }
 
-    /// Gives a chunk the bytes of another, of which there are `len`, as far as `n`, and zeros behind these.
+    /// Gives a chunk the bytes of another, of which there are `len`, as far as `n`, and zeros after these.
     fn fill(&mut self, from: Place, len: usize, to: Place, n: usize)
         requires apart { same_place from to ≡ false }
         requires from { IsTrue (has self.old.chunks from) }

@@ -1,7 +1,7 @@
 //! Memory contexts: memory that is taken in blocks and given out in chunks, and goes back as a whole.
 //!
-//! The kinds are those of PostgreSQL's memory manager (its README: `src/backend/utils/mmgr/README`), with rules of space of
-//! this project's own.
+//! The kinds are those of PostgreSQL's memory manager (its README: `src/backend/utils/mmgr/README`), with this project's own rules of
+//! space.
 #![tactic(auto)]
 
 mod active;

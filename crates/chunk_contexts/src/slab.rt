@@ -57,7 +57,7 @@ impl Slab {
     ghost use Rattle.chunk_contexts.specs.Rooms.{rounded};
     ghost use Rattle.chunk_contexts.specs.Slab.{has_spare, per_block, block_count};
 
-    /// A law: a block has a free chunk just where there are fewer chunks than all blocks have room for.
+    /// A law: a block has a free chunk exactly if there are fewer chunks than all blocks have room for.
     pub fn spare_by_count(&self)
         ensures { has_spare self.now ≡ nat_lt (length self.now.chunks) (per_block (rounded self.now.size) * block_count self.now.blocks) }
     {
@@ -120,7 +120,7 @@ impl ChunkContext for Slab {
         Ok(())
     }
 
-    /// Changes nothing: only the size that the chunk has is not refused.
+    /// Changes nothing: it refuses every size but that of the chunk.
     fn resize(&mut self, name: ChunkName, n: u32) -> Result<ChunkName, ContextError> {
         check_size(self.inner.size, n as usize)?;
         Ok(name)

@@ -1,4 +1,4 @@
--- The chunks that the events of a layout tell of, and what the blocks hold for them. All of this is our own.
+-- The chunks that the events of a layout describe, and what the blocks hold for them. All of this is our own.
 use Rattle.std.specs.Prelude.{◌≡◌, ◌≢◌, if◌then◌else◌, false, ℕ, ◌+◌, ◌-◌, ◌≤◌, ◌==◌, ◌⊎◌, Bool, not, List, [], ◌∷◌, Option, Some, None}
 use Rattle.std.specs.Prelude.{length, get_or, slice_set, map, unwrap_or, option_map, is_some, take, drop, IsTrue}
 use Rattle.std.specs.List.{filter, list_any}
@@ -46,7 +46,7 @@ header_at ss place = first_by (header_is_at place) no_header ss
 abbrev pub without_header : List ChunkHeader → Place → List ChunkHeader
 without_header ss place = filter (λ s. not (header_is_at place s)) ss
 
--- the header of the chunk at a place, with so many bytes, live or not
+-- the header of the chunk at a place, with this many bytes, live or not
 abbrev pub header_with : List ChunkHeader → Place → ℕ → Bool → ChunkHeader
 header_with ss place len live = record { place = place; room = (header_at ss place).room; len = len; is_live = live }
 

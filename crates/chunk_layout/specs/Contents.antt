@@ -118,7 +118,7 @@ abbrev pub IsClear : ℕ → Place → ℕ → ChunkContents → Type 0
 IsClear head place room p = (p.place.block ≢ place.block) ⊎ ((p.place.offset + p.room + head ≤ place.offset)
     ⊎ (place.offset + room + head ≤ p.place.offset))
 
--- the chunk at a place with other bytes behind the first ones that it keeps, live or not
+-- the chunk at a place with other bytes after the first ones that it keeps, live or not
 abbrev pub put_at : Layout → Place → ℕ → List ℕ → Bool → Layout
 put_at l place kept bytes live = with_contents l
     (record {

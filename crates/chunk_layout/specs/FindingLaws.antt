@@ -1,4 +1,4 @@
--- Laws: the chunk at a place; what is defined here, laws alone say.
+-- Laws: the chunk at a place; these definitions serve the laws alone.
 use Rattle.std.proofs.Common.{◌≡◌, ℕ, inl, inr, Bool, true, false, not, List, [], ◌∷◌, map, cond, refl, sym, ◌∙◌, arith}
 use Rattle.std.specs.Prelude.{◌||◌, ◌==◌}
 use Rattle.std.proofs.lemmas.Bool.{and_from, eq-eqb}

@@ -82,7 +82,7 @@ pub(crate) fn write_header(
         .set_word(at, room as u64);
 }
 
-/// Adds a block behind the others, and room for the mark on its number, so that giving it back takes no memory.
+/// Adds a block after the others, and room for the mark on its number, so that giving it back takes no memory.
 fn push_block(
     blocks: &mut Vec<Option<RawBlock>>,
     vacant: &mut BlockMarks,
@@ -104,7 +104,8 @@ fn push_block(
     Ok(number as u32)
 }
 
-/// Puts a block at a number that no block has, and answers it. A new number is made only where each one has a block.
+/// Puts a block at a number that no block has, and returns that number. A new number is made only where each one has a
+/// block.
 pub(crate) fn put_block(
     blocks: &mut Vec<Option<RawBlock>>,
     vacant: &mut BlockMarks,
@@ -141,7 +142,7 @@ pub(crate) fn block_len(blocks: &[Option<RawBlock>], number: usize) -> usize
     }
 }
 
-/// Gives the block of a number back, and answers how many bytes it had: 0 where there was none. The number is marked then.
+/// Gives the block of a number back, and returns how many bytes it had: 0 where there was none. The number is marked then.
 pub(crate) fn drop_block(
     blocks: &mut Vec<Option<RawBlock>>,
     vacant: &mut BlockMarks,

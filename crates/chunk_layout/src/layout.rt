@@ -107,7 +107,7 @@ impl ChunkLayout {
         block.bytes_mut(place.offset as usize, len)
     }
 
-    /// Writes `bytes` to a chunk, behind the first `kept` of its own. What stood behind these is gone.
+    /// Writes `bytes` to a chunk, after the first `kept` of its own. What stood after these is gone.
     pub fn put(&mut self, place: Place, kept: usize, bytes: &[u8], is_live: bool)
         requires there { IsTrue (has self.old.contents place) }
         requires kept { kept ≤ length (contents_at self.old.contents place).bytes }
@@ -127,7 +127,7 @@ impl ChunkLayout {
         });
     }
 
-    /// Writes `n` zeros to a live chunk, behind the first `kept` of its bytes. What stood behind these is gone.
+    /// Writes `n` zeros to a live chunk, after the first `kept` of its bytes. What stood after these is gone.
     pub fn put_zeros(&mut self, place: Place, kept: usize, n: usize)
         requires there { IsTrue (has self.old.contents place) }
         requires kept { kept ≤ length (contents_at self.old.contents place).bytes }
@@ -182,8 +182,8 @@ impl ChunkLayout {
         self.notes.add(&ChunkEvent::Gone(place));
     }
 
-    /// Takes a block of `len` bytes, and answers its number, which no block had. A new number is made only where each one
-    /// has a block.
+    /// Takes a block of `len` bytes, and returns its number, which no block had. A new number is made only where each one has a block. The
+    /// only error is a failed allocation, which changes nothing.
     pub fn take_block(&mut self, len: usize) -> Result<u32, AllocError>
         requires some { 1 ≤ len }
         requires small { len ≤ 2 ^ 31 }
@@ -274,7 +274,7 @@ impl ChunkLayout {
         self.put_zeros(place, kept, n - kept);
     }
 
-    /// Gives a live chunk the bytes of another one, of which there are `len`, as far as `n`, and zeros behind these.
+    /// Gives a live chunk the bytes of another one, of which there are `len`, as far as `n`, and zeros after these.
     pub fn copy_resized(&mut self, from: Place, len: usize, to: Place, n: usize)
         requires apart { same_place from to ≡ false }
         requires from { IsTrue (has self.old.contents from) }

@@ -1,9 +1,8 @@
 //! Chunks that lie in blocks, apart from one another: the account that every kind of memory context keeps.
 //!
-//! A [`ChunkLayout`] owns blocks and knows, by events that take no memory, which parts of them are chunks. It is seen as
-//! the sizes of its blocks and the contents of its chunks (`specs/Contents.antt`): of each its place, its room, whether it is
-//! live, and the bytes that were written to it. What a call does to them is its contract; that no two chunks share a byte is
-//! kept by every call.
+//! A [`ChunkLayout`] owns blocks and knows, by events that take no memory, which parts of them are chunks. It is seen as the sizes of its
+//! blocks and the contents of its chunks (`specs/Contents.antt`): of each its place, its room, whether it is live, and the bytes that were
+//! written to it. The contract of each call says what it does to them, and every call keeps any two chunks from sharing a byte.
 #![tactic(auto)]
 
 mod blocks;

@@ -11,7 +11,7 @@ pub struct Place {
 }
 
 impl Place {
-    /// The name of the chunk here, if it has so many bytes.
+    /// The name of the chunk here, if it has this many bytes.
     pub fn named(self, len: usize) -> ChunkName
         requires { len < 2 ^ 32 }
         ensures { result ≡ record { block = self.block; offset = self.offset; len = len } }

@@ -165,8 +165,8 @@ fn rows_of_run(alloc: Global, query: &Query, run: &Run) -> Result<AnswerRows, Al
     Ok(rows)
 }
 
-/// The answer that the groups of a run give, in the order of the query: a row of its items for each group of which HAVING is true. Without
-/// GROUP BY there is one group, over no rows too. The only error is a failed allocation.
+/// The answer that the groups of a run give, in the order of the query: a row of its items for each group for which HAVING is true. Without
+/// GROUP BY there is one group, even over no rows. The only error is a failed allocation.
 pub fn finalize_and_project(alloc: Global, query: &Query, run: &Run) -> Result<Answer, AllocError>
     requires { (most : ℕ) × (groups : List Group)
         × AreGroups (meaning query.now) most run.now groups × (most ≤ most_rows) }

@@ -1,4 +1,4 @@
--- Laws: groups after more rows and more groups; what is defined here, laws alone say.
+-- Laws: groups after more rows and more groups; these definitions serve the laws alone.
 use Rattle.std.specs.Prelude.{◌≡◌, refl, true, false, cond, ◌||◌, List, [], ◌∷◌, map}
 use Rattle.std.proofs.Common.{sym, ◌∙◌, ap}
 use Rattle.std.specs.declared.cmp.Ordering.TheVariants.{Less, Equal, Greater}
@@ -57,7 +57,7 @@ keys_of-groups_added q gs [] = refl
 keys_of-groups_added q gs (g ∷ more) = keys_of-groups_added q (group_added q gs g) more
     ∙ ap (λ ks. puts ks (keys_of more)) (keys_of-insert gs g.0 _)
 
--- each key is apart from those behind it
+-- each key is apart from those after it
 abbrev pub AreApart : List Row → Type 0
 AreApart [] = Unit {0}
 AreApart (k ∷ ks) = (is_among row_cmp k ks ≡ false) × AreApart ks
@@ -71,7 +71,7 @@ rising_apart (k ∷ ks) (above, rising) = (none_among ks above, rising_apart ks 
     none_among [] all = refl
     none_among (l ∷ ls) (below, all) = ap (λ r. is_eq r || is_among row_cmp k ls) below ∙ none_among ls all
 
--- what is among the keys behind one is not that one
+-- what is among the keys after one is not that one
 pub apart_from : (k key : Row) (ks : List Row) → is_among row_cmp k ks ≡ false → is_among row_cmp key ks ≡ true → same_row key k ≡ false
 apart_from k key ks none among =
     elim (same_row key k) as (λ b. same_row key k ≡ b → b ≡ false) [

@@ -23,7 +23,7 @@ drop_at (y ∷ xs) zero x e = ap (λ y. y ∷ xs) (same_Some y x e)
 drop_at (y ∷ xs) (suc n) x e = drop_at xs n x e ∙ ap (λ k. x ∷ drop k xs) (add-one n)
     ∙ ap (λ k. x ∷ drop k (y ∷ xs)) (sym (add-one (suc n)))
 
--- the member there, and what is behind it
+-- the member there, and what is after it
 pub dropped : {X : Type 0} (xs : List X) (n : ℕ) (y : X) (ys : List X) → drop n xs ≡ y ∷ ys → (slice_get xs n ≡ Some y)
     × (drop (n + 1) xs ≡ ys)
 dropped [] zero y ys e = absurd (suc-ne-zero (length ys) (sym (ap length e)))

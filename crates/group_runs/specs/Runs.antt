@@ -17,7 +17,7 @@ packed_keys run = map (λ (e : Entry). e.0) run
 abbrev pub Rises : List Entry → Type 0
 Rises run = IsStrictlySortedBy (slice_cmp nat_cmp) (packed_keys run)
 
--- the packed keys on end, and the states on end
+-- the packed keys end to end, and the states end to end
 abbrev pub keys_concatenated : List Entry → List ℕ
 keys_concatenated run = flat_map (λ (e : Entry). e.0) run
 
@@ -33,7 +33,7 @@ abbrev pub ends_of : ℕ × ℕ → List Entry → List (ℕ × ℕ)
 ends_of from [] = []
 ends_of from (entry ∷ run) = end_of from entry ∷ ends_of (end_of from entry) run
 
--- the groups that keys and states on end make up, by where each ends, the first beginning at these places
+-- the groups that keys and states end to end make up, by where each ends, the first beginning at these places
 abbrev pub cut : List ℕ → List ℕ → ℕ × ℕ → List (ℕ × ℕ) → List Entry
 cut keys states from [] = []
 cut keys states from (to ∷ ends) = (slice_range keys from.0 to.0, slice_range states from.1 to.1) ∷ cut keys states to ends
@@ -41,7 +41,7 @@ cut keys states from (to ∷ ends) = (slice_range keys from.0 to.0, slice_range 
 abbrev pub all_cut : List ℕ → List ℕ → List (ℕ × ℕ) → List Entry
 all_cut keys states ends = cut keys states (0, 0) ends
 
--- keys on end, states on end and where each group ends are those of a run
+-- keys end to end, states end to end and where each group ends are those of a run
 pub record LieAs (keys states : List ℕ) (ends : List (ℕ × ℕ)) (run : List Entry) : Type 0 where
   pub keys_are : keys ≡ keys_concatenated run
   pub states_are : states ≡ states_concatenated run
@@ -52,7 +52,7 @@ pub record AreRun (keys states : List ℕ) (ends : List (ℕ × ℕ)) : Type 0 w
   pub lie : LieAs keys states ends (all_cut keys states ends)
   pub rises : Rises (all_cut keys states ends)
 
--- an end of a group that begins at these places or behind them
+-- an end of a group that begins at these places or after them
 abbrev pub IsEndFrom : ℕ × ℕ → ℕ × ℕ → Type 0
 IsEndFrom start end = (start.0 ≤ end.0) × (end.0 < 2 ^ 63) × (start.1 ≤ end.1) × (end.1 < 2 ^ 63)
 

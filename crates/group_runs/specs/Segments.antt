@@ -9,7 +9,7 @@ use Rattle.group_runs.specs.Runs.{Entry, Rises}
 use Rattle.group_runs.specs.Places.{AllBelow}
 use Rattle.group_runs.specs.Steps.{AddsRun}
 
--- segments make up a run, and this is where each ends
+-- segments make up a run, and these are their ends
 pub record AreSegments (segments : List (List Entry)) (ends : List ℕ) : Type 0 where
   pub ends_are : ends ≡ ends_of 0 segments
   pub rises : Rises (concatenated segments)
@@ -25,8 +25,8 @@ pub record IsAmong (segments : List (List Entry)) (place at : ℕ) : Type 0 wher
 abbrev pub AreBefore : List Entry → List Entry → Type 0
 AreBefore groups others = AllByRecursion (λ (e : Entry). AllBelow e.0 groups) others
 
--- of more groups those from a place up to another come into this segment, which isn't one of the first: those before them come
--- into segments before it, and those from there on into segments behind it
+-- of more groups, those from one place up to another enter this segment, which isn't one of the first. Those before them enter segments
+-- before it, and those after them segments after it
 pub record ComeInto (segments : List (List Entry)) (first : ℕ) (more : List Entry) (from at to : ℕ) : Type 0 where
   pub segment : List Entry
   pub is : slice_get segments at ≡ Some segment

@@ -13,7 +13,7 @@ use Rattle.agg_library.specs.StateRows.{ArePartials, DenotesAll, state_bytes}
 use Rattle.having_filter.specs.Kept.{key_kinds}
 use Rattle.group_runs.specs.Runs.{Entry, Rises}
 
--- the bytes denote these partial results, one of each of the functions, that count at most so many rows each
+-- the bytes denote these partial results, one of each of the functions, that count at most this many rows each
 pub record AreStates (these : List Function) (most : ℕ) (bytes : List ℕ) (partials : List Partial) : Type 0 where
   pub kinds : List AggKind
   pub named : map function_of kinds ≡ these
@@ -39,12 +39,12 @@ group_bytes group = (packing group.0, state_bytes group.1)
 abbrev pub run_bytes : List Group → List Entry
 run_bytes groups = map group_bytes groups
 
--- a group that a query can have over at most so many rows
+-- a group that a query can have over at most this many rows
 pub record IsGroupOf (query : Query) (most : ℕ) (group : Group) : Type 0 where
   pub key : HasKinds (key_kinds query) group.0
   pub partials : ArePartials most (functions query) group.1
 
--- a run of a query: rising packed keys, and states of its aggregates that count at most so many rows each
+-- a run of a query: rising packed keys, and states of its aggregates that count at most this many rows each
 pub record IsRun (query : Query) (most : ℕ) (run : List Entry) : Type 0 where
   pub groups : List Group
   pub are : AreGroups query most run groups

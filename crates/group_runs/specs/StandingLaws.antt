@@ -1,4 +1,4 @@
--- Laws: what bytes stand for; what is defined here, laws alone say.
+-- Laws: what bytes stand for; these definitions serve the laws alone.
 use Rattle.std.specs.Prelude.{◌≡◌, refl, ℕ, zero, suc, ◌≤◌, List, [], ◌∷◌, length, map, sum_by, Some, slice_get}
 use Rattle.std.proofs.Common.{sym, ◌∙◌, ap, subst, leb-true}
 use Rattle.std.specs.List.{AllByRecursion}

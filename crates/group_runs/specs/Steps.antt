@@ -1,5 +1,5 @@
--- What the steps of an aggregation ask of the groups that stand in bytes, and what they make of them. A step asks that there
--- are such groups, and speaks of all that the bytes stand for. All of this is our own.
+-- What the steps of an aggregation require of the groups that bytes stand for, and what they make of them. A step requires that there are
+-- such groups, and speaks of all that the bytes stand for. All of this is our own.
 use Rattle.std.specs.Prelude.{ℕ, ◌+◌, ◌<◌, ◌≤◌, List, map, IfSome}
 use Rattle.grouping_model.specs.Aggregates.{Function, Partial}
 use Rattle.grouping_model.specs.Combining.{combine_all}
@@ -13,7 +13,7 @@ use Rattle.group_runs.specs.Runs.{Entry, Rises}
 use Rattle.group_runs.specs.Standing.{AreStates, StandsFor, AreGroups}
 use Rattle.group_runs.specs.Adding.{group_added, groups_added}
 
--- a group comes to those of its key, which count few enough rows
+-- a group joins those of its key, which count few enough rows
 abbrev pub HasRoomForGroup : Query → List Entry → Entry → Type 0
 HasRoomForGroup query old entry =
     (m n : ℕ) × (groups : List Group) × (group : Group)
@@ -44,7 +44,7 @@ AddsRun query old run new =
     → AreGroups query n run more
     → AreGroups query (m + n) new (groups_added query groups more)
 
--- states of these functions that count at most so many rows
+-- states of these functions that count at most this many rows
 abbrev pub AreWithin : List Function → ℕ → List ℕ → Type 0
 AreWithin these bound bytes = (partials : List Partial) × AreStates these bound bytes partials
 

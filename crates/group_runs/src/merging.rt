@@ -14,8 +14,8 @@ use crate::segments::{MAX_GROUPS, Segments};
 use having_filter::Query;
 use std::alloc::{AllocError, Global};
 
-/// Where a piece of so many groups ends that begins at a place: it has half as many as a segment may have, and the last one all that are
-/// left.
+/// Where the piece of `count` groups ends that begins at a place: it has half as many groups as a segment may have, and the last piece has
+/// the rest.
 fn end_of_piece(from: usize, count: usize) -> usize
     requires { from < count }
     ensures some { from < result }
@@ -29,8 +29,8 @@ fn end_of_piece(from: usize, count: usize) -> usize
 }
 
 impl Segment {
-    /// The place of a key among the groups from a place on: that of the first one whose key is not below it. It is sought by steps
-    /// that begin with a guess of how far it is, double and then halve, so that what is about there is found soon.
+    /// The place of a key among the groups from a place on: that of the first one whose key is not below it. It is sought by steps that
+    /// begin with a guess of how far it is, double and then halve, so a good guess finds it soon.
     pub(crate) fn seek(&self, from: usize, step: usize, key: &[u8]) -> usize
         requires { from ≤ length self.now }
         ensures place { IsPlaceOf self.now from key.now result }
@@ -59,9 +59,9 @@ impl Segment {
         place < self.len() && self.group(place).0 == key
     }
 
-    /// Moves on, in the merge of `old` and other groups, of which this is what is done: the groups of `old` from a place on come
-    /// here up to a key, and then the group of that key, its states behind those of `old`. The result is the place from
-    /// which on the groups of `old` are left. `step` is a guess of how many come here.
+    /// One step of merging `old` and other groups into this segment. The groups of `old` from a place on come here, up to a key; then comes
+    /// the group of that key, its states after those of `old`. The result is the place from which on the groups of `old` are left. `step`
+    /// is a guess of how many come here.
     fn merge_group(
         &mut self,
         query: &Query,

@@ -33,7 +33,7 @@ impl Segments {
         true
     }
 
-    /// Combines the states of a key that is there with others. It stands behind `from` groups at least, and about `step` more by a
+    /// Combines the states of a key that is there with others. It stands after `from` groups at least, and about `step` more by a
     /// guess; the result is how many there are up to it.
     fn combine_group(
         &mut self,

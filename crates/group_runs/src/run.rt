@@ -12,7 +12,7 @@ use std::marker::Model;
 
 /// Groups in the order of their keys, each with the bytes of its key and of its states. No two have the same key.
 ///
-/// They lie in segments, so that a group which enters moves those of one segment alone.
+/// They lie in segments, so a group that enters moves those of one segment alone.
 #[derive(Drop)]
 pub struct Run {
     segments: Segments,
@@ -29,7 +29,7 @@ impl Model for Run {
 }
 
 impl Run {
-    /// A run of no groups.
+    /// An empty run.
     pub fn new(alloc: Global) -> Run
         ensures { result ≡ [] }
     {
@@ -38,8 +38,8 @@ impl Run {
         }
     }
 
-    /// A run of no groups that has room for so many, with keys and states of so many bytes. The only error is a failed
-    /// allocation.
+    /// An empty run with room for `groups` groups, whose keys take `keys` bytes together and whose states take
+    /// `states`. The only error is a failed allocation.
     pub fn with_capacity(
         alloc: Global,
         groups: usize,

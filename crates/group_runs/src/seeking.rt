@@ -11,8 +11,7 @@ ghost use Rattle.group_runs.specs.Segments.{AreBefore, ComeInto};
 
 use crate::segments::{MAX_GROUPS, Segments};
 
-/// How many groups stand before the next of some keys, where these are spread evenly over all groups. It is a guess, and no
-/// result depends on it.
+/// How many groups stand before the next of some keys, if these are spread evenly over all groups. It is a guess; no result depends on it.
 pub(crate) fn gap(groups: usize, keys: usize) -> usize {
     groups.checked_div(keys).unwrap_or(0).saturating_sub(1)
 }
@@ -141,8 +140,8 @@ impl Segments {
         place < self.len() && self.group(place).0 == key
     }
 
-    /// Which segment the groups of another run from a place on begin to come into, and up to which place they do. None of them comes
-    /// into one of the first segments, so many of them.
+    /// Which segment the groups of another run from a place on begin to come into, and up to which place they do. None of them comes into
+    /// one of the first `first` segments.
     pub(crate) fn part(&self, first: usize, more: &Segments, from: usize) -> (usize, usize)
         requires there { first < length self.now }
         requires within { from < length (concatenated more.now) }

@@ -16,7 +16,7 @@ use std::marker::Model;
 
 /// Some groups of a run, in the order of their keys, each with the bytes of its key and of its states. No two have the same key.
 ///
-/// The keys lie on end, and so do the states.
+/// The keys lie end to end, and so do the states.
 #[derive(Drop)]
 pub(crate) struct Segment {
     keys: Vec<u8>,
@@ -36,15 +36,15 @@ impl Model for Segment {
     ghost invariant = { λ r. AreRun r.keys.items r.states.items r.ends.items };
 }
 
-/// A capacity for so many and so many. It is rounded up by a quarter at most, so that segments which grow little by little ask for blocks
-/// of few sizes, four between a power of two and the next, and an allocator can give them those that they gave back.
+/// A capacity for `one` and `other` together, rounded up by at most a quarter. So segments that grow little by little ask for blocks of few
+/// sizes, four between a power of two and the next, and an allocator can reuse the blocks that they gave back.
 fn capacity_for(one: usize, other: usize) -> usize {
     let both = one.saturating_add(other);
     let step = both.checked_next_power_of_two().unwrap_or(0) / 8;
     both.checked_next_multiple_of(step).unwrap_or(both) // A step of 0 has no multiple that is more.
 }
 
-/// How many bytes more groups take that are as long as some are on average.
+/// How many bytes `more` groups take, if they are as long as `groups` groups of `bytes` bytes are on average.
 fn bytes_of(more: usize, bytes: usize, groups: usize) -> usize {
     if groups == 0 {
         return 0;
@@ -52,7 +52,7 @@ fn bytes_of(more: usize, bytes: usize, groups: usize) -> usize {
     more.saturating_mul(bytes.div_ceil(groups))
 }
 
-/// Where the first groups, so many of them, end.
+/// Where the first `groups` groups end.
 fn bound(ends: &[(usize, usize)], groups: usize) -> (usize, usize)
     requires { groups ≤ length ends.now }
     ensures { result ≡ slice_index_or ((0, 0) ∷ ends.now) groups (0, 0) }
@@ -64,7 +64,7 @@ fn bound(ends: &[(usize, usize)], groups: usize) -> (usize, usize)
     }
 }
 
-/// What lies from a place to another.
+/// The part from one place up to another.
 fn part<T>(all: &[T], from: usize, to: usize) -> &[T]
     requires rises { from ≤ to }
     requires within { to ≤ length all.now }
@@ -73,7 +73,7 @@ fn part<T>(all: &[T], from: usize, to: usize) -> &[T]
     &all[from..to]
 }
 
-/// The keys and the states of the groups from a place to another, on end.
+/// The keys and the states of the groups from one place up to another, end to end.
 fn parts<'a>(
     keys: &'a [u8],
     states: &'a [u8],
@@ -116,7 +116,7 @@ fn push_ends(
     Ok(())
 }
 
-/// Combines the states from a place to another with others, which come behind.
+/// Combines the states from a place to another with others, which come after.
 fn combine_part(query: &Query, states: &mut Vec<u8>, from: usize, to: usize, more: &[u8])
     requires order { from ≤ to }
     requires within { to ≤ length states.old.items }
@@ -132,7 +132,7 @@ fn combine_part(query: &Query, states: &mut Vec<u8>, from: usize, to: usize, mor
 }
 
 impl Segment {
-    /// A segment of no groups that has room for so many, with keys and states of so many bytes. The only error is a failed
+    /// An empty segment with room for this many groups, and for this many bytes of keys and of states. The only error is a failed
     /// allocation.
     pub(crate) fn with_capacity(
         alloc: Global,
@@ -148,8 +148,7 @@ impl Segment {
         Ok(Segment { keys, states, ends })
     }
 
-    /// A segment of no groups that has room for those of another and for so many more of their length. The only error is a failed
-    /// allocation.
+    /// An empty segment with room for the groups of another and for `more` groups of their length. The only error is a failed allocation.
     pub(crate) fn with_room_of(
         alloc: Global,
         other: &Segment,
@@ -201,8 +200,8 @@ impl Segment {
         parts(&self.keys, &self.states, &self.ends, place, place + 1)
     }
 
-    /// Adds some groups of another segment at the end, from a place to another. The only error is a failed allocation, which
-    /// changes nothing.
+    /// Adds some groups of another segment at the end, from one place up to another. The only error is a failed allocation, which changes
+    /// nothing.
     pub(crate) fn push_range(
         &mut self,
         other: &Segment,
@@ -226,7 +225,7 @@ impl Segment {
         Ok(())
     }
 
-    /// Combines the states of a group with others of its key, which come behind.
+    /// Combines the states of a group with others of its key, which come after.
     pub(crate) fn combine_at(&mut self, query: &Query, place: usize, more: &[u8])
         requires { HasStatesFor (functions (meaning query.now)) self.old place more.now }
         ensures { CombinesAt (functions (meaning query.now)) self.old place more.now self.new }

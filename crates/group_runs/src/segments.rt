@@ -19,12 +19,12 @@ use std::alloc::{AllocError, Global};
 use std::marker::Model;
 use std::mem::replace;
 
-/// The most groups of a segment. A group that enters a run copies the segment that it comes into, some ten kilobytes, and one in a
-/// hundred or so moves what is kept of each segment beside its groups, some seventy bytes: with half or twice as many groups a segment,
-/// one of both costs more.
+/// The most groups of a segment. A group that enters a run copies its segment, some ten kilobytes, and one in a hundred or so moves what is
+/// kept of each segment beside its groups, some seventy bytes. With half as many groups a segment, or twice as many, one of the two costs
+/// more.
 pub(crate) const MAX_GROUPS: usize = 256;
 
-/// Groups in the order of their keys, in segments, one behind the other: in a clause, the list of the segments.
+/// Groups in the order of their keys, in segments, one after the other: in a clause, the list of the segments.
 ///
 /// A segment that has more groups than it may is cut before others enter it. None has no group.
 #[derive(Drop)]
@@ -97,7 +97,7 @@ fn put_all(segments: &mut Vec<Segment>, fresh: Vec<(usize, Segment)>)
     }
 }
 
-/// So many segments, the pieces of one more, and one. No memory has more than a number can say.
+/// `count` segments, `pieces` pieces, and one more. No memory has more than a number can say.
 fn count_more(count: usize, pieces: usize) -> Result<usize, AllocError>
     ensures { IfOk result (λ more. more ≡ count + (pieces + 1)) }
 {
@@ -107,7 +107,7 @@ fn count_more(count: usize, pieces: usize) -> Result<usize, AllocError>
     Ok(count + pieces + 1)
 }
 
-/// Places a segment behind others, or the pieces that it is cut into. There is room for them.
+/// Places a segment after others, or the pieces that it is cut into. There is room for them.
 fn place(placed: &mut Vec<Segment>, segment: Segment, mut pieces: Vec<Segment>)
     requires pieces { ArePiecesOf segment pieces.items }
     requires room { vec_len placed.old + (vec_len pieces + 1) ≤ vec_capacity placed.old }
@@ -126,7 +126,7 @@ fn place(placed: &mut Vec<Segment>, segment: Segment, mut pieces: Vec<Segment>)
     }
 }
 
-/// Places segments behind others, and in the place of each that is cut its pieces. There is room for them.
+/// Places segments after others, and in the place of each that is cut its pieces. There is room for them.
 fn place_all(placed: &mut Vec<Segment>, segments: Vec<Segment>, cuts: Vec<Vec<Segment>>)
     requires cut { AreCut segments.items (all_pieces cuts.items) }
     requires room { vec_len placed.old + cut_count (all_pieces cuts.items) ≤ vec_capacity placed.old }
@@ -156,7 +156,7 @@ impl Segments {
         }
     }
 
-    /// No segments, with room for those of so many groups, whose keys and states have so many bytes. The only error is a failed
+    /// No segments yet, with room for those of this many groups, and for this many bytes of keys and of states. The only error is a failed
     /// allocation.
     pub(crate) fn with_capacity(
         alloc: Global,
@@ -189,7 +189,7 @@ impl Segments {
         bound(&self.ends, self.ends.len())
     }
 
-    /// How many groups there are in the first segments, so many of them.
+    /// How many groups there are in the first `segments` segments.
     pub(crate) fn start(&self, segments: usize) -> usize
         requires { segments ≤ length self.now }
         ensures { result ≡ length (concatenated (take segments self.now)) }
@@ -290,7 +290,7 @@ impl Segments {
         self.push_segment(segment)
     }
 
-    /// Combines the states of a group with others of its key, which come behind.
+    /// Combines the states of a group with others of its key, which come after.
     pub(crate) fn combine_at(&mut self, query: &Query, place: usize, more: &[u8])
         requires { HasStatesFor (functions (meaning query.now)) (concatenated self.old) place more.now }
         ensures { CombinesAt (functions (meaning query.now)) (concatenated self.old) place more.now (concatenated self.new) }

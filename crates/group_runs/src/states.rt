@@ -21,7 +21,7 @@ use having_filter::Query;
 use packed_rows::Value;
 use std::alloc::{AllocError, Global};
 
-/// What an aggregate takes from a row, or nothing where its FILTER leaves the row out.
+/// What an aggregate takes from a row, or `None` where its FILTER leaves the row out.
 fn reach<'a>(query: &Query, place: usize, row: &[Value<'a>]) -> Option<Value<'a>>
     requires { place < length (meaning query.now).aggregates }
     ensures { (a : Aggregate) → slice_get (meaning query.now).aggregates place ≡ Some a →
@@ -40,7 +40,7 @@ fn reach<'a>(query: &Query, place: usize, row: &[Value<'a>]) -> Option<Value<'a>
     }
 }
 
-/// Moves the states of the aggregates from a place on by a row, if they count at most so many rows then.
+/// Moves the states of the aggregates from a place on by a row, if they count at most this many rows then.
 fn advance_from(
     query: &Query,
     place: usize,
@@ -74,8 +74,8 @@ fn advance_from(
     advance_from(query, place + 1, kinds, rest, row, most)
 }
 
-/// Moves the states of a group on by a row. They are refused if they are none of the query, or would count more than `most` rows
-/// then; what is left of them doesn't matter.
+/// Moves the states of a group on by a row. They are refused if they are no states of the query, or would then count more than `most` rows;
+/// their bytes are unspecified after that.
 pub fn advance_slice(
     query: &Query,
     states: &mut [u8],
@@ -102,7 +102,8 @@ pub fn initial_states(alloc: Global, query: &Query) -> Result<Vec<u8>, AllocErro
     Ok(states)
 }
 
-/// Combines the states of a group with others of its key, which come behind, if they count at most so many rows then.
+/// Combines the states of a group with others of its key, which come after. The error is `BadState` if either are no
+/// states of the query, or if they would then count more than `most` rows.
 pub fn combine_within(
     query: &Query,
     states: &mut [u8],
@@ -116,7 +117,7 @@ pub fn combine_within(
     StateRow::combine_into(query.agg_kinds(), states, more, most)
 }
 
-/// Combines the states of a group with others of its key, which come behind.
+/// Combines the states of a group with others of its key, which come after.
 pub(crate) fn combine_slice(query: &Query, states: &mut [u8], more: &[u8])
     requires { HaveRoomForMore (functions (meaning query.now)) states.old more.now }
     ensures { CombineWith (functions (meaning query.now)) states.old more.now states.new }

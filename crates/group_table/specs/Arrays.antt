@@ -108,7 +108,7 @@ with_next t next = record {
   spare = t.spare;
 }
 
--- with room to note so many groups without memory
+-- with room to note this many groups without memory
 abbrev pub with_spare : {H : Type 0} → TableState H → ℕ → TableState H
 with_spare t n = record {
   parent = t.parent;

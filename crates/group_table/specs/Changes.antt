@@ -1,4 +1,4 @@
--- What a state that is written, and a table that is cleared, come to. (Our own.)
+-- What writing a state and clearing a table leave. (Our own.)
 use Rattle.std.specs.Prelude.{◌≡◌, ℕ, ◌+◌, ◌≤◌, List, [], Some, None, length, slice_get, slice_set}
 use Rattle.context_tree.specs.Tree.{TreeState, held_below}
 use Rattle.group_table.specs.Children.{IsCleared}

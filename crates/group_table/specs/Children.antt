@@ -17,8 +17,8 @@ use Rattle.group_table.specs.Table.{TableState}
 use Rattle.group_table.specs.Standing.{IsChild, IsApart}
 use Rattle.group_table.specs.declared.children.Children.{Children}
 
--- the three contexts of a table of states of this many bytes are there below another, empty, and neither below one another
--- nor in the slot of one that was there before; all that were there are as before, and no more is held below any
+-- the three contexts of a table, whose states have this many bytes, are there below another, and empty. None is below another one of them,
+-- or in the slot of a context that was there before. All that were there are as before, and no more is held below any
 pub record AreMade (before after : TreeState) (parent : ContextId) (width : ℕ) (made : Children) : Type 0 where
   pub parent_there : is_there after parent ≡ true
   pub buckets : IsChild after parent made.buckets
@@ -36,7 +36,7 @@ pub record AreMade (before after : TreeState) (parent : ContextId) (width : ℕ)
       × (id.slot ≢ made.keys.slot) × (id.slot ≢ made.states.slot)
   pub links : (id : ContextId) → is_there before id ≡ true → get_or after.links id.slot None ≡ get_or before.links id.slot None
 
--- why so many contexts are not made: there are fewer stamps left, or there is no memory
+-- why this many contexts are not made: there are fewer stamps left, or there is no memory
 abbrev pub IsRefusedOf : ℕ → TreeState → TreeError → Type 0
 IsRefusedOf number before e = ((e ≡ StampsSpent) × (18446744073709551615 < before.last + number)) ⊎ (e ≡ Context NoMemory)
 

@@ -6,7 +6,7 @@ use Rattle.std.specs.Int.Bits.{bit_and}
 use Rattle.group_table.specs.Buckets.{bucket_at}
 use Rattle.group_table.specs.declared.bucket.Bucket.{Bucket}
 
--- the place in an array of so many buckets where the search for a hash begins
+-- the place in an array of this many buckets where the search for a hash begins
 abbrev pub start_of : ℕ → ℕ → ℕ
 start_of hash count = bit_and hash (count - 1)
 
@@ -15,7 +15,7 @@ start_of hash count = bit_and hash (count - 1)
 abbrev pub passes : ℕ → ℕ → ℕ → Bool
 passes start end place = if nat_le start end then nat_le start place && nat_lt place end else (nat_le start place || nat_lt place end)
 
--- the search from one place to another passes no free bucket
+-- the search passes no free bucket from one place to another
 abbrev pub IsPath : List ℕ → ℕ → ℕ → ℕ → Type 0
 IsPath array count start end = (place : ℕ) → place < count → passes start end place ≡ true → is_some (bucket_at array place) ≡ true
 

@@ -1,4 +1,4 @@
--- What an insertion comes to, done or refused for want of memory. (Our own.)
+-- What an insertion leaves, done or refused because memory ran out. (Our own.)
 use Rattle.std.specs.Prelude.{◌≡◌, ℕ, ◌+◌, ◌≤◌, List, [], ◌∷◌, ◌++◌, Result, IfOk, OnOk, OnErr, length}
 use Rattle.context_tree.specs.Tree.{TreeState, held_below}
 use Rattle.group_table.specs.Table.{TableState, groups, group_growth, held_in, IsSameBut}
@@ -6,7 +6,7 @@ use Rattle.group_table.specs.Space.{HoldsKeys}
 use Rattle.group_table.specs.Standing.{IsTableIn, KeepsOthers}
 use Rattle.group_table.specs.declared.table.Slot.{Slot}
 
--- the group comes behind the others, or all groups stay; the tree beside the table stays; and no more is held than was counted
+-- the group comes after the others, or all groups stay; the tree beside the table stays; and no more is held than was counted
 pub record Inserts {H E : Type 0} (hash_of : H → List ℕ → ℕ) (before after : TableState H) (old new : TreeState) (key state : List ℕ)
     (result : Result Slot E) : Type 0 where
   pub table : IsTableIn hash_of after new

@@ -20,7 +20,7 @@ key_of group = group.0
 abbrev pub keys_in : {H : Type 0} → TableState H → TreeState → List (List ℕ)
 keys_in t tree = map key_of (groups t tree)
 
--- whether so many bytes are told, and they are within a limit
+-- whether a number of bytes is there, and within a limit
 abbrev pub is_within : Option ℕ → ℕ → Bool
 is_within None limit = false
 is_within (Some bytes) limit = nat_le bytes limit
@@ -34,12 +34,12 @@ abbrev pub IsSlabWith : (SlabState → Type 0) → Context → Type 0
 IsSlabWith P (Slab s) = P s
 IsSlabWith P _ = ⊥
 
--- an array of so many buckets in a set: one that is longer than the first has a block of its own
+-- an array of this many buckets in a set: one that is longer than the first has a block of its own
 pub record IsArraySized (s : SetState) (name : ChunkName) (n : ℕ) : Type 0 where
   pub len : name.len ≡ 32 * n
   pub own : 256 < n → size_at s.blocks name.block ≡ array_block n
 
--- a set holds the array of so many groups, and nothing else
+-- a set holds the array of this many groups, and nothing else
 pub record IsArrayHeld (s : SetState) (name : ChunkName) (number : ℕ) : Type 0 where
   pub some : 0 < number
   pub size : IsArraySized s name (buckets number)
@@ -49,8 +49,8 @@ abbrev pub HoldsArray : Option ChunkName → ℕ → SetState → Type 0
 HoldsArray None number s = number ≡ 0
 HoldsArray (Some name) number s = IsArrayHeld s name number
 
--- a set holds the array of so many groups and the next one, and nothing else; or, where none is taken, the array of so many
--- groups is that of one group more
+-- a set holds the array of this many groups and the next one, and nothing else; or, where none is taken, the array of this many groups is
+-- that of one group more
 abbrev pub IsOlder : Option ChunkName → ℕ → SetState → Type 0
 IsOlder None number s = number ≡ 0
 IsOlder (Some old) number s = IsArraySized s old (buckets number) × (buckets number < buckets (number + 1))
@@ -75,7 +75,7 @@ AreOfSize size [] = Unit {0}
 AreOfSize size (None ∷ blocks) = AreOfSize size blocks
 AreOfSize size (Some block ∷ blocks) = (block ≡ size) × AreOfSize size blocks
 
--- a slab holds so many states of a width, and nothing else
+-- a slab holds this many states of a width, and nothing else
 pub record HoldsStates (width number : ℕ) (s : SlabState) : Type 0 where
   pub size : s.size ≡ width
   pub chunks : length s.chunks ≡ number

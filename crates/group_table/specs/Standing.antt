@@ -62,7 +62,7 @@ bucket_of hash_of t keys slot = record { key = slot.key; state = slot.state; has
 abbrev pub slot_of : Bucket → Slot
 slot_of b = record { key = b.key; state = b.state }
 
--- the bytes of an array tell where the groups are, each once
+-- the bytes of an array say where the groups are, each once
 pub record IsArrayOf {H : Type 0} (hash_of : H → List ℕ → ℕ) (t : TableState H) (keys : Context) (bytes : List ℕ) (count : ℕ) : Type 0 where
   pub index : IsIndex bytes count
   pub number : in_use bytes count ≡ length t.slots

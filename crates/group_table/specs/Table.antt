@@ -7,8 +7,8 @@ use Rattle.context_tree.specs.Tree.{TreeState, context_at, held_below, reset}
 use Rattle.context_tree.specs.declared.links.ContextId.{ContextId}
 use Rattle.group_table.specs.declared.table.Slot.{Slot}
 
--- the context below which it has its own, and these; how many bytes a state has; what hashes its keys; the name of the bucket
--- array, if there is one; the groups in the order in which they came; and how many more can be noted without memory
+-- a table: the context below which it has its own, and these; how many bytes a state has; the hash function; the name of the bucket array,
+-- if there is one; the groups in the order in which they came; and how many more can be noted without memory
 pub record TableState (H : Type 0) : Type 0 where
   pub parent : ContextId
   pub buckets : ContextId
@@ -58,8 +58,8 @@ buckets_for count number = if nat_le (4 * (number + 1)) (3 * count) then count e
 abbrev pub most_buckets : ℕ
 most_buckets = 16777216
 
--- how many bytes of blocks one more group takes: for a new array of buckets beside the old one, if one is needed, for a key of
--- so many bytes, and for a state
+-- how many bytes of blocks one more group takes: for a new array of buckets beside the old one, if one is needed, for a key of this many
+-- bytes, and for a state
 abbrev pub array_growth : {H : Type 0} → TableState H → TreeState → ℕ
 array_growth t tree =
     let wanted = buckets_for (buckets_in t.array) (length t.slots) in
@@ -68,8 +68,8 @@ array_growth t tree =
 abbrev pub group_growth : {H : Type 0} → TableState H → TreeState → ℕ → ℕ
 group_growth t tree n = array_growth t tree + growth_of (context_at tree t.keys) n + growth_of (context_at tree t.states) t.width
 
--- whether one more group, with a key of so many bytes, keeps within a limit on what is held below the parent, at each step of
--- the way, and within the most buckets
+-- whether one more group, with a key of this many bytes, keeps within a limit on what is held below the parent, at each step of the way,
+-- and within the most buckets
 abbrev pub has_room : {H : Type 0} → TableState H → TreeState → ℕ → ℕ → Bool
 has_room t tree n limit = nat_le (held_below tree t.parent + group_growth t tree n) limit
     && nat_le (buckets_for (buckets_in t.array) (length t.slots)) most_buckets

@@ -8,7 +8,7 @@ use chunk_layout::ChunkName;
 /// How many bytes a bucket has.
 pub(crate) const BUCKET: usize = 32;
 
-/// What a bucket in use tells of a group: where its key and its state lie, and the hash of its key.
+/// What a bucket in use says of a group: where its key and its state lie, and the hash of its key.
 #[derive(Clone, Copy)]
 pub(crate) struct Bucket {
     pub(crate) key: ChunkName,

@@ -5,7 +5,7 @@ ghost use Rattle.group_table.specs.Index.{start_of, IsPath, IsIndex, in_use, Put
 
 use crate::bucket::{Bucket, bucket_at, set_bucket};
 
-/// The place in an array of so many buckets where the search for a hash begins.
+/// The place in an array of this many buckets where the search for a hash begins.
 pub(crate) fn start_of(hash: u32, count: usize) -> usize
     requires { 0 < count }
     ensures start { result ≡ start_of hash count }

@@ -12,7 +12,7 @@ use crate::index::start_of;
 use chunk_layout::ChunkName;
 use context_tree::{ContextId, Tree};
 
-/// What a search among some buckets comes to first: the bucket of the key, a free one, or neither.
+/// What a search among some buckets meets first: the bucket of the key, a free one, or neither.
 pub(crate) enum Probe {
     Found(Bucket),
     Free,
@@ -68,7 +68,7 @@ fn look(
     Probe::Passed
 }
 
-/// The bucket of a key in an array of so many buckets, if it has one.
+/// The bucket of a key in an array of this many buckets, if it has one.
 pub(crate) fn search(
     tree: &Tree,
     keys: ContextId,

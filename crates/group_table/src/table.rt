@@ -46,10 +46,10 @@ pub struct Slot {
 
 /// A hash table of groups: a finite map from the bytes of keys to the bytes of states, each as many as `width`.
 ///
-/// Its buckets, keys and states lie in three contexts of a tree, below one that is named when it is made: the buckets in an
-/// `AllocSet`, the keys in a `Bump`, the states in a `Slab`. Each call is handed that tree, in which nothing else may change
-/// these three. A bucket has 32 bytes, and there are 256 at first; they double before more than three quarters are in use,
-/// up to 2^24. Where each group lies is kept outside the contexts, in 24 bytes a group.
+/// Buckets, keys and states lie in three contexts of a tree, below one that is named when the table is made: the buckets in an `AllocSet`,
+/// the keys in a `Bump`, the states in a `Slab`. Each call is handed that tree, in which nothing else may change these three. A bucket has
+/// 32 bytes, and there are 256 at first; they double before more than three quarters are in use, up to 2^24. Where each group lies is kept
+/// outside the contexts, in 24 bytes a group.
 #[derive(Drop)]
 pub struct GroupTable<H: KeyHash + Drop> {
     parent: ContextId,
@@ -119,8 +119,8 @@ impl<H: KeyHash + Drop> GroupTable<H> {
     /// Makes a table of no group, with states of `width` bytes, 65,535 at most. Its three contexts are made below `parent`,
     /// and hold nothing yet.
     ///
-    /// Refuses `StampsSpent` where fewer than three stamps are left, and gives `NoMemory`. None of the three is left then,
-    /// though stamps may be spent.
+    /// The errors are `StampsSpent` where fewer than three stamps are left, and `NoMemory`. After an error none of the three contexts is
+    /// left, though stamps may be spent.
     pub fn new(
         alloc: Global,
         tree: &mut Tree,
@@ -223,12 +223,12 @@ impl<H: KeyHash + Drop> GroupTable<H> {
         (chunk(tree, self.keys, slot.key), self.state(tree, slot))
     }
 
-    /// Whether one more group with this key keeps within a limit, in bytes of blocks, on what is held below the table's
-    /// parent at each step of the way, and within 2^24 buckets. Where the contexts hold what is counted for the keys of the
-    /// table and nothing else is held, it is so just where the keys with this one fit.
+    /// Whether one more group with this key fits: below the table's parent no more bytes of blocks are held than a limit at each step of
+    /// the way, and there are at most 2^24 buckets. Where the contexts hold what is counted for the keys of the table, and nothing else is
+    /// held, this is so exactly if the keys with this one fit.
     ///
-    /// It is true of each key of up to 8,192 bytes at each limit from 32,768 up where there is no group and nothing is held
-    /// below the parent but by the buckets, as when the table was just made or cleared, if a state has up to 8,184 bytes.
+    /// After `new` or `clear`, when there is no group and only the buckets hold anything below the parent, it is true of each key of up to
+    /// 8,192 bytes at each limit from 32,768 up, if a state has up to 8,184 bytes.
     pub fn room_for(&self, tree: &Tree, key: &[u8], limit: u64) -> bool
         requires table { IsTableIn H.hash_of self.now tree.now }
         requires key { length key.now ≤ LONGEST }
@@ -265,7 +265,7 @@ impl<H: KeyHash + Drop> GroupTable<H> {
         Some(held_below(tree, self.parent) + self.growth_for(tree, key.len()))
     }
 
-    /// How many bytes of blocks one more group takes, with a key of so many bytes.
+    /// How many bytes of blocks one more group takes, with a key of this many bytes.
     fn growth_for(&self, tree: &Tree, n: usize) -> u128
         requires standing { IsStanding H.hash_of self.now tree.now }
         requires few { buckets_for (buckets_in self.now.array) (length self.now.slots) ≤ most_buckets }
@@ -358,8 +358,8 @@ impl<H: KeyHash + Drop> GroupTable<H> {
         }
     }
 
-    /// Gives up all groups. Of the blocks the first one of the buckets stays, if there is one; no memory is taken. Contexts that
-    /// were made below the table's own go too, and all others stay as they are.
+    /// Gives up all groups, and all blocks but the first one of the buckets, if there is one. It takes no memory. Contexts that were made
+    /// below the table's own go too; all others stay as they are.
     pub fn clear(&mut self, tree: &mut Tree)
         requires { IsTableIn H.hash_of self.old tree.old }
         ensures { Clears H.hash_of self.old self.new tree.old tree.new }
@@ -411,8 +411,8 @@ impl<H: KeyHash + Drop> GroupTable<H> {
         put_into(tree, self.buckets, name, Bucket { key, state, hash });
     }
 
-    /// Takes a group with a key that no other has, and a state of `width` bytes. The key has 65,535 bytes at most, and there are to
-    /// be 2^24 buckets at most, as where `room_for` is true for some limit.
+    /// Adds a group with a key that no other has, and a state of `width` bytes. The key has at most 65,535 bytes, and at most 2^24 buckets
+    /// are needed, as where `room_for` is true for some limit.
     ///
     /// The only error is a failed allocation. The groups are then as they were, and blocks that were taken may stay held. On the
     /// way no more is held below the parent than `need_for` counts: an array twice as long beside the old one, the key, and
@@ -473,7 +473,7 @@ impl<H: KeyHash + Drop> GroupTable<H> {
 
     /// Lends the state of a group, to be changed. All other groups stay as they are.
     ///
-    /// The tree comes first, since it is what the bytes are lent from.
+    /// The tree is the first argument, since the bytes are lent from it.
     pub fn state_mut<'a>(tree: &'a mut Tree, table: &GroupTable<H>, slot: Slot) -> &'a mut [u8]
         requires table { IsTableIn H.hash_of table.now tree.old }
         requires slot { IsSlot table.now slot }

@@ -9,8 +9,8 @@ use Rattle.grouping_model.specs.Datum.{Datum, Null, Bigint, Boolean}
 pub data Function : Type 0 where
   Count_rows Count Sum Min Max Bit_and Bit_or Bit_xor Bool_and Bool_or Every : Function
 
--- a partial result: what a function knows of some of its arguments, enough to go on with others
--- (PostgreSQL 17, 36.12.4 Partial Aggregation; the form of each is our own)
+-- a partial result: what a function keeps of some of its arguments, enough to go on with others (PostgreSQL 17, 36.12.4
+-- Partial Aggregation; the form of each is our own)
 pub data Partial : Type 0 where
   -- how many there are
   Counted : ℕ → Partial
@@ -79,11 +79,11 @@ abbrev pub total : List ℤ → ℤ
 total [] = pos 0
 total (z ∷ zs) = z +ℤ total zs
 
--- a member that no member is below
+-- the least member, absent in an empty list
 abbrev pub least : List ℤ → Option ℤ
 least zs = find (λ z. list_all (λ y. int_le z y) zs) zs
 
--- a member that no member is above
+-- the greatest member, absent in an empty list
 abbrev pub greatest : List ℤ → Option ℤ
 greatest zs = find (λ z. list_all (λ y. int_le y z) zs) zs
 
@@ -100,7 +100,7 @@ unsigned_of_bits is_set (suc n) = cond (is_set n) 1 0 * 2 ^ n + unsigned_of_bits
 abbrev pub number_of_bits : (ℕ → Bool) → ℤ
 number_of_bits is_set = cast_signed w64 (unsigned_of_bits is_set 64)
 
--- the number whose bit is set where all members, where some, where an odd number of members have it set
+-- three numbers: a bit is set where all members, where some, and where an odd number of members have it set
 abbrev pub bits_of_all : List ℤ → ℤ
 bits_of_all zs = number_of_bits (λ i. list_all (has_bit i) zs)
 
@@ -110,7 +110,7 @@ bits_of_some zs = number_of_bits (λ i. list_any (has_bit i) zs)
 abbrev pub bits_of_odd : List ℤ → ℤ
 bits_of_odd zs = number_of_bits (λ i. count_by (has_bit i) zs % 2 == 1)
 
--- f of a list, absent where the list is empty: no function but count answers a value of no argument (PostgreSQL 17, 9.21)
+-- f of a list, absent where the list is empty: of no argument, count alone answers a value (PostgreSQL 17, 9.21)
 abbrev pub of_some : {X Y : Type 0} → (List X → Y) → List X → Option Y
 of_some f [] = None
 of_some f (x ∷ xs) = Some (f (x ∷ xs))
@@ -122,7 +122,7 @@ counts Count_rows value = true
 counts Count value = not (is_null value)
 counts other value = false
 
--- what a function of numbers makes of them, and a function of truth values of these
+-- the result of a function of numbers, and that of a function of truth values
 abbrev pub number_of : Function → List ℤ → Option ℤ
 number_of Min = least
 number_of Max = greatest
@@ -137,8 +137,8 @@ truth_of Bool_or = of_some (list_any (λ b. b))
 truth_of Every = of_some (list_all (λ b. b))
 truth_of other = λ bs. None
 
--- the partial result of a list of arguments, one argument for each row that reaches the function: how many it counts,
--- how many numbers there are and their sum, or what it makes of the numbers or of the truth values
+-- the partial result of a list of arguments, one for each row that reaches the function. By its form: how many it
+-- counts; how many numbers there are, and their sum; what it makes of the numbers, or of the truth values
 abbrev pub gathered : Shape → Function → List Datum → Partial
 gathered A_count function values = Counted (length (filter (counts function) values))
 gathered A_sum function values = Summed (length (numbers values)) (total (numbers values))
@@ -148,8 +148,8 @@ gathered A_truth function values = Truth_value (truth_of function (booleans valu
 abbrev pub partial : Function → List Datum → Partial
 partial function values = gathered (shape_of function) function values
 
--- the result of a partial result: null where there was no argument, save for the counts, which are 0
--- (PostgreSQL 17, 9.21: except for count, these functions return a null value when no rows are selected)
+-- the result of a partial result: null where there was no argument, except the counts, which are 0 (PostgreSQL 17,
+-- 9.21: except for count, these functions return a null value when no rows are selected)
 abbrev pub outcome : Partial → Outcome
 outcome (Counted n) = Plain (Bigint (pos n))
 outcome (Summed zero z) = Plain Null

@@ -17,8 +17,8 @@ outcome_at key results (Call place) = slice_index_or results place (Plain Null)
 abbrev pub source_in : Group → Source → Outcome
 source_in group = outcome_at (map Plain group.0) (map outcome group.1)
 
--- the groups that are answered. Without GROUP BY there is one, over no rows too
--- (PostgreSQL 17, 7.2.3; 9.21 has what functions answer when no rows are selected)
+-- the groups that make the answer. Without GROUP BY there is one, even over no rows (PostgreSQL 17, 7.2.3; 9.21 has
+-- what functions answer when no rows are selected)
 abbrev pub answered_of_none : Query → (keys : List ℕ) → List Group
 answered_of_none query [] = ([], partials query []) ∷ []
 answered_of_none query (place ∷ places) = []
@@ -27,12 +27,12 @@ abbrev pub answered : Query → List Group → List Group
 answered query [] = answered_of_none query query.keys
 answered query (group ∷ groups) = group ∷ groups
 
--- the rows that groups give: those of which HAVING is true, each with the values of the items
+-- the rows that groups give: those of the groups for which HAVING is true, each with the values of the items
 abbrev pub rows_of : Query → List Group → List (List Outcome)
 rows_of query groups = map (λ group. map (source_in group) query.items) (filter (λ group. is_met (source_in group) query.having) groups)
 
--- the answer that groups give. Groups come in key order, so without ORDER BY it is in key order, and rows that its terms do not tell
--- apart are (that they are is our own)
+-- the answer that groups give. Groups come in key order. So without ORDER BY the answer is in key order, and with it the rows that its
+-- terms do not tell apart are (own)
 abbrev pub answer_of : Query → List Group → List (List Outcome)
 answer_of query groups = ordered query.order (rows_of query (answered query groups))
 

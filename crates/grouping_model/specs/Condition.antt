@@ -1,6 +1,6 @@
 -- Conditions and their meaning in three-valued logic (PostgreSQL 17, 9.1 Logical Operators, 9.2 Comparison Functions
--- and Operators). A checked query compares values of one kind alone, and its operands of logic are boolean or null; what
--- these definitions give elsewhere is of no account.
+-- and Operators). A checked query compares values of one kind alone, and its operands of logic are boolean or null;
+-- what these definitions give elsewhere does not matter.
 use Rattle.std.specs.Prelude.{Bool, true, false, not}
 use Rattle.std.specs.declared.cmp.Ordering.{Ordering}
 use Rattle.std.specs.Ordering.{int_cmp, is_eq, is_ne, is_lt, is_le, is_gt, is_ge}
@@ -80,7 +80,7 @@ outcome_cmp (Plain (Bigint x)) (Numeric y) = Some (int_cmp x y)
 outcome_cmp (Plain x) (Plain y) = Some (datum_cmp x y)
 outcome_cmp x y = None
 
--- whether a comparison is true of an order
+-- whether a comparison is true of two operands in this order
 abbrev pub holds_of : Comparison → Ordering → Bool
 holds_of Equal order = is_eq order
 holds_of Unequal order = is_ne order
@@ -89,12 +89,12 @@ holds_of At_most order = is_le order
 holds_of More order = is_gt order
 holds_of At_least order = is_ge order
 
--- a comparison by order: unknown where there is none, which is where a side is null (PostgreSQL 17, 9.2)
+-- a comparison by order: unknown where there is no order, since a side is null (PostgreSQL 17, 9.2)
 abbrev pub by_order : Comparison → Option Ordering → Truth
 by_order comparison None = Unknown
 by_order comparison (Some order) = truth_of_bool (holds_of comparison order)
 
--- a comparison of two values, which all go by the order (PostgreSQL 17, Table 9.1)
+-- a comparison of two values, by their order (PostgreSQL 17, Table 9.1)
 abbrev pub compared : Comparison → Outcome → Outcome → Truth
 compared comparison x y = by_order comparison (outcome_cmp x y)
 
@@ -122,8 +122,8 @@ abbrev pub is_true : Truth → Bool
 is_true True = true
 is_true other = false
 
--- whether a condition is true, not false and not unknown; where there is none, it is
--- (PostgreSQL 17, 7.2.2 The WHERE Clause: if the result is true, the row is kept, otherwise, false or null, it is discarded)
+-- whether a condition is true, and not false or unknown. No condition counts as true (PostgreSQL 17, 7.2.2 The WHERE Clause: if the result
+-- is true, the row is kept, otherwise, false or null, it is discarded)
 abbrev pub is_met : {Leaf : Type 0} → (Leaf → Outcome) → Option (Condition Leaf) → Bool
 is_met leaf None = true
 is_met leaf (Some c) = is_true (truth (value_of leaf c))

@@ -51,7 +51,7 @@ HasKinds (kind ∷ kinds) (value ∷ row) = HasKind kind value × HasKinds kinds
 HasKinds kinds row = ⊥
 
 -- where a value stands among those of other kinds: null is last (PostgreSQL 17, 7.5: nulls sort as if larger than any
--- other value). A column has one kind, so the order of the kinds among themselves is of no account (own)
+-- other value). A column has one kind, so the order of the kinds among themselves does not matter (own)
 abbrev pub kind_rank : Datum → ℕ
 kind_rank (Bigint z) = 0
 kind_rank (Boolean b) = 1

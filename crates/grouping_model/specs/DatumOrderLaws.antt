@@ -1,4 +1,4 @@
--- Laws: the order of values and of tuples is total, and only equal ones tie; what is defined here, laws alone say.
+-- Laws: the order of values and of tuples is total, and only equal ones tie; these definitions serve the laws alone.
 use Rattle.std.specs.Prelude.{◌≡◌, ◌≢◌, refl, ℕ, Bool, true, false, T, List, [], ℤ, pos, IsTrue}
 use Rattle.std.proofs.Common.{sym, ◌∙◌, ap, subst}
 use Rattle.std.specs.declared.cmp.Ordering.{Ordering}

@@ -1,4 +1,4 @@
--- Laws: the early numbers of an origin, and the origins of which something is known; what is defined here, laws alone say.
+-- Laws: the early numbers of an origin, and the origins of which something is known; these definitions serve the laws alone.
 use Rattle.std.specs.Prelude.{◌≡◌, refl, ℕ, ◌<◌, ◌==◌, nat_lt, Bool, true, false, cond, List, [], ◌∷◌, map, filter, Contains, IsTrue, ◌↔◌}
 use Rattle.std.proofs.Common.{sym, ◌∙◌, ap, subst}
 use Rattle.std.specs.declared.cmp.Ordering.{Ordering}

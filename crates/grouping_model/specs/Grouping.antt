@@ -10,7 +10,7 @@ use Rattle.grouping_model.specs.Query.{Query, Aggregate}
 abbrev pub column_of : Row → ℕ → Outcome
 column_of row place = Plain (at_place row place)
 
--- the selected rows: those of which WHERE is true, in their order (PostgreSQL 17, 7.2.2)
+-- the selected rows: those for which WHERE is true, in their order (PostgreSQL 17, 7.2.2)
 abbrev pub selected : Query → List Row → List Row
 selected query rows = filter (λ row. is_met (column_of row) query.condition) rows
 
@@ -31,7 +31,7 @@ abbrev pub argument : Option ℕ → Row → Datum
 argument None row = Null
 argument (Some place) row = at_place row place
 
--- the arguments of an aggregate: those of the rows of which its FILTER is true (PostgreSQL 17, 4.2.7)
+-- the arguments of an aggregate: those of the rows for which its FILTER is true (PostgreSQL 17, 4.2.7)
 abbrev pub arguments : Aggregate → List Row → List Datum
 arguments aggregate rows = map (argument aggregate.column) (filter (λ row. is_met (column_of row) aggregate.filter) rows)
 

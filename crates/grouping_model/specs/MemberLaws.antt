@@ -1,4 +1,4 @@
--- Laws: members of lists, by recursion on the list; what is defined here, laws alone say.
+-- Laws: members of lists, by recursion on the list; these definitions serve the laws alone.
 use Rattle.std.specs.Prelude.{◌≡◌, refl, ℕ, zero, suc, ◌<◌, ◌⊎◌, Bool, true, false, T, cond, ◌&&◌, ◌||◌, List, [], ◌∷◌, length, map, filter}
 use Rattle.std.specs.Prelude.{find, slice_index_or, Contains, Some, is_some, ◌↔◌}
 use Rattle.std.proofs.Common.{sym, ◌∙◌, ap, subst, inl, inr, suc-le-suc, zero-le}

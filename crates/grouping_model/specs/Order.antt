@@ -13,15 +13,15 @@ pub record Term : Type 0 where
   pub descending : Bool
   pub nulls_first : Bool
 
--- values by their order, and numerics by value. An item has values of one kind, so the order of a numeric beside another kind is
--- of no account (own)
+-- values by their order, and numerics by value. An item has values of one kind, so how a numeric compares with another kind does not matter
+-- (own)
 abbrev pub value_cmp : Outcome → Outcome → Ordering
 value_cmp (Plain x) (Plain y) = datum_cmp x y
 value_cmp (Numeric x) (Numeric y) = int_cmp x y
 value_cmp (Plain x) (Numeric y) = Greater
 value_cmp (Numeric x) (Plain y) = Less
 
--- where a value stands among nulls and others: 1 for all that are no null
+-- where a value stands among nulls and others: a null at 0 or 2, all others at 1
 abbrev pub null_rank : (nulls_first : Bool) → Outcome → ℕ
 null_rank nulls_first (Plain Null) = if nulls_first then 0 else 2
 null_rank nulls_first value = 1
@@ -35,14 +35,14 @@ directed false x y = value_cmp x y
 abbrev pub value_of : Term → List Outcome → Outcome
 value_of term row = slice_index_or row term.item (Plain Null)
 
--- two values, and two rows, by a term
+-- how two values, and two rows, compare by a term
 abbrev pub by_term : Term → Outcome → Outcome → Ordering
 by_term term = then_cmp (on (null_rank term.nulls_first) nat_cmp) (directed term.descending)
 
 abbrev pub term_cmp : Term → List Outcome → List Outcome → Ordering
 term_cmp term = on (value_of term) (by_term term)
 
--- by the first term that tells them apart
+-- how two rows compare: by the first term that tells them apart
 abbrev pub terms_cmp : List Term → List Outcome → List Outcome → Ordering
 terms_cmp [] a b = Equal
 terms_cmp (term ∷ terms) a b = then_cmp (term_cmp term) (terms_cmp terms) a b
@@ -51,6 +51,6 @@ terms_cmp (term ∷ terms) a b = then_cmp (term_cmp term) (terms_cmp terms) a b
 abbrev pub comes_before : List Term → List Outcome → List Outcome → Bool
 comes_before terms a b = is_lt (terms_cmp terms a b)
 
--- rows in the order of the terms; those that no term tells apart stand as they stood
+-- rows in the order of the terms; those that no term tells apart keep their order
 abbrev pub ordered : List Term → List (List Outcome) → List (List Outcome)
 ordered terms rows = sorted_by (comes_before terms) rows

@@ -1,4 +1,5 @@
--- Laws: the groups of a list of rows as a map, and the groups of two lists of rows on end; nothing here is a definition.
+-- Laws: the groups of a list of rows as a map, and the groups of two lists of rows appended; nothing here is a
+-- definition.
 use Rattle.std.specs.Prelude.{◌≡◌, refl, true, false, cond, ◌||◌, List, [], ◌∷◌, map, filter, Some, None, option_map, find, unwrap_or}
 use Rattle.std.proofs.Common.{sym, ◌∙◌, ap}
 use Rattle.grouping_model.specs.Datum.{Row, row_cmp, same_row}

@@ -1,4 +1,4 @@
--- Groups as a map from keys to partial results, and the groups of two lists of rows on end. All of this is our own.
+-- Groups as a map from keys to partial results, and the groups of two lists of rows appended. All of this is our own.
 use Rattle.std.specs.Prelude.{List, [], ◌∷◌, ◌++◌, map, find, Option, option_map, unwrap_or, if◌then◌else◌}
 use Rattle.std.specs.BTreeMap.{insert_entry}
 use Rattle.grouping_model.specs.Datum.{Row, row_cmp, same_row}
@@ -25,7 +25,7 @@ partials_at key groups = option_map (λ (group : Group). group.1) (find (λ (gro
 abbrev pub partials_or_none : Query → Row → List Group → List Partial
 partials_or_none query key groups = unwrap_or (partials_at key groups) (partials query [])
 
--- the groups of two lists of rows on end: the keys of either, in key order, each with the partial results of both
+-- the groups of two lists of rows appended: the keys of either, in key order, each with the partial results of both
 abbrev pub combine_parts : Query → List Group → List Group → List Group
 combine_parts query xs ys =
     map (λ key. (key, combine_all (functions query) (partials_or_none query key xs) (partials_or_none query key ys)))

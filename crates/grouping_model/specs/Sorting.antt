@@ -14,7 +14,7 @@ abbrev pub put_before : {X : Type 0} → (X → X → Bool) → X → List X →
 put_before lt x [] = x ∷ []
 put_before lt x (y ∷ ys) = if lt y x then y ∷ put_before lt x ys else x ∷ y ∷ ys
 
--- a list in order: what ties stands as it stood
+-- a list in order: members that tie keep their order
 abbrev pub sorted_by : {X : Type 0} → (X → X → Bool) → List X → List X
 sorted_by lt [] = []
 sorted_by lt (x ∷ xs) = put_before lt x (sorted_by lt xs)
@@ -61,7 +61,7 @@ sorted_rises lt order (x ∷ xs) = put_rises lt order x (sorted_by lt xs) (sorte
 
 -- ---- what ties stays in its order
 
--- what ties with one that ties ties
+-- x and y tie where x ties with z and z with y
 ties_with : {X : Type 0} (lt : X → X → Bool) → IsStrictWeakOrder lt → (z x y : X) → ties lt z x ≡ true → ties lt z y ≡ true → lt y x ≡ false
 ties_with lt order z x y tx ty = order.chain y z x (not_true (lt y z) (and_parts (not (lt z y)) (not (lt y z)) ty).1)
     (not_true (lt z x) (and_parts (not (lt z x)) (not (lt x z)) tx).0)
@@ -70,7 +70,7 @@ ties_with lt order z x y tx ty = order.chain y z x (not_true (lt y z) (and_parts
     not_true false e = refl
     not_true true e = sym e
 
--- a list is gone through by a test
+-- a list after a filter
 filter_put : {X : Type 0} (lt : X → X → Bool) (p : X → Bool) (x : X) → ((y : X) → p x ≡ true → p y ≡ true → lt y x ≡ false) → (ys : List X)
     → filter p (put_before lt x ys) ≡ filter p (x ∷ ys)
 filter_put lt p x apart [] = refl
@@ -118,12 +118,12 @@ sorted_moves lt (x ∷ xs) =
 
 -- ---- there is one such list
 
--- none of a list passes a test
+-- where no member passes a test, a filter leaves none
 filter_none : {X : Type 0} (p : X → Bool) (xs : List X) → AllByRecursion (λ x. p x ≡ false) xs → filter p xs ≡ []
 filter_none p [] none = refl
 filter_none p (x ∷ xs) none = cond-false (p x) _ _ none.0 ∙ filter_none p xs none.1
 
--- what rises begins with the least: nothing ties with what is less
+-- a rising list begins with its least member: nothing in it ties with what is less
 none_ties : {X : Type 0} (lt : X → X → Bool) → IsStrictWeakOrder lt → (x z : X) (zs : List X) → Rises lt (z ∷ zs) → lt x z ≡ true
     → filter (ties lt x) (z ∷ zs) ≡ []
 none_ties {X = X} lt order x z zs rises less =
@@ -137,7 +137,7 @@ none_ties {X = X} lt order x z zs rises less =
         go true e = ap (λ b. not b && not (lt w x)) e
         go false e = absurd (true≢false (sym less ∙ order.chain x w z e above))
 
--- the first of two that rise and have the same ties
+-- two rising lists with the same ties begin with the same member
 first_ties : {X : Type 0} (lt : X → X → Bool) → IsStrictWeakOrder lt → (y z : X) (ys zs : List X) → Rises lt (z ∷ zs)
     → filter (ties lt y) (y ∷ ys) ≡ filter (ties lt y) (z ∷ zs) → lt y z ≡ false
 first_ties lt order y z ys zs rises same = go (lt y z) refl
@@ -184,7 +184,7 @@ rises_once {X = X} lt order (y ∷ ys) (z ∷ zs) up high same =
 
 -- ---- what a sort ensures
 
--- what is in order place by place rises
+-- a list that is in order place by place rises
 index_rises : {X : Type 0} (lt : X → X → Bool) → IsStrictWeakOrder lt → (xs : List X) → IsSortedBy lt xs → Rises lt xs
 index_rises lt order [] sorted = tt
 index_rises lt order (x ∷ []) sorted = (tt, tt)

@@ -11,7 +11,7 @@ use Rattle.grouping_model.specs.declared.limits.TheConstants.{LAST_ORIGIN, LAST_
 use Rattle.grouping_model.specs.Rising.{distinct, is_among}
 use Rattle.grouping_model.specs.Rising.Facts.{distinct-rises}
 
--- the rows of each batch that there is, by its origin and its number
+-- the rows of each batch that there is, by origin and number
 abbrev pub World : Type 0
 World = ℕ → ℕ → Option (List Row)
 

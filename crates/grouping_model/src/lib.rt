@@ -1,4 +1,5 @@
-//! What a query's answer over known batches of rows means, in mathematical types, with its laws and examples.
+//! What a query's answer over known batches of rows means, defined independently of how anything is stored, with laws
+//! and examples.
 #![tactic(auto)]
 
 mod delivered;
@@ -47,9 +48,9 @@ pub fn uniting()
         a ≡ b }
 {}
 
-/// What is known is exactly a set of batches, and answers depend on it alone: where the same batches are known, the
-/// answers are the same, whatever the order in which they were learned and however often; and what a batch that is
-/// not known would hold changes no answer.
+/// What is known is exactly a set of batches, and answers depend on it alone. Where the same batches are known, the
+/// answers are the same, in whatever order and however often these were learned. The rows of a batch that is not known
+/// change no answer.
 pub fn answers_of_the_known()
     ensures listed { (batches : List Batch) (batch : Batch) →
         IsTrue (knows (knowing batches) batch) ↔ Contains batches batch }
@@ -62,9 +63,9 @@ pub fn answers_of_the_known()
         answer query world knowledge ≡ answer query other knowledge }
 {}
 
-/// What a union tells. An origin's prefix is no shorter than on either side: it reaches over what either side knows behind both
-/// prefixes, up to the first number that neither knows. Its early numbers are those of either side above that prefix, its rows
-/// those of a side and of the batches that follow, and the origins are those of either side.
+/// What a union knows of an origin. Its prefix is no shorter than on either side, and ends before the first number that neither side knows.
+/// Its early numbers are those of either side above that prefix. Its rows are those of one side's prefix, then those of the batches that
+/// follow. The origins are those of either side.
 pub fn united_prefixes()
     ensures longer { (a b : Knowledge) (origin : ℕ) →
         (prefix a origin ≤ prefix (union a b) origin)
@@ -94,8 +95,8 @@ pub fn unbroken_prefix()
         n ≤ prefix knowledge origin }
 {}
 
-/// One more batch: where it is known already, nothing changes; where it is not next to an origin's prefix, that prefix
-/// stays; where it is, the prefix reaches to the first number behind it that is not known.
+/// Learning one more batch. If it is known already, nothing changes. If it is not next to its origin's prefix, that
+/// prefix stays. If it is, the prefix then ends before the first number that is not known.
 pub fn learning()
     ensures known { (knowledge : Knowledge) (batch : Batch) → IsTrue (knows knowledge batch) →
         learn knowledge batch ≡ knowledge }
@@ -125,7 +126,7 @@ pub fn early_numbers()
         ↔ ((number : ℕ) × IsTrue (knows knowledge (origin, number))) }
 {}
 
-/// The order of values is total with null last, that of tuples too, and only equal tuples are the same.
+/// The order of values is total, with null last. So is that of tuples, and only equal tuples are the same.
 pub fn ordering()
     ensures values { IsTotalOrder datum_cmp }
     ensures tuples { IsTotalOrder row_cmp }
@@ -159,7 +160,8 @@ pub fn grouping()
         ↔ (Contains (selected query rows) row × (key_of query row ≡ key)) }
 {}
 
-/// The least member of a list is a member, and none is below it; a list with a member has one. Likewise the greatest.
+/// The least member of a list is a member, and none is below it. Every list that is not empty has one. The same holds
+/// of the greatest.
 pub fn extremes_of_lists()
     ensures least_is { (zs : List ℤ) (z : ℤ) →
         least zs ≡ Some z ↔ (Contains zs z × ((y : ℤ) → Contains zs y → z ≤ℤ y)) }
@@ -169,7 +171,7 @@ pub fn extremes_of_lists()
     ensures greatest_of_some { (z : ℤ) (zs : List ℤ) → IsSome (greatest (z ∷ zs)) }
 {}
 
-/// The number of given bits has these and fits 64 bits, and two numbers of 64 bits with the same bits are equal.
+/// The number made of given bits has these bits and fits 64 bits. Two numbers of 64 bits with the same bits are equal.
 pub fn bits_of_numbers()
     ensures bits { (is_set : ℕ → Bool) (i : ℕ) → i < 64 →
         has_bit i (number_of_bits is_set) ≡ is_set i }
@@ -178,8 +180,8 @@ pub fn bits_of_numbers()
         ((i : ℕ) → i < 64 → has_bit i x ≡ has_bit i y) → x ≡ y }
 {}
 
-/// A number is made of its own bits, a group of two lists on end is both groups on end, and a partial result of two
-/// lists on end is what the partial results of both combine to, whether of arguments or of rows.
+/// A number is made of its own bits. The group of a key in two lists of rows appended is its groups in both, appended.
+/// The partial result of two lists appended is what the partial results of both combine to, of arguments as of rows.
 pub fn combining()
     ensures one_number { (z : ℤ) → FitsSigned w64 z → (bits_of_all (z ∷ []) ≡ z)
         × (bits_of_some (z ∷ []) ≡ z) × (bits_of_odd (z ∷ []) ≡ z) }
@@ -200,9 +202,8 @@ pub fn counting()
         partial Count values ≡ Counted (length (non_null values)) }
 {}
 
-/// A function's partial result after one more argument, and an aggregate's after one more row: the transition takes
-/// the argument where the row reaches the aggregate, and else nothing changes. Every function but `count(*)` passes
-/// over a null.
+/// A function's partial result after one more argument, and an aggregate's after one more row. Where FILTER keeps the
+/// row, the transition takes its argument; else nothing changes. Every function but `count(*)` ignores nulls.
 pub fn transitions()
     ensures argument { (function : Function) (xs : List Datum) (kind : Kind) (value : Datum) →
         HasKind kind value → partial function (xs ++ value ∷ [])
@@ -217,8 +218,8 @@ pub fn transitions()
         else partial aggregate.function (arguments aggregate rows)) }
 {}
 
-/// The groups of rows as a map from keys to partial results. Two lists of rows on end have the groups of both,
-/// combined key by key. A row that WHERE passes over changes nothing; one that it keeps brings its key.
+/// The groups of rows as a map from keys to partial results. Two lists of rows appended have the groups of both,
+/// combined key by key. A row that WHERE rejects changes nothing; one that it keeps brings its key.
 pub fn groups_as_map()
     ensures keys { (query : Query) (rows : List Row) → keys_of (part query rows) ≡ keys query rows }
     ensures found { (query : Query) (rows : List Row) (key : Row) →
@@ -235,16 +236,16 @@ pub fn groups_as_map()
         keys query (rows ++ row ∷ []) ≡ put row_cmp (key_of query row) (keys query rows) }
 {}
 
-/// The groups of some rows tell those of one row more: a row that WHERE keeps moves on the partial results of its key alone, which has
-/// those of no rows before its first.
+/// The groups after one more row follow from those before it. A row that WHERE keeps changes the partial results of its key alone. A new
+/// key starts from the partial results of no rows.
 pub fn groups_of_rows()
     ensures one_more_row { (query : Query) (kinds : List Kind) (rows : List Row) (row : Row) →
         HasKinds kinds row → is_met (column_of row) query.condition ≡ true →
         part query (rows ++ row ∷ []) ≡ with_row query (part query rows) row }
 {}
 
-/// Rows in the order of the terms of ORDER BY: the same rows, none before one that comes before it by the terms, and those that
-/// the terms do not tell apart as they stood, which is key order. One list alone is so. Without terms they stand as they stood.
+/// Rows in the order of ORDER BY are the same rows, sorted by its terms; those that the terms do not tell apart keep their order, which is
+/// key order. Exactly one list is so. Without terms the order stays.
 pub fn ordering_rows()
     ensures same_rows { (terms : List Term) (rows : List (List Outcome)) → IsPermutation rows (ordered terms rows) }
     ensures in_order { (terms : List Term) (rows : List (List Outcome)) →
@@ -276,8 +277,8 @@ pub fn known_numbers()
     ensures other_origins { origins (knowing ((7, 1) ∷ (2, 5) ∷ (7, 2) ∷ [])) ≡ 2 ∷ 7 ∷ [] }
 {}
 
-/// Answers over given rows: none at all, sums of more than 64 bits, nulls, conditions that are unknown, bits and
-/// booleans, and rows by a sum, of which one is null.
+/// Answers over given rows: over none, with sums of more than 64 bits, nulls, conditions that are unknown, bits and
+/// booleans, and in the order of a sum that is null in one row.
 pub fn results()
     ensures of_nothing { answer_over grand_total [] ≡ (number 0 ∷ Plain Null ∷ []) ∷ [] }
     ensures none_of_nothing { answer_over any_rows [] ≡ [] }

@@ -24,7 +24,7 @@ pub const MAX_ITEMS: usize = 64;
 /// The most bytes of a query's text, and of its canonical text.
 pub const MAX_QUERY_LEN: usize = 16_384;
 
-/// The most operators that a condition may have above one of its operands, the operand counted too.
+/// How deep a condition may be nested: the most operators above one of its operands, the operand counted too.
 pub const DEEPEST_CONDITION: u64 = 64;
 
 /// The most parentheses of a condition that may be open at once.

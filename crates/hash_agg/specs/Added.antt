@@ -92,7 +92,7 @@ pub record KeepsPass {H : Type 0} (old new : Pass H) : Type 0 where
 abbrev pub enters : {H : Type 0} → (List ℕ → ℕ) → Pass H → List ℕ → Bool
 enters hash pass key = is_empty pass.spill.partitions && fits (setting_of pass.plan hash) (packed_keys (entries_of pass.groups) ++ key ∷ [])
 
--- it does, and so many bytes of blocks are held at most meanwhile
+-- it does, and at most this many bytes of blocks are held meanwhile
 pub record HasRoom {H : Type 0} (pass : Pass H) (key : List ℕ) (bytes : ℕ) : Type 0 where
   pub none : pass.spill.partitions ≡ []
   pub few : HasPlace pass.groups
@@ -101,15 +101,15 @@ pub record HasRoom {H : Type 0} (pass : Pass H) (key : List ℕ) (bytes : ℕ) :
 
 -- ---- what it reads
 
--- a row of which WHERE is true, its packing, and its packed key
+-- a row for which WHERE is true, its packing, and its packed key
 pub record IsSelected (query : Query) (packed key : List ℕ) (row : Row) : Type 0 where
   pub has : HasKinds query.kinds row
   pub is : packed ≡ packing row
   pub met : is_met (column_of row) query.condition ≡ true
   pub named : key ≡ packing (key_of query row)
 
--- what is read was added, by a plan and a hash function: the groups and partitions are those after it; they are as many more as it brings
--- at most, and groups of the query over any disk; and the pages that became full were written
+-- what is read was added, by a plan and a hash function. The groups and partitions are those after it, with at most as many more as it
+-- brings, and over any disk they are the query's. The pages that became full were written
 pub record AddedBy {H D : Type 0} (plan : Plan) (hash : List ℕ → ℕ) (g : Ghosts D) (what : Source) (old : Pass H) (before : D)
     (new : Pass H) (after : D) : Type 0 where
   pub reads : Reads plan hash (Are (meaning plan.query.now) hash what) (standing old.groups old.spill (g.last before))
@@ -142,7 +142,7 @@ pub record AddedOne {H D : Type 0} (hash_of : H → List ℕ → ℕ) (g : Ghost
   pub added : Added hash_of g what old before new after
   pub proceeds : Proceeds (entries_of old.groups) old.spill (entries_of new.groups) new.spill
 
--- a record is that of a row of which WHERE is true, or of a group of the query, and its hash is that of its key
+-- a record is that of a row for which WHERE is true, or of a group of the query, and its hash is that of its key
 abbrev pub IsGenuine : {H : Type 0} → (H → List ℕ → ℕ) → Pass H → Source → Type 0
 IsGenuine hash_of pass what = (piece : Piece) × Are (query_of pass) (hash_of pass.groups.hash) what (piece ∷ [])
 
@@ -179,7 +179,7 @@ pub record ReadsAndAdds {H D : Type 0} (hash_of : H → List ℕ → ℕ) (g : G
   pub read : ReadsRecord g old.spill before (Ok (Some (hash, tag))) left between bytes
   pub added : AddedGenuine hash_of g (On_tape hash tag bytes) (record old { spill = left }) between new after
 
--- so many were, one after the other
+-- this many were, one after the other
 abbrev pub AddInTurn : {H D : Type 0} → (H → List ℕ → ℕ) → Ghosts D → ℕ → Pass H → D → Pass H → D → Type 0
 AddInTurn hash_of g zero old before new after = (new ≡ old) × (after ≡ before)
 AddInTurn {H = H} {D = D} hash_of g (suc n) old before new after =
@@ -253,8 +253,8 @@ pub record IsSafeRun (query : Query) (most : ℕ) (run : List Entry) : Type 0 wh
   pub safe : AreSafe query most run
   pub rises : Rises run
 
--- an aggregation of pieces is under way: each is in the groups of a run or in a partition that is left, and the passes that were made, and
--- those over these partitions, cost what is said of the pieces
+-- an aggregation of pieces is under way. Each piece is in the groups of a run or in a partition that is left. The passes made so far, and
+-- those over these partitions, cost what the cost model says of the pieces
 pub record IsUnderway (query : Query) (setting : Setting) (pieces : List Piece) (run : List Entry) (Has : List PendingPartition
     → Type 0) (old new : Work) (writes written : ℕ) : Type 0 where
   pub pending : List PendingPartition

@@ -19,7 +19,7 @@ setting_by hash_of query means = setting_for query means.limit (hash_of means.ha
 abbrev pub cost_given : Query → Setting → List Brought → List Given → Cost
 cost_given query setting inputs givens = cost setting (records_of query (states_width query) (all_pieces inputs givens))
 
--- it makes so many passes at most, and one
+-- it makes at most this many passes, and at least one
 abbrev pub HasFewPasses : Query → Setting → List Brought → ℕ → Type 0
 HasFewPasses query setting inputs most = (givens : List Given) → AllGive query inputs givens
     → (cost_given query setting inputs givens).passes ≤ max 1 most
@@ -28,7 +28,7 @@ HasFewPasses query setting inputs most = (givens : List Given) → AllGive query
 abbrev pub no_work : Work
 no_work = record { passes = 0; spilled = 0; most_held = 0 }
 
--- what an aggregation tells beside its answer
+-- the work that an aggregation returns beside its run
 abbrev pub told_work : {Answer Error : Type 0} → Result (Answer × Work) Error → Work
 told_work (Ok done) = done.1
 told_work (Err error) = no_work
@@ -39,7 +39,7 @@ pub record IsCounted (inputs : List Brought) (query : Query) (setting : Setting)
   pub work : (givens : List Given) → AllGive query inputs givens → AddsUp old (cost_given query setting inputs givens) new
   pub pages : (givens : List Given) → AllGive query inputs givens → written ≡ writes + (cost_given query setting inputs givens).pages
 
--- it was, and the work that is told is just what it costs, unless it has more groups than a counter of passes holds
+-- it was, and the work returned is exactly what it costs, unless it has more groups than a counter of passes holds
 pub record Took (inputs : List Brought) (query : Query) (setting : Setting) (old : Work) (writes : ℕ) (told : Work) (written : ℕ) :
     Type 0 where
   pub counted : IsCounted inputs query setting old writes told written

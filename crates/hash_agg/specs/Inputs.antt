@@ -60,7 +60,7 @@ abbrev pub IsInput : Query → Brought → Type 0
 IsInput query (Packed packed) = (rows : List Row) × ArePackings query.kinds packed rows
 IsInput query (Counted run most) = IsRun query most run
 
--- inputs of the query, which count so many rows at most
+-- inputs of the query, which count this many rows at most
 pub record AreInputs (query : Query) (most : ℕ) (inputs : List Brought) : Type 0 where
   pub are : AllByRecursion (IsInput query) inputs
   pub few : all_rows inputs ≤ most
@@ -107,8 +107,8 @@ AllBring query [] [] = Unit {0}
 AllBring query (input ∷ inputs) (keys ∷ lists) = Brings query input keys × AllBring query inputs lists
 AllBring query inputs lists = ⊥
 
--- what aggregation gives of inputs: over lists of rows the groups of all of them, concatenated; for all inputs the keys that they bring,
--- each once and rising, and states that count at most as many rows as there are
+-- what aggregation gives of inputs. Where they stand for lists of rows, it is the groups of all these rows. In any case it has the keys
+-- that the inputs bring, each once and rising, and states that count at most as many rows as there are
 pub record IsAggregate (query : Query) (inputs : List Brought) (run : List Entry) : Type 0 where
   pub part : (lists : List (List Row)) → AreInputsOf query inputs lists
       → AreGroups query (all_rows inputs) run (part query (concatenated lists))
@@ -121,12 +121,12 @@ pub record IsRunOver (query : Query) (inputs : List Brought) (run : List Entry) 
   pub is_run : IsRun query (all_rows inputs) run
   pub few : (lists : List (List Row)) → AllBring query inputs lists → length run ≤ length (concatenated lists)
 
--- what is answered of inputs: the aggregate over an honest disk, and a run of the query over any
+-- the result for inputs: the aggregate over an honest disk, and a run of the query over any
 pub record Aggregated (honest : Bool) (query : Query) (inputs : List Brought) (run : List Entry) : Type 0 where
   pub aggregate : IsTrue honest → IsAggregate query inputs run
   pub run_over : IsRunOver query inputs run
 
--- the same, and the work that is told beside it: one pass at least over any disk, and no more than groups over an honest one
+-- the same, and the work returned beside it: at least one pass over any disk, and over an honest one no more passes than groups
 pub record Aggregation (honest : Bool) (query : Query) (inputs : List Brought) (done : List Entry × Work) : Type 0 where
   pub aggregated : Aggregated honest query inputs done.0
   pub passes : 1 ≤ done.1.passes

@@ -37,7 +37,7 @@ use Rattle.group_runs.specs.Adding.{row_added, group_added}
 
 -- ---- what is read
 
--- what a record stands for: a row of the table, or a group that counts at most so many rows
+-- what a record stands for: a row of the table, or a group that counts at most this many rows
 pub data Piece : Type 0 where
   Of_row : Row → Piece
   Of_group : Group → ℕ → Piece
@@ -46,7 +46,7 @@ pub data Piece : Type 0 where
 abbrev pub group_record : List ℕ → List ℕ → List ℕ
 group_record key states = to_be_bytes w16 (length key) ++ (key ++ states)
 
--- a record on a tape is that of a row of which WHERE is true, since no other is spilled; or of a group. Its hash is that of its key
+-- a record on a tape is that of a row for which WHERE is true, since no other is spilled; or of a group. Its hash is that of its key
 pub record IsRowRecord (query : Query) (hash : List ℕ → ℕ) (one : Record) (row : Row) : Type 0 where
   pub tag : one.tag ≡ 0
   pub of_kinds : HasKinds query.kinds row
@@ -106,8 +106,8 @@ AreOnce entries = (i j : ℕ) (x y : Entry) → slice_get entries i ≡ Some x �
 
 -- ---- the table of a pass
 
--- a table of groups, which has a hash function of its own; the tree in which it lies; the most bytes of blocks that it held since it
--- had no group; and the hash function by which records are spilled
+-- the groups of a pass: a table, which has a hash function of its own; the tree in which it lies; the most bytes of blocks that it held
+-- since it was empty; and the hash function by which records are spilled
 pub record GroupsState (H : Type 0) : Type 0 where
   pub table : TableState SipHash
   pub tree : TreeState
@@ -138,7 +138,7 @@ HasPlace g = buckets_for (buckets_in g.table.array) (length g.table.slots) ≤ m
 
 -- ---- a pass
 
--- groups are parted in two: each key's partial results are those of one of them, and the other has no such key
+-- groups are divided in two: each key's partial results are those of one of them, and the other has no such key
 abbrev pub IsParted : List Group → List Group → List Group → Type 0
 IsParted all some others =
     (key : Row)
@@ -165,8 +165,8 @@ pub record Stands (query : Query) (hash : List ℕ → ℕ) (pieces : List Piece
 abbrev pub setting_for : Query → ℕ → (List ℕ → ℕ) → Setting
 setting_for query limit hash = record { limit = limit; width = states_width query; hash = hash }
 
--- what a piece is as a record of the cost: nothing if WHERE passes over it; a row is its packing; a group is its key and states, of
--- which each group has as many bytes
+-- what a piece is to the cost model: nothing if WHERE rejects it; for a row a record of its packing; for a group a record of its key and
+-- its states, which have the same width in every group
 abbrev pub cost_records : Query → ℕ → Piece → List cost.Record
 cost_records query width (Of_row row) = if is_met (column_of row) query.condition
     then cost.of_row (packing (key_of query row)) (packing row) ∷ [] else []
@@ -193,7 +193,7 @@ pub record Spills (query : Query) (setting : Setting) (pieces : List Piece) (ent
   pub spilled : AreCosted query setting left (cost.spilled_from setting (records_of query setting.width pieces))
   pub begun : cost.is_empty partitions ≡ cost.is_empty left
 
--- over any disk: entries stand for groups of the query that count at most so many rows each
+-- over any disk: entries stand for groups of the query that count at most this many rows each
 abbrev pub AreSafe : Query → ℕ → List Entry → Type 0
 AreSafe query most entries = (entered : List Group) × AreGroupsBy query (λ key. most) entries entered
 
@@ -253,7 +253,7 @@ Reads plan hash Are old new =
     → CountUpTo (meaning plan.query.now) plan.most (pieces ++ more)
     → Holds (meaning plan.query.now) (setting_of plan hash) new (pieces ++ more) ahead pending
 
--- they can be read: a disk that tells what was written is no reason for a refusal
+-- they can be read: an honest disk is no reason for a refusal
 abbrev pub CanRead : Plan → (List ℕ → ℕ) → (List Piece → Type 0) → PassState → Type 0
 CanRead plan hash Are old =
     (pieces more : List Piece) × (ahead : List Record) × (pending : List PendingPartition)
@@ -323,7 +323,7 @@ WritesPages written before now after = now + written_pages before ≡ written + 
 
 -- ---- runs
 
--- references to a key and to states, behind a number
+-- references to a key and to states, after a number
 abbrev pub AbbreviatedKey : Type 0
 AbbreviatedKey = ℕ × (Bor (List ℕ) × Bor (List ℕ))
 

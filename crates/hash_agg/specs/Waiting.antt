@@ -70,7 +70,7 @@ pub record AddsUp (old : Work) (more : Cost) (new : Work) : Type 0 where
   pub spilled : new.spilled ≡ min (old.spilled + more.spilled) 340282366920938463463374607431768211455
   pub most_held : new.most_held ≡ max old.most_held more.most_held
 
--- a pass that took the keys of these entries and spilled so many records
+-- a pass that took the keys of these entries and spilled this many records
 abbrev pub pass_cost : ℕ → List Entry → ℕ → ℕ → Cost
 pass_cost width entries spilled pages = record {
   passes = 1;

@@ -27,25 +27,25 @@ use spill_tapes::TapeDisk;
 use std::alloc::Global;
 
 /// The groups of all inputs together, in the order of their keys: one for each distinct key of the selected rows and of
-/// the groups that are given, which are none over no selected row and no group, also without GROUP BY.
+/// the groups given. Over no selected row and no group there is none, even without GROUP BY.
 ///
 /// The rows are packed rows of the query's table. A run has rising packed keys of the columns of GROUP BY, and states of
 /// the query's aggregates that count at most `rows` rows each. All inputs together have at most
 /// 2^62 - 1 rows, the most that a state counts.
 ///
-/// A pass over the inputs takes the groups that keep within the limit of its means, and at least one; what is left goes to partitions
-/// on tapes, by fresh bits of its hash, and each partition is a later pass. So a limit and a hash function change nothing but the time and
-/// the memory that an aggregation takes (PostgreSQL 17, `src/backend/executor/nodeAgg.c`: hash aggregation in phases).
+/// A pass over the inputs takes the groups that fit the limit, and at least one. The rest goes to partitions on tapes, by fresh bits of the
+/// hash, and a later pass reads each partition. So the limit and the hash function change only the time and the memory that an aggregation
+/// takes (PostgreSQL 17, `src/backend/executor/nodeAgg.c`: hash aggregation in phases).
 ///
 /// # Errors
 ///
-/// `NoMemory`; `TapeFault` where the disk failed; and `TapeDamaged` where it gave back what was not written to it, so never over
-/// an honest one. Over any other, what is answered is a run of the query, of as many groups as there are selected rows and groups
-/// at most.
+/// `NoMemory`; `TapeFault` where the disk failed; and `TapeDamaged` where it gave back what was not written to it, so never over an honest
+/// disk. Over any other disk the result is still a run of the query, with at most as many groups as there are selected rows and groups
+/// given.
 ///
-/// Beside the run it is told what the aggregation took, which over an honest disk is what `aggregation_cost` says of the selected rows and
-/// of the groups, where the inputs have at most 2^62 - 1 groups, and so is how often the disk was written: one pass at least, and no more
-/// than groups. Over any disk the most bytes that it is told of the blocks of its table are no more than the limit of its means.
+/// Beside the run it returns the work done. Over an honest disk, that work and the number of pages written are what `aggregation_cost`
+/// predicts from the selected rows and the groups, if the inputs have at most 2^62 - 1 groups: at least one pass, and no more passes than
+/// groups. Over any disk the most bytes of blocks that it reports for its table stay within the limit.
 pub fn aggregate<H: KeyHash + Copy, D: TapeDisk>(
     alloc: Global,
     query: &Query,

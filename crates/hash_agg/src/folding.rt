@@ -20,10 +20,10 @@ use spill_partitions::SpillError;
 use spill_tapes::TapeDisk;
 use std::alloc::Global;
 
-/// Adds what inputs give to a run, which becomes the run that `aggregate` gives of it and of them.
+/// Adds inputs to a run, which becomes the run that `aggregate` gives of the run and the inputs together.
 ///
-/// No state of the run counts more than `rows` rows, and with those of the inputs they are at most 2^62 - 1. The limit is that
-/// of the inputs' groups, which are then merged with the run. What their aggregation took is added to `work`.
+/// No state of the run counts more than `rows` rows, and with the rows of the inputs these are at most 2^62 - 1. The limit applies to the
+/// groups of the inputs, which are then merged into the run. What their aggregation took is added to `work`.
 ///
 /// # Errors
 ///

@@ -28,10 +28,10 @@ use spill_partitions::SpillError;
 use std::alloc::{AllocError, Global};
 use std::marker::Model;
 
-/// Groups: a hash table from their packed keys to their states. Its buckets, keys and states lie in contexts below that of
-/// the pass, which lies below the root of a tree and has nothing else below it. `most_held` is the most bytes of blocks that these
-/// held since there was no group. `hash` is the hash function by which records are spilled, and no matter to the table: where its
-/// buckets lie, a hash function with a seed of its own says.
+/// Groups: a hash table from their packed keys to their states. Its buckets, keys and states lie in contexts below that of the pass, which
+/// lies below the root of a tree and has nothing else below it. `most_held` is the most bytes of blocks that these held since there was no
+/// group. `hash` is the hash function by which records are spilled; the table itself finds its buckets by another one, with a seed of its
+/// own.
 #[derive(Drop)]
 pub(crate) struct Groups<H: KeyHash + Drop> {
     tree: Tree,
@@ -139,8 +139,8 @@ impl<H: KeyHash + Drop> Groups<H> {
         Some(need as u64)
     }
 
-    /// Adds a group whose key isn't there, while so many bytes of blocks are held at most. The only error is a failed allocation, and
-    /// no group is left then.
+    /// Adds a group whose key isn't there, while this many bytes of blocks are held at most. The only error is a failed allocation, and no
+    /// group is left then.
     pub(crate) fn insert(&mut self, key: &[u8], states: &[u8], held: u64) -> Result<(), AllocError>
         requires absent { HasNo self.old.table self.old.tree key.now }
         requires key { length key.now ≤ 65535 }
@@ -187,7 +187,7 @@ impl<H: KeyHash + Drop> Groups<H> {
         advance_slice(query, states, row, most)
     }
 
-    /// Combines the states of a group with others of its key, which come behind. They are refused if they would count more than
+    /// Combines the states of a group with others of its key, which come after. They are refused if they would count more than
     /// `most` rows then.
     pub(crate) fn combine(
         &mut self,
@@ -223,7 +223,7 @@ impl<H: KeyHash + Drop> Groups<H> {
         self.most_held = 0;
     }
 
-    /// The groups in the order of their keys. The only error is want of memory.
+    /// The groups in the order of their keys. The only error is a failed allocation.
     pub(crate) fn sorted(&self, alloc: Global) -> Result<Run, SpillError>
         ensures sorted { IfOk result (IsPermutation (entries_of self.now)) }
         ensures rises { IfOk result Rises }

@@ -11,9 +11,9 @@ use packed_rows::PackedRows;
 pub enum Input<'a> {
     /// Rows of the query's table, packed.
     Rows(&'a [Vec<u8>]),
-    /// The same, one behind the other in one run of bytes.
+    /// The same, end to end in one run of bytes.
     Packed(&'a PackedRows),
-    /// Groups, of which no state counts more than so many rows.
+    /// The groups of `run`, no state of which counts more than `rows` rows.
     Groups { run: &'a Run, rows: u64 },
 }
 
@@ -30,7 +30,7 @@ impl<'a> Input<'a> {
     }
 }
 
-/// Packed rows: each by itself, or one behind the other in one run of bytes.
+/// Packed rows: each by itself, or end to end in one run of bytes.
 #[derive(Drop)]
 pub(crate) enum Packings<'a> {
     Apart(&'a [Vec<u8>]),

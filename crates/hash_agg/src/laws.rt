@@ -15,7 +15,7 @@ pub fn one_run()
         ((run ≡ run_bytes groups) × AllByRecursion (IsGroupOf query most) groups) }
 {}
 
-/// A run of groups that count at most so many rows is one of groups that count at most more rows.
+/// A run of groups that count at most this many rows is one of groups that count at most more rows.
 pub fn more_rows()
     ensures groups { (query : Query) (m n : ℕ) (run : List Entry) (groups : List Group) →
         m ≤ n → AreGroups query m run groups → AreGroups query n run groups }

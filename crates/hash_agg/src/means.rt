@@ -12,10 +12,10 @@ pub const MIN_LIMIT: u64 = 65_536;
 /// The greatest limit of an aggregation, in bytes.
 pub const MAX_LIMIT: u64 = 1_099_511_627_776;
 
-/// The limit of whoever tells none, in bytes.
+/// The default limit, in bytes.
 pub const DEFAULT_LIMIT: u64 = 4_194_304;
 
-/// The seed of whoever tells none.
+/// The default seed.
 pub const DEFAULT_SEED: Seed = Seed { low: 0, high: 0 };
 
 /// A limit is less than the least one, or more than the greatest.
@@ -23,12 +23,11 @@ pub const DEFAULT_SEED: Seed = Seed { low: 0, high: 0 };
 #[error("a limit is 65,536 to 1,099,511,627,776 bytes")]
 pub struct LimitOutOfRange;
 
-/// What an aggregation may use: a limit on the blocks of its table of groups, in bytes, and the hash function of its keys, by
-/// which it spills what doesn't keep within the limit. The disk to which it spills is handed in beside it.
+/// What an aggregation may use: a limit in bytes on the blocks of its table of groups, and the hash function by which it spills what does
+/// not fit the limit. The disk to which it spills is a separate argument.
 ///
-/// The table itself looks for keys by a hash function that has a seed. No result, and no page on the disk, depends on the seed;
-/// but whoever knows it can make many keys that lie in one place of the table, which is slow then. So where others make the
-/// keys, take a random one.
+/// The table itself finds keys by a hash function with a seed. No result and no page on the disk depends on the seed. But whoever knows it
+/// can make many keys of one hash, with which the table is slow. So where others choose the keys, take a random seed.
 #[derive(Drop)]
 pub struct Means<H: KeyHash + Copy> {
     limit: u64,
@@ -47,7 +46,8 @@ impl<H: KeyHash + Copy> Model for Means<H> {
 }
 
 impl<H: KeyHash + Copy> Means<H> {
-    /// A limit in bytes, from 65,536 to 1,099,511,627,776, and a hash function. The seed is a fixed one.
+    /// A limit in bytes, from 65,536 to 1,099,511,627,776, and a hash function. The seed is a fixed one. Another limit
+    /// is `LimitOutOfRange`.
     pub fn new(limit: u64, hash: H) -> Result<Means<H>, LimitOutOfRange>
         ensures means { IfOk result (λ means. means ≡ record { limit = limit; hash = hash; seed = DEFAULT_SEED }) }
         ensures within { IfOk result (λ _. (MIN_LIMIT ≤ limit) × (limit ≤ MAX_LIMIT)) }

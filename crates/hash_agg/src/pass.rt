@@ -48,7 +48,7 @@ impl Buffers {
     }
 }
 
-/// A pass, by a plan. Its table takes no new group that would exceed the limit, but for the first; and none once a record was spilled.
+/// A pass, by a plan. Its table takes no new group that would exceed the limit, except the first one, and none once a record was spilled.
 #[derive(Drop)]
 pub(crate) struct Pass<'q, H: KeyHash + Drop> {
     pub(crate) plan: Plan<'q>,

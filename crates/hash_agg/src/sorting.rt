@@ -12,18 +12,18 @@ use group_runs::Run;
 use spill_partitions::SpillError;
 use std::alloc::{AllocError, Global};
 
-/// The key and the states of a group, behind the first eight bytes of the key as a number: most keys are told apart by
+/// The key and the states of a group, after the first eight bytes of the key as a number: most keys are told apart by
 /// these, without a look at the bytes themselves.
 pub(crate) type AbbreviatedKey<'a> = (u64, (&'a [u8], &'a [u8]));
 
-/// The byte at a place of a key, and 0 behind its last one.
+/// The byte at a place of a key, and 0 after its last one.
 fn byte_at(key: &[u8], place: usize) -> u8
     ensures { result ≡ slice_index key.now place }
 {
     if place < key.len() { key[place] } else { 0 }
 }
 
-/// A group behind the number that its key begins with.
+/// A group after the number that its key begins with.
 pub(crate) fn abbreviated<'a>(key: &'a [u8], states: &'a [u8]) -> AbbreviatedKey<'a>
     ensures group { result.1 ≡ (key.entry, states.entry) }
     ensures abbreviated { IsAbbreviated result }
@@ -41,7 +41,7 @@ pub(crate) fn abbreviated<'a>(key: &'a [u8], states: &'a [u8]) -> AbbreviatedKey
     (first, (key, states))
 }
 
-/// Adds references to the groups of a run behind others.
+/// Adds references to the groups of a run after others.
 fn push_all<'a>(entries: &mut Vec<AbbreviatedKey<'a>>, run: &'a Run) -> Result<(), AllocError>
     ensures pushed { OnOk result (pairs entries.new.items ≡ pairs entries.old.items ++ run.now) }
     ensures abbreviated { OnOk result (All IsAbbreviated entries.old.items → All IsAbbreviated entries.new.items) }

@@ -3,9 +3,9 @@
 ghost use Rattle.std.specs.Prelude.{◌≡◌, ◌+◌, min, max};
 ghost use Rattle.hash_agg.specs.Counting.{no_work};
 
-/// What an aggregation took: how many passes it made, how many records these spilled, a record once for each pass that spills it, and
-/// the most bytes of blocks that its table of groups held at any time. The run that is answered, the pages of tapes and what
-/// is kept beside the blocks, as 24 bytes a group, are not counted.
+/// What an aggregation took: how many passes it made, how many records these spilled (one record once for each pass that spills it), and
+/// the most bytes of blocks that its table of groups held at any time. The resulting run, the pages of tapes and what is kept beside the
+/// blocks, such as 24 bytes a group, are not counted.
 #[derive(Clone, Copy, Debug, PartialEq, Eq)]
 pub struct Work {
     pub passes: u64,

@@ -10,7 +10,7 @@ use Rattle.grouping_model.specs.Aggregates.{Outcome, Plain}
 use Rattle.having_filter.specs.declared.cells.Cell.{Cell}
 use Rattle.having_filter.specs.declared.cells.Cell.TheVariants.{Null, Bigint, Numeric, Boolean, Text}
 
--- the outcome that a cell is, where the texts lie on end
+-- the outcome that a cell is, where the texts lie end to end
 abbrev pub outcome_in : List ℕ → Cell → Outcome
 outcome_in texts Null = Plain datum.Null
 outcome_in texts (Bigint z) = Plain (datum.Bigint z)
@@ -41,7 +41,7 @@ LiesIn texts _ = Unit {0}
 abbrev pub AllLieIn : List ℕ → List Cell → Type 0
 AllLieIn texts cells = All (LiesIn texts) cells
 
--- rows by their places, where these are told, and else as they are
+-- rows by their places, where places are given, and else as they are
 abbrev pub rows_at : List (List Outcome) → Option (Vec ℕ Global) → List (List Outcome)
 rows_at rows None = rows
 rows_at rows (Some places) = map (λ place. slice_index_or rows place []) places.items

@@ -1,5 +1,5 @@
--- What a checked query's conditions read, and of what kinds their operands are: so no comparison is of values of two
--- kinds, and no operand of logic is other than a truth value or null (PostgreSQL 17, 9.1, 9.2 and 7.2.3).
+-- What a checked query's conditions read, and which kinds their operands have. So no comparison has values of two
+-- kinds, and every operand of logic is a truth value or null (PostgreSQL 17, 9.1, 9.2 and 7.2.3).
 use Rattle.std.specs.Prelude.{◌≡◌, ℕ, ◌<◌, ◌==◌, true, List, length, Option, Some, None}
 use Rattle.std.specs.List.{list_any, AllByRecursion}
 use Rattle.std.specs.Option.{ForSome}

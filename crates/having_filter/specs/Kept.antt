@@ -46,8 +46,8 @@ key_kinds q = map (λ place. slice_index_or q.kinds place Bigint_kind) q.keys
 pub record TakesRows (kinds : List Kind) (aggregate : Aggregate) : Type 0 where
   pub takes : (row : Row) → HasKinds kinds row → Takes aggregate.function (argument aggregate.column row)
 
--- what is counted on wherever a checked query is evaluated: its keys are columns of the table, its aggregates take the
--- values of their columns, and there are not too many of either (own)
+-- what evaluation relies on in a checked query: its keys are columns of the table, its aggregates take the values of
+-- their columns, and there are not too many of either (own)
 pub record IsWellFormed (q : query.Query) : Type 0 where
   pub keys : AllByRecursion (λ place. place < length q.kinds) q.keys
   pub aggregates : AllByRecursion (TakesRows q.kinds) q.aggregates

@@ -1,5 +1,5 @@
--- Laws: a query with each column of GROUP BY once and no alias that is an item's own name passes the checks as the query does; what is
--- defined here, laws alone say.
+-- Laws: a query with each column of GROUP BY once and no alias that is an item's own name passes the checks as the query does; these
+-- definitions serve the laws alone.
 use Rattle.std.proofs.Common.{◌≡◌, ◌&&◌, ℕ, true, List, [], ◌∷◌, map, Option, Some, None, option_map, refl, ap, ◌∙◌}
 use Rattle.std.specs.Str.{bytes_eq}
 use Rattle.std.specs.List.{AllByRecursion, list_all}

@@ -1,4 +1,4 @@
--- Laws: the names of columns and their places; what is defined here, laws alone say.
+-- Laws: the names of columns and their places; these definitions serve the laws alone.
 use Rattle.std.proofs.Common.{◌≡◌, ◌<◌, ◌==◌, ℕ, true, List, [], ◌∷◌, map, length, Option, Some, None, option_map, refl, ap, sym, ◌∙◌}
 use Rattle.std.proofs.Common.{subst}
 use Rattle.std.specs.Prelude.{is_some, unwrap_or, slice_index_or}

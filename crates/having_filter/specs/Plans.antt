@@ -1,4 +1,4 @@
--- What is worked out of a query once, for its evaluation, and what is kept of it. All of this is our own.
+-- What is computed from a query once, for its evaluation, and what is kept of it. All of this is our own.
 use Rattle.std.specs.Prelude.{◌≡◌, ℕ, ◌==◌, List, map, option_map}
 use Rattle.grouping_model.specs.Datum.{Null}
 use Rattle.grouping_model.specs.Condition as model

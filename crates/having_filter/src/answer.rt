@@ -18,7 +18,7 @@ use std::alloc::{AllocError, Global};
 use std::cmp::Ordering;
 use std::marker::Model;
 
-/// The rows of an answer as they are made, which is by rising key, with the values of the query's items in each.
+/// The rows of an answer in the order in which they are made, by rising key. Each has the values of the query's items.
 ///
 /// The values of all rows lie in one run, so that a row takes no block of memory of its own.
 #[derive(Drop)]
@@ -52,7 +52,7 @@ impl AnswerRows {
         }
     }
 
-    /// Adds a row at the end. Where memory is wanting, nothing is changed.
+    /// Adds a row at the end. The only error is a failed allocation, which changes nothing.
     pub fn push(&mut self, row: &[ResultValue<'_>]) -> Result<(), AllocError>
         ensures pushed { OnOk result (self.new ≡ self.old ++ map outcome_of row.now ∷ []) }
         ensures refused { OnErr result (self.new ≡ self.old) }
@@ -106,7 +106,7 @@ impl AnswerRows {
         }
     }
 
-    /// How two rows compare by the terms of ORDER BY: by the first that tells them apart.
+    /// How two rows compare by the terms of ORDER BY: by the first term that tells them apart.
     fn compare(&self, terms: &[OrderTerm], a: usize, b: usize) -> Ordering
         ensures { result ≡ terms_cmp (map order_term terms.now) (slice_index_or self.now a []) (slice_index_or self.now b []) }
     {
@@ -183,8 +183,8 @@ impl Model for Answer {
 }
 
 impl Answer {
-    /// Rows, by the terms of ORDER BY in their order. Rows that no term tells apart stay as they were made. Without terms it takes
-    /// no memory.
+    /// The rows, sorted by the terms of ORDER BY. Rows that no term tells apart keep their order. Without terms it takes no memory. The
+    /// only error is a failed allocation.
     pub fn in_order(
         alloc: Global,
         rows: AnswerRows,

@@ -21,7 +21,7 @@ enum Cell {
 
 /// Values in their order: in a clause, the list of their outcomes.
 ///
-/// The texts lie on end, so that a text takes no block of memory of its own.
+/// The texts lie end to end, so a text takes no block of memory of its own.
 #[derive(Drop)]
 pub(crate) struct Values {
     cells: Vec<Cell>,
@@ -41,7 +41,7 @@ impl Model for Values {
     ghost invariant = { λ v. AllLieIn (string_bytes v.texts) v.cells.items };
 }
 
-/// What lies from a place to another.
+/// The text from one place up to another.
 fn part(text: &str, from: usize, to: usize) -> &str
     requires { IsPart text.now from to }
     ensures { result.now ≡ slice_range text.now from to }
@@ -103,7 +103,7 @@ impl Values {
         self.cells.len()
     }
 
-    /// The value so many places behind another, the first value being at 0.
+    /// The value `place` places after the one at `from`, the first value being at 0.
     pub(crate) fn value(&self, from: usize, place: usize) -> ResultValue<'_>
         requires { from + place < length self.now }
         ensures { slice_get self.now (from + place) ≡ Some (outcome_of result) }
@@ -112,7 +112,7 @@ impl Values {
         shown(self.texts.as_str(), cells[place])
     }
 
-    /// Adds a value at the end. Where memory is wanting, nothing is changed.
+    /// Adds a value at the end. A failed allocation changes nothing.
     fn push(&mut self, value: ResultValue<'_>) -> Result<(), AllocError>
         ensures pushed { OnOk result (self.new ≡ self.old ++ outcome_of value.entry ∷ []) }
         ensures refused { OnErr result (self.new ≡ self.old) }
@@ -124,14 +124,14 @@ impl Values {
         Ok(())
     }
 
-    /// Keeps the first values, so many of them. The texts stay, also those of the others.
+    /// Keeps the first `count` values. All texts stay, also those of the others.
     fn truncate(&mut self, count: usize)
         ensures { self.new ≡ take count self.old }
     {
         self.cells.truncate(count);
     }
 
-    /// Adds values at the end. Where memory is wanting, some of them may stand there.
+    /// Adds values at the end. After a failed allocation some of them may stand there.
     fn push_each(&mut self, row: &[ResultValue<'_>]) -> Result<(), AllocError>
         ensures pushed { OnOk result (self.new ≡ self.old ++ map outcome_of row.now) }
         ensures refused { OnErr result (take (length self.old) self.new ≡ self.old) }
@@ -142,7 +142,7 @@ impl Values {
         Ok(())
     }
 
-    /// Adds values at the end. Where memory is wanting, nothing is changed.
+    /// Adds values at the end. A failed allocation changes nothing.
     pub(crate) fn extend(&mut self, row: &[ResultValue<'_>]) -> Result<(), AllocError>
         ensures pushed { OnOk result (self.new ≡ self.old ++ map outcome_of row.now) }
         ensures refused { OnErr result (self.new ≡ self.old) }

@@ -78,7 +78,7 @@ fn is_true(truth: Option<bool>) -> bool
     }
 }
 
-/// Whether a condition is true, and not false or unknown. Where there is none, it is.
+/// Whether a condition is true, and not false or unknown. No condition counts as true.
 pub(crate) fn is_met<C, L: Leaves<C>>(condition: &Option<Cond<C>>, leaves: &L) -> bool
     ensures { result ≡ is_met (L.outcome leaves.now)
         (option_map (λ c. condition_by At (form_of c)) condition.now) }

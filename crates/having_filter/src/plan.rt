@@ -1,4 +1,4 @@
-//! What is worked out of a query once, so that its evaluation looks nothing up.
+//! What is computed from a query once, so that its evaluation looks nothing up.
 
 ghost use Rattle.std.specs.Prelude.{◌≡◌, ◌==◌, map, option_map, position, slice_index_or, IfOk};
 ghost use Rattle.grouping_model.specs.Datum.{Null, Bigint_kind};

@@ -68,7 +68,7 @@ impl Model for Query {
         (string_bytes q.kept.value.texts.schema) };
 }
 
-/// The texts of a query that passes the first checks: the first of these that it fails is told.
+/// The texts of a query that passes the first checks, or the error of the first check that it fails.
 fn texts_of_known(alloc: Global, schema: &Schema, raw: &RawQuery) -> Result<Texts, QueryError>
     ensures query { IfOk result (λ texts. string_bytes texts.query ≡ spelling (asked_of raw.now)) }
     ensures labels { IfOk result (λ texts. map string_bytes texts.labels.items
@@ -137,18 +137,17 @@ fn shared(alloc: Global, kept: Kept) -> Result<Arc<Kept>, AllocError>
 }
 
 impl Query {
-    /// The query that a text says, over the columns of a schema. A repeated column of GROUP BY counts once, an alias that is
-    /// the item's own name is as none, and so is a term of ORDER BY whose item an earlier one names.
+    /// The query that a text says, over the columns of a schema. A repeated column of GROUP BY counts once. An alias that is the item's own
+    /// name is dropped, and so is a term of ORDER BY whose item an earlier term names.
     ///
     /// # Errors
     ///
-    /// The first of these that is found anywhere in the query: `TooMany` for over 64 items, 16 distinct columns of GROUP
-    /// BY, 32 distinct aggregates among the items and in HAVING, or a canonical text of over 16,384 bytes; `TooDeep` for
-    /// a condition that is nested more than 64 deep; `NoSuchColumn`, also for a name or a place in ORDER BY that no item has;
-    /// `AggregateHere` for an aggregate in WHERE or in a
-    /// FILTER; `TypeMismatch` for an argument, an operand or a condition of the wrong kind; `NotGrouped` for a column
-    /// among the items or in HAVING that stands outside aggregates and isn't in GROUP BY; `AmbiguousOrder` for a name in
-    /// ORDER BY that two items have which aren't the same column or call.
+    /// The first of these that applies anywhere in the query: `TooMany` for over 64 items, 16 distinct columns of GROUP BY, 32 distinct
+    /// aggregates among the items and in HAVING, or a canonical text of over 16,384 bytes; `TooDeep` for a condition that is nested more
+    /// than 64 deep; `NoSuchColumn`, also for a name or a place in ORDER BY that no item has; `AggregateHere` for an aggregate in WHERE or
+    /// in a FILTER; `TypeMismatch` for an argument, an operand or a condition of the wrong kind; `NotGrouped` for a column among the items
+    /// or in HAVING that stands outside aggregates and isn't in GROUP BY; `AmbiguousOrder` for a name in ORDER BY that two items have, if
+    /// these are not the same column or call.
     pub fn check(alloc: Global, schema: &Schema, raw: &RawQuery) -> Result<Query, QueryError>
         requires { IsWritable (written_of raw.now) }
         ensures checked { IfOk result (λ q. checked schema.now (asked_of raw.now) ≡ Ok q) }
@@ -177,7 +176,7 @@ impl Query {
         &self.kept.schema
     }
 
-    /// The items, each with its alias, which is none where it would be the item's own name.
+    /// The items, each with its alias, or `None` where it has none or the item's own name.
     pub fn items(&self) -> &[(Item<usize>, Option<String>)]
         ensures { places_of result.now ≡ self.now.written.items }
     {
@@ -269,7 +268,7 @@ impl Query {
         self.kept.texts.query.as_str()
     }
 
-    /// Whether WHERE is true of a row, and not false or unknown. Where there is none, it is.
+    /// Whether WHERE is true of a row, and not false or unknown. No WHERE counts as true.
     #[tactic(auto, using(crate::proofs::ValueLaws::met_in_steps))]
     pub fn where_true(&self, row: &[Value<'_>]) -> bool
         ensures { result ≡ is_met (column_of (row_of row.now)) (meaning self.now).condition }
@@ -277,8 +276,8 @@ impl Query {
         is_met(&self.kept.parts.condition, &RowLeaves { row })
     }
 
-    /// Whether the FILTER of an aggregate is true of a row, and not false or unknown, the first aggregate being 0. Where
-    /// there is none, it is.
+    /// Whether the FILTER of an aggregate is true of a row, and not false or unknown, the first aggregate being 0. No
+    /// FILTER counts as true.
     pub fn filter_true(&self, aggregate: usize, row: &[Value<'_>]) -> bool
         requires { aggregate < length (meaning self.now).aggregates }
         ensures { option_map (λ a. is_met (column_of (row_of row.now)) a.filter)
@@ -288,7 +287,7 @@ impl Query {
     }
 
     /// Whether HAVING is true of a group, and not false or unknown, given the values of the columns of GROUP BY and the
-    /// results of the aggregates. Where there is none, it is.
+    /// results of the aggregates. No HAVING counts as true.
     pub fn having_true(&self, key: &[ResultValue<'_>], results: &[ResultValue<'_>]) -> bool
         ensures { result ≡
             is_met (outcome_at (map outcome_of key.now) (map outcome_of results.now))
@@ -306,7 +305,8 @@ impl Query {
         own.schema == theirs.schema && own.query == theirs.query
     }
 
-    /// The same query again. It takes no memory, since both share what is kept.
+    /// The same query again. It takes no memory, since both share what is kept. The only error is that there are as
+    /// many copies as can be counted.
     pub fn try_clone(&self) -> Result<Query, AllocError>
         ensures { IfOk result (λ query. query ≡ self.now) }
     {

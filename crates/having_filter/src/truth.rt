@@ -64,8 +64,8 @@ pub(crate) fn or(a: Option<bool>, b: Option<bool>) -> Option<bool>
     }
 }
 
-/// How two values compare, if neither is null: a bigint and a numeric as numbers. A checked query compares values of one
-/// kind; those of others are ordered by their kinds, save a numeric.
+/// How two values compare, if neither is null: a bigint and a numeric as numbers. A checked query compares values of
+/// one kind; those of others are ordered by their kinds, except a numeric.
 fn order(x: ResultValue<'_>, y: ResultValue<'_>) -> Option<Ordering>
     ensures { result ≡ outcome_cmp (outcome_of x.entry) (outcome_of y.entry) }
 {

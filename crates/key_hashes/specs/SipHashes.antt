@@ -7,7 +7,7 @@ use Rattle.key_hashes.specs.declared.sip_hash.Seed.{Seed}
 use Rattle.key_hashes.specs.declared.sip_hash.SipHash.{SipHash}
 use Rattle.key_hashes.specs.declared.sip_hash.Words.{Words}
 
--- the sum of two words, by 64 bits
+-- the sum of two words, modulo 2^64
 abbrev pub sum_of : ℕ → ℕ → ℕ
 sum_of x y = (x + y) % 2 ^ 64
 

@@ -6,8 +6,8 @@ use crate::hash::KeyHash;
 
 /// The 128 bits from which a [`SipHash`] is made.
 ///
-/// Whoever is to be unable to make many keys of one hash must not know them: take them from the system's source of random
-/// numbers. What a table holds, and in which order, depends on no seed.
+/// Take them from the system's source of random numbers, and keep them secret: whoever knows them can make many keys of one hash. What a
+/// table holds, and in which order, depends on no seed.
 #[derive(Clone, Copy, PartialEq, Eq)]
 pub struct Seed {
     /// The first 64 bits: SipHash's `k0`.
@@ -16,10 +16,10 @@ pub struct Seed {
     pub high: u64,
 }
 
-/// The hash function SipHash-1-3 (J.-P. Aumasson, D. J. Bernstein: SipHash, a fast short-input PRF, 2012), of whose 64 bits
-/// the low 32 are taken.
+/// The hash function SipHash-1-3 (J.-P. Aumasson, D. J. Bernstein: SipHash, a fast short-input PRF, 2012). Of its 64 bits the low 32 are
+/// taken.
 ///
-/// One who does not know the seed finds no keys that lie in one place of a table.
+/// It is made so that nobody finds keys of one hash without the seed; no contract says so.
 #[derive(Clone, Copy)]
 pub struct SipHash {
     seed: Seed,

@@ -7,12 +7,12 @@ pub none_there : {X : Type 0} (o : Option X) → is_some o ≡ false → o ≡ N
 none_there None e = refl
 none_there (Some x) e = absurd (subst T e tt)
 
--- what holds anyway holds at an error
+-- what holds in any case holds at an error
 pub always_err : {X E P : Type 0} (r : Result X E) → P → OnErr r P
 always_err (Ok x) p = tt
 always_err (Err e) p = p
 
--- what two facts of a success give
+-- two facts of a success, and what they imply together
 pub ok_both : {X E P Q R : Type 0} (r : Result X E) → (P → Q → R) → OnOk r P → OnOk r Q → OnOk r R
 ok_both (Ok x) gives p q = gives p q
 ok_both (Err e) gives p q = tt

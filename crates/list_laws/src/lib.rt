@@ -1,3 +1,3 @@
-//! Laws of lists, options and results that several crates want, and that the standard library does not have. There is
-//! no code: `specs/` has them.
+//! Laws of lists, options and results that several crates use and the standard library lacks. There is no code: they
+//! stand in `specs/`.
 #![tactic(auto)]

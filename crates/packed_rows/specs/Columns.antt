@@ -65,7 +65,7 @@ pub record DescribesColumn (name word : List ℕ) (column : Column) : Type 0 whe
   pub named : column.name ≡ name
   pub of_kind : kind_named word ≡ Some column.kind
 
--- lexemes describe columns, at least one: the name and the kind of each, parted by commas
+-- lexemes describe columns, at least one: the name and the kind of each, separated by commas
 unfoldable pub Describes : List Lexeme → List Column → Type 0
 Describes (Name name ∷ Name word ∷ []) (column ∷ []) = DescribesColumn name word column
 Describes (Name name ∷ Name word ∷ Sign Comma ∷ lexemes) (column ∷ columns) = DescribesColumn name word column × Describes lexemes columns
@@ -88,7 +88,7 @@ pub record IsSchemaText (text : List ℕ) (columns : List Column) : Type 0 where
 abbrev pub column_text : Column → List ℕ
 column_text column = column.name ++ codes " " ++ kind_text column.kind
 
--- a schema as it is printed: the columns, parted by commas
+-- a schema as it is printed: the columns, separated by commas
 abbrev pub printed : List Column → List ℕ
 printed [] = []
 printed (column ∷ []) = column_text column

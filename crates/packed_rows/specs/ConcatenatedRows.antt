@@ -1,4 +1,4 @@
--- Rows that lie on end, of elements of any type. All of this is our own.
+-- Rows that lie end to end, of elements of any type. All of this is our own.
 use Rattle.std.specs.Prelude.{◌≡◌, ℕ, ◌+◌, List, [], ◌∷◌, length, slice_range}
 use Rattle.std.specs.List.{flat_map}
 
@@ -7,7 +7,7 @@ abbrev pub cut : {X : Type 0} → List X → ℕ → List ℕ → List (List X)
 cut elements from [] = []
 cut elements from (to ∷ ends) = slice_range elements from to ∷ cut elements to ends
 
--- rows on end
+-- rows end to end
 abbrev pub concatenated : {X : Type 0} → List (List X) → List X
 concatenated {X} rows = flat_map (λ (row : List X). row) rows
 

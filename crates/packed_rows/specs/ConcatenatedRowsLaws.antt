@@ -1,4 +1,4 @@
--- Laws: rows that lie on end; what is defined here, laws alone say.
+-- Laws: rows that lie end to end; these definitions serve the laws alone.
 use Rattle.std.specs.Prelude.{◌≡◌, refl, ℕ, zero, suc, ◌+◌, ◌-◌, ◌<◌, ◌≤◌, List, [], ◌∷◌, ◌++◌, length, Some, slice_get, slice_index_or}
 use Rattle.std.specs.Prelude.{slice_range}
 use Rattle.std.proofs.Common.{sym, ◌∙◌, ap, subst, append_assoc, append-nil, arith}

@@ -1,4 +1,4 @@
--- Laws: reading columns from the front of lexemes that describe them; what is defined here, laws alone say.
+-- Laws: reading columns from the front of lexemes that describe them; these definitions serve the laws alone.
 use Rattle.std.specs.Prelude.{◌≡◌, refl, ℕ, List, [], ◌∷◌, Contains, Some}
 use Rattle.std.proofs.Common.{sym, ◌∙◌, suc, suc-le-suc, zero-le}
 use Rattle.std.proofs.lemmas.Option.{same_Some}
@@ -23,7 +23,7 @@ pub column_is : (name word : List ℕ) (kind : Kind) (c : Column) → DescribesC
 column_is name word kind c d e = let same : c.kind
     ≡ kind = same_Some c.kind kind (sym d.of_kind ∙ e) in λ i. record { name = d.named i; kind = same i }
 
--- from each member to each
+-- what holds of every member, by recursion
 pub all_members : {X : Type 0} (P : X → Type 0) (xs : List X) → ((x : X) → Contains xs x → P x) → AllByRecursion P xs
 all_members P [] each = tt
 all_members P (x ∷ xs) each = (each x (0, suc-le-suc zero-le, refl), all_members P xs (λ y c. each y (suc c.0, suc-le-suc c.1, c.2)))

@@ -24,6 +24,6 @@ packing row = flat_map value_packing row
 abbrev pub IsNoPacking : List Kind → List ℕ → Type 0
 IsNoPacking kinds bytes = (row : Row) → HasKinds kinds row → bytes ≢ packing row
 
--- a front of some bytes was put behind others
+-- a front of some bytes was appended to others
 abbrev pub AppendsFront : List ℕ → List ℕ → List ℕ → Type 0
 AppendsFront old new bytes = (front : List ℕ) × (back : List ℕ) × (bytes ≡ front ++ back) × (new ≡ old ++ front)

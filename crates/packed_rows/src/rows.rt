@@ -28,7 +28,7 @@ fn most_bytes(kind: ValueKind, field: &[u8]) -> usize
     }
 }
 
-/// How many bytes the packing of fields has at most: what nulls leave over is not used.
+/// How many bytes the packing of fields has at most; nulls take fewer.
 fn packed_len(kinds: &[ValueKind], fields: &[&[u8]]) -> usize {
     let mut room: usize = 0;
     for (kind, field) in kinds.iter().zip(fields) {
@@ -37,7 +37,8 @@ fn packed_len(kinds: &[ValueKind], fields: &[&[u8]]) -> usize {
     room
 }
 
-/// The packing of the row that the fields stand for, field by field.
+/// The packing of the row that the fields stand for, field by field. The errors are `WrongWidth` for more or fewer
+/// fields than columns, else `BadField` for the leftmost field that stands for no value, and `NoMemory`.
 pub fn pack_row(alloc: Global, schema: &Schema, fields: &[&[u8]]) -> Result<Vec<u8>, RowError>
     ensures packed { IfOk result (λ bytes. (row : Row)
         × ReadsRow (kinds schema.now) (texts_of fields.now) row × (bytes.items ≡ packing row)) }
@@ -56,7 +57,7 @@ pub fn pack_row(alloc: Global, schema: &Schema, fields: &[&[u8]]) -> Result<Vec<
     Ok(out)
 }
 
-/// The values of a row of this schema from its packing.
+/// The values of a row of this schema from its packing. The errors are `BadPacked`, and `NoMemory`.
 pub fn unpack_row<'a>(
     alloc: Global,
     schema: &Schema,

@@ -8,7 +8,7 @@ use std::marker::Model;
 
 /// Rows in order, each the bytes of its packing: in a clause, the list of them.
 ///
-/// The rows lie on end, so that a row takes no block of memory of its own.
+/// The rows lie end to end, so a row takes no block of memory of its own.
 #[derive(Drop)]
 pub struct PackedRows {
     bytes: Vec<u8>,
@@ -27,7 +27,7 @@ impl Model for PackedRows {
     ghost invariant = { λ r. AreRows r.bytes.items r.ends.items };
 }
 
-/// Where the first rows, so many of them, end, by where each row ends.
+/// Where the first `rows` rows end, given where each row ends.
 pub fn bound(ends: &[usize], rows: usize) -> usize
     requires { rows ≤ length ends.now }
     ensures { result ≡ slice_index_or (0 ∷ ends.now) rows 0 }
@@ -35,7 +35,7 @@ pub fn bound(ends: &[usize], rows: usize) -> usize
     if rows == 0 { 0 } else { ends[rows - 1] }
 }
 
-/// What lies from a place to another.
+/// The bytes from one place up to another.
 fn part(bytes: &[u8], from: usize, to: usize) -> &[u8]
     requires rises { from ≤ to }
     requires within { to ≤ length bytes.now }

@@ -27,7 +27,7 @@ impl Model for Schema {
 }
 
 impl Schema {
-    /// The schema that a text describes: for each column its name and its kind, parted by commas, as
+    /// The schema that a text describes: for each column its name and its kind, separated by commas, as
     /// `c text, d bigint`. There are 1 to 32 columns of different names; a name is at most 63 letters, digits and `_`
     /// and no reserved word of queries, and is folded to lower case. The kinds are `bigint` or `int8`, `boolean` or
     /// `bool`, and `text`. Any other text is `BadSchema`.
@@ -90,8 +90,8 @@ impl Schema {
         self.columns.get_index_of(name)
     }
 
-    /// The schema's canonical text, as `c text, d bigint`: names in lower case, kinds by the names `bigint`,
-    /// `boolean` and `text`. `parse` reads it as this schema.
+    /// The schema's canonical text, as `c text, d bigint`: names in lower case, kinds by the names `bigint`, `boolean`
+    /// and `text`. `parse` reads it as this schema. The only error is a failed allocation.
     pub fn print(&self) -> Result<String, AllocError>
         ensures printed { IfOk result (λ text. string_bytes text ≡ printed self.now) }
         ensures read_again { IfOk result (λ text. IsSchemaText (string_bytes text) self.now) }

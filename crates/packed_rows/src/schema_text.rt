@@ -37,7 +37,7 @@ pub(crate) fn read_tokens(alloc: Global, text: &str) -> Result<Vec<Token>, RowEr
     }
 }
 
-/// The name that tokens begin with, and the tokens behind it.
+/// The name that tokens begin with, and the tokens after it.
 fn name_at(tokens: &[Token]) -> Option<(&str, &[Token])>
     ensures found { IfSome result (λ x. lexemes_of (all_placed tokens.now)
         ≡ Name x.0.now ∷ lexemes_of (all_placed x.1.now)) }
@@ -53,7 +53,7 @@ fn name_at(tokens: &[Token]) -> Option<(&str, &[Token])>
     }
 }
 
-/// The name and the kind that tokens begin with, and the tokens behind them.
+/// The name and the kind that tokens begin with, and the tokens after them.
 fn column_at(tokens: &[Token]) -> Option<(&str, ValueKind, &[Token])>
     ensures found { IfSome result (λ x. BeginsWithColumn (lexemes_of (all_placed tokens.now))
         x.0.now (kind_of x.1) (lexemes_of (all_placed x.2.now))) }
@@ -66,7 +66,7 @@ fn column_at(tokens: &[Token]) -> Option<(&str, ValueKind, &[Token])>
     Some((name, kind, rest))
 }
 
-/// The tokens behind a comma.
+/// The tokens after a comma.
 fn after_comma(tokens: &[Token]) -> Option<&[Token]>
     ensures found { IfSome result (λ rest. lexemes_of (all_placed tokens.now)
         ≡ Sign Comma ∷ lexemes_of (all_placed rest.now)) }
@@ -82,7 +82,7 @@ fn after_comma(tokens: &[Token]) -> Option<&[Token]>
     }
 }
 
-/// Adds a column behind the others. It is refused where there are 32 columns, or one of this name, or where the name
+/// Adds a column after the others. It is refused where there are 32 columns, or one of this name, or where the name
 /// is a reserved word.
 fn add_column(
     alloc: Global,

@@ -41,7 +41,7 @@ fn unpack_boolean(bytes: &[u8]) -> Option<(bool, &[u8])>
     }
 }
 
-/// What stands before the first zero, and what stands after it.
+/// The bytes before the first zero, and those after it.
 fn split_at_zero(bytes: &[u8]) -> Option<(&[u8], &[u8])>
     ensures found { IfSome result (λ x. (bytes.now ≡ x.0.now ++ 0 ∷ x.1.now)
         × ¬ (Contains x.0.now 0)) }
@@ -99,8 +99,9 @@ fn unpack_value(kind: ValueKind, bytes: &[u8]) -> Option<(Value<'_>, &[u8])>
     }
 }
 
-/// Reads the values of a key of these kinds from its packing into `key`, where they take the place of what was there, so
-/// that one vector can serve for many keys. After an error some values are there that the bytes begin with.
+/// Reads the values of a key of these kinds from its packing into `key`, in place of what it held, so one vector can
+/// serve for many keys. The errors are `BadPacked`, and `NoMemory`; after one, `key` holds values that the bytes begin
+/// with.
 pub fn unpack_into<'a>(
     kinds: &[ValueKind],
     bytes: &'a [u8],
@@ -111,7 +112,7 @@ pub fn unpack_into<'a>(
         × (bytes.now ≡ packing (row_of key.new.items))) }
     // The bytes are refused only where they are no packing of such a key.
     ensures refused { IfErr result (UnpackFault (kinds_of kinds.now) bytes.now) }
-    // What is there after an error are values that the bytes begin with.
+    // After an error, the vector holds values that the bytes begin with.
     ensures begun { OnErr result ((rest : List ℕ)
         × (bytes.now ≡ packing (row_of key.new.items) ++ rest)) }
 {
@@ -130,7 +131,7 @@ pub fn unpack_into<'a>(
     Ok(())
 }
 
-/// The values of a key of these kinds from its packing.
+/// The values of a key of these kinds from its packing. The errors are `BadPacked`, and `NoMemory`.
 pub fn unpack_key<'a>(
     alloc: Global,
     kinds: &[ValueKind],

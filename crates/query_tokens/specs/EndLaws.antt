@@ -1,4 +1,4 @@
--- Laws: before which bytes a lexeme ends, and pieces that are joined; what is defined here, laws alone say.
+-- Laws: before which bytes a lexeme ends, and pieces that are joined; these definitions serve the laws alone.
 use Rattle.std.proofs.Common.{◌≡◌, ℕ, false, List, [], ◌∷◌, refl, arith}
 use Rattle.std.specs.Prelude.{◌==◌}
 use Rattle.std.proofs.lemmas.Bool.{or_from}

@@ -54,7 +54,7 @@ spell (Integer z) = signed_decimal z
 spell (Text text) = 39 ∷ flat_map spell_byte text ++ 39 ∷ []
 spell (Sign symbol) = spell_symbol symbol
 
--- whether a byte directly behind a lexeme's spelling would belong to its token, or make a fault of it
+-- whether a byte directly after a lexeme's spelling would belong to its token, or make a fault of it
 abbrev pub runs_into : Lexeme → ℕ → Bool
 runs_into (Name name) b = is_in_name b
 runs_into (Integer z) b = is_in_name b
@@ -84,7 +84,7 @@ lexemes_in [] = []
 lexemes_in (Space ∷ pieces) = lexemes_in pieces
 lexemes_in (Spelled w ∷ pieces) = w ∷ lexemes_in pieces
 
--- each lexeme is one that a text can have, and ends before the pieces behind it
+-- each lexeme is one that a text can have, and ends before the pieces after it
 abbrev pub AreApart : List Piece → Type 0
 AreApart [] = Unit {0}
 AreApart (Space ∷ pieces) = AreApart pieces
@@ -115,7 +115,7 @@ is_closed Less = false
 is_closed More = false
 is_closed symbol = true
 
--- each lexeme behind a space
+-- each lexeme after a space
 abbrev pub with_spaces : List Lexeme → List Piece
 with_spaces [] = []
 with_spaces (w ∷ ws) = Space ∷ Spelled w ∷ with_spaces ws

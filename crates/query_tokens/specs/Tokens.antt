@@ -1,5 +1,5 @@
 -- Which tokens a text has, from left to right, or else its first fault (PostgreSQL 17, 4.1 Lexical Structure; that the
--- first fault from the left is told, and at which byte: own).
+-- first fault from the left is given, and at which byte: own).
 use Rattle.std.specs.Prelude.{ℕ, zero, suc, ◌+◌, ◌-◌, ◌*◌, ◌^◌, ◌≡◌, ℤ, pos, neg_ℤ, Bool, true, false, nat_lt, nat_le, ◌==◌, ◌&&◌}
 use Rattle.std.specs.Prelude.{if◌then◌else◌, List, [], ◌∷◌, map, length, take, drop, Option, Some, None, Result, Ok, Err}
 use Rattle.std.specs.Char.{is_ascii_digit, to_ascii_lowercase}
@@ -24,7 +24,7 @@ abbrev pub Fails : {Y : Type 0} → TokenError → Result Y Fault → Type 0
 Fails errors.NoMemory read = Unit {0}
 Fails (errors.Fault f) read = read ≡ Err f
 
--- what a function returned, seen by view, is what reading gives, unless an allocation failed
+-- what a function returned, seen through view, is what reading gives, unless an allocation failed
 abbrev pub Gives : {X Y : Type 0} → (X → Y) → Result X TokenError → Result Y Fault → Type 0
 Gives view (Ok x) read = read ≡ Ok (view x)
 Gives view (Err e) read = Fails e read
@@ -46,7 +46,7 @@ abbrev pub number_after : ℕ → List ℕ → ℕ
 number_after so_far [] = so_far
 number_after so_far (d ∷ ds) = number_after (10 * so_far + (d - 48)) ds
 
--- the integer behind a minus sign or none, if it is in the range of 64 bits (8.1.1 Integer Types)
+-- the integer after a minus sign or none, if it is in the range of 64 bits (8.1.1 Integer Types)
 abbrev pub integer_of : Bool → ℕ → Option ℤ
 integer_of true n = if nat_le n (2 ^ 63) then Some (neg_ℤ (pos n)) else None
 integer_of false n = if nat_lt n (2 ^ 63) then Some (pos n) else None
@@ -69,8 +69,8 @@ abbrev pub and_before : ℕ → Option (List ℕ × List ℕ) → Option (List �
 and_before b None = None
 and_before b (Some x) = Some (b ∷ x.0, x.1)
 
--- what stands within the quotes, two quotes being one, and what stands behind the closing one; none if the string is
--- open. `string_content false` reads within, and `string_content true` behind a quote, which closes if no second one
+-- what stands within the quotes, two quotes being one, and what stands after the closing one; none if the string is
+-- open. `string_content false` reads within, and `string_content true` after a quote, which closes if no second one
 -- follows. A backslash is an ordinary byte (4.1.2.1 String Constants)
 unfoldable pub string_content : Bool → List ℕ → Option (List ℕ × List ℕ)
 string_content false [] = None
@@ -83,7 +83,7 @@ abbrev pub text_or_fault : ℕ → Option (List ℕ × List ℕ) → Result (Lex
 text_or_fault at None = Err (Syntax at)
 text_or_fault at (Some x) = if list_any (λ b. b == 0) x.0 then Err (Syntax at) else Ok (Text x.0, x.1)
 
--- a string from behind its quote on; at is the place of that quote
+-- a string from the byte after its opening quote on; at is the place of that quote
 unfoldable pub text_at : ℕ → List ℕ → Result (Lexeme × List ℕ) Fault
 text_at at bytes = text_or_fault at (string_content false bytes)
 
@@ -92,7 +92,7 @@ abbrev pub symbol_or_fault : ℕ → Option Symbol → List ℕ → Result (Lexe
 symbol_or_fault at None rest = Err (Syntax at)
 symbol_or_fault at (Some s) rest = Ok (Sign s, rest)
 
--- a symbol of two bytes, or else one of one byte; rest stands behind the first byte
+-- a symbol of two bytes, or else one of one byte; rest stands after the first byte
 abbrev pub longest_symbol : ℕ → Option Symbol → Option Symbol → List ℕ → Result (Lexeme × List ℕ) Fault
 longest_symbol at (Some s) one rest = Ok (Sign s, drop 1 rest)
 longest_symbol at None one rest = symbol_or_fault at one rest
@@ -103,7 +103,7 @@ symbol_at at [] = Err (Syntax at)
 symbol_at at (a ∷ []) = symbol_or_fault at (symbol_of_one a) []
 symbol_at at (a ∷ b ∷ bs) = longest_symbol at (symbol_of_two a b) (symbol_of_one a) (b ∷ bs)
 
--- the lexeme at the front of bytes that stand at a place, and the bytes behind it. A minus sign directly before a digit
+-- the lexeme at the front of bytes that stand at a place, and the bytes after it. A minus sign directly before a digit
 -- belongs to the integer, whose place it is, and begins no lexeme elsewhere (own)
 unfoldable pub word_at : ℕ → List ℕ → Result (Lexeme × List ℕ) Fault
 word_at at [] = Err (Syntax at)
@@ -125,8 +125,8 @@ tokens_at zero at (b ∷ bs) =
 abbrev pub tokens_in : List ℕ → Result (List Placed) Fault
 tokens_in bytes = tokens_at 0 0 bytes
 
--- whether bytes that stand at a place begin with so many tokens, of which none is a fault, whatever stands behind them; the first
--- `within` of these bytes belong to a token that has been read (own)
+-- whether bytes that stand at a place begin with this many tokens without a fault, whatever follows them; the first `within` of these bytes
+-- belong to a token that has been read (own)
 unfoldable pub begins_with : ℕ → ℕ → ℕ → List ℕ → Bool
 begins_with zero within at bytes = true
 begins_with (suc tokens) within at [] = false

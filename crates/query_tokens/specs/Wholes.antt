@@ -8,8 +8,8 @@ use Rattle.query_tokens.specs.Bytes.{is_space}
 use Rattle.query_tokens.specs.Tokens.{integer_of, number_after}
 use Rattle.query_tokens.specs.Spelling.{spell, spell_symbol}
 
--- bytes that say a lexeme: a name in letters of either case, an optional minus sign and the digits of an integer, a string
--- between quotes, a symbol, of which `<>` is also written `!=` (PostgreSQL 17, 4.1 Lexical Structure)
+-- bytes that say a lexeme: a name in letters of either case; an optional minus sign and digits; a string between quotes; a symbol, where
+-- `<>` is also written `!=` (PostgreSQL 17, 4.1 Lexical Structure)
 abbrev pub IsTextOf : Lexeme → List ℕ → Type 0
 IsTextOf (Name name) bytes = map to_ascii_lowercase bytes ≡ name
 IsTextOf (Integer z) bytes =
@@ -18,8 +18,8 @@ IsTextOf (Integer z) bytes =
 IsTextOf (Text text) bytes = bytes ≡ spell (Text text)
 IsTextOf (Sign symbol) bytes = (bytes ≡ spell_symbol symbol) ⊎ ((symbol ≡ Unequal) × (bytes ≡ codes "!="))
 
--- tokens make up bytes that stand at a place: white space, the text of the first token at its place, and what the others make
--- up; behind the last there is white space alone (own)
+-- tokens make up bytes that stand at a place: white space, then the text of the first token at its place, then what the others make up.
+-- After the last there is only white space (own)
 unfoldable pub MakeUp : ℕ → List Placed → List ℕ → Type 0
 MakeUp at [] bytes = list_all is_space bytes ≡ true
 MakeUp at (t ∷ ts) bytes =

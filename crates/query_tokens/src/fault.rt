@@ -10,7 +10,7 @@ use thiserror::Error;
 #[derive(Clone, Copy, Debug, PartialEq, Eq, Error)]
 pub enum Fault {
     /// No token begins at this byte, or the one that begins there is broken: an open string, a string with the
-    /// character 0, a name of more than 63 bytes, or digits with a letter or `_` directly behind them. Bytes are
+    /// character 0, a name of more than 63 bytes, or digits with a letter or `_` directly after them. Bytes are
     /// counted from 0, and a minus sign belongs to its digits.
     #[error("syntax error at byte {at}")]
     Syntax { at: usize },

@@ -11,8 +11,8 @@ ghost use Rattle.query_tokens.specs.Tokens.{word_at, tokens_at, tokens_in};
 ghost use Rattle.query_tokens.specs.Wholes.{MakeUp};
 ghost use Rattle.query_tokens.specs.Words.{Lexeme, Name, Integer, Text, Sign, Placed, RiseWithin};
 
-/// What is spelled is read again: a lexeme before whatever doesn't run into it, and a text of lexemes and spaces,
-/// from whatever place. So no two lexemes have one spelling, and no two lists of lexemes one text.
+/// What is spelled is read again: a lexeme before anything that doesn't run into it, and a text of lexemes and spaces
+/// at any place. So no two lexemes share a spelling, and no two lists of lexemes share a text.
 #[tactic(auto, using(crate::specs::Lemmas::Respelled::word_again, crate::specs::Lemmas::Pieces::pieces_again, crate::proofs::Pieces::tokens_again, crate::proofs::Pieces::no_fault, crate::specs::Lemmas::Pieces::spaced_again, crate::proofs::Pieces::one_spelling, crate::proofs::Pieces::one_text))]
 pub fn spelling_is_read()
     ensures word { (at : ℕ) (w : Lexeme) (rest : List ℕ) → IsLexeme w → EndsBefore w rest →
@@ -46,8 +46,8 @@ pub fn what_is_read()
         lexemes_read (tokens_in (text_of (with_spaces (lexemes_of ts)))) ≡ Ok (lexemes_of ts) }
 {}
 
-/// What ends before what: any lexeme at the end, before a space and before bytes that run into none, a name, an
-/// integer or a string before a symbol, and all symbols but `<` and `>` before anything.
+/// Which lexemes end before what follows them: any lexeme at the end of a text, before a space and before bytes that
+/// run into none; a name, an integer or a string before a symbol; and all symbols but `<` and `>` before anything.
 #[tactic(auto, using(crate::specs::EndLaws::before_others, crate::proofs::Ends::before_lexeme))]
 pub fn ends_of_lexemes()
     ensures at_end { (w : Lexeme) → EndsBefore w [] }
@@ -66,8 +66,8 @@ pub fn ends_of_lexemes()
         EndsBefore (Sign symbol) rest }
 {}
 
-/// Pieces that are joined: their texts are joined, so are their lexemes, and they are apart if the last of those in
-/// front ends before the text behind.
+/// Joining pieces joins their texts and their lexemes. The lexemes stay apart if the last one in front ends before the
+/// text after it.
 #[tactic(auto, using(crate::proofs::Ends::joined_text, crate::proofs::Ends::joined_lexemes, crate::proofs::Ends::joined_apart, crate::proofs::Ends::last_before_others))]
 pub fn joined_pieces()
     ensures text { (front back : List Piece) →
@@ -88,7 +88,7 @@ pub fn places_in_text()
     ensures fault { (text : List ℕ) (at : ℕ) → tokens_in text ≡ Err (Syntax at) → at < length text }
 {}
 
-/// The tokens of a text make up the whole text, with the white space before, between and behind them.
+/// The tokens of a text make up the whole text, with the white space before, between and after them.
 #[tactic(auto, using(crate::proofs::Wholes::whole_text))]
 pub fn texts_are_made_of_tokens()
     ensures { (text : List ℕ) (ts : List Placed) → tokens_in text ≡ Ok ts → MakeUp 0 ts text }

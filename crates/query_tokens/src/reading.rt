@@ -18,7 +18,7 @@ use crate::words::{begins_name, digits_len, is_space, name_len, symbol_of_one, s
 use grouping_model::limits::MAX_NAME_LEN;
 use std::alloc::{AllocError, Global};
 
-/// The first bytes of a text, the last of which is ASCII, and those behind them.
+/// The first bytes of a text, the last of which is ASCII, and those after them.
 fn cut(text: &str, len: usize) -> (&str, &str)
     requires within { len ≤ length text.now }
     requires ascii { 0 < len → slice_index text.now (len - 1) < 128 }
@@ -43,7 +43,7 @@ fn name_at(alloc: Global, at: usize, text: &str) -> Result<(Word, &str), TokenEr
     Ok((Word::Name(name), rest))
 }
 
-/// What stands within the quotes, two quotes being one, and what stands behind the closing one.
+/// What stands within the quotes, two quotes being one, and what stands after the closing one.
 fn string_content(alloc: Global, text: &str) -> Result<Option<(String, &str)>, AllocError>
     ensures { IfOk result (λ r. option_map (λ x. (string_bytes x.0, x.1.now)) r
         ≡ string_content false text.now) }
@@ -63,7 +63,7 @@ fn string_content(alloc: Global, text: &str) -> Result<Option<(String, &str)>, A
     Ok(None)
 }
 
-/// The string at the front, from behind its quote, which stands at a place.
+/// The string at the front, from the byte after its opening quote, which stands at a place.
 #[tactic(auto, unfolding(crate::specs::Tokens::text_at))]
 fn text_at(alloc: Global, at: usize, text: &str) -> Result<(Word, &str), TokenError>
     ensures { Gives (λ x. (lexeme_of x.0, x.1.now)) result (text_at at text.now) }
@@ -108,7 +108,7 @@ fn begins_name_at(bytes: &[u8]) -> bool
     }
 }
 
-/// A number behind a minus sign or none, if it is in range.
+/// A number after a minus sign or none, if it is in range.
 fn signed_integer(negative: bool, magnitude: u64) -> Option<i64>
     ensures { result ≡ integer_of negative magnitude }
 {
@@ -119,7 +119,7 @@ fn signed_integer(negative: bool, magnitude: u64) -> Option<i64>
     }
 }
 
-/// The integer that digits stand for behind a minus sign or none, if it is in range.
+/// The integer that digits stand for after a minus sign or none, if it is in range.
 fn integer_of(negative: bool, digits: &str) -> Option<i64>
     requires digits { all_ascii_digits digits.now ≡ true }
     requires some { 0 < length digits.now }
@@ -148,7 +148,7 @@ fn integer_at(at: usize, negative: bool, text: &str) -> Result<(Word, &str), Tok
     }
 }
 
-/// What the token at the front says, and the text behind it.
+/// What the token at the front says, and the text after it.
 #[tactic(auto, unfolding(crate::specs::Tokens::word_at))]
 fn word_at(alloc: Global, at: usize, text: &str) -> Result<(Word, &str), TokenError>
     ensures { Gives (λ x. (lexeme_of x.0, x.1.now)) result (word_at at text.now) }
@@ -167,14 +167,14 @@ fn word_at(alloc: Global, at: usize, text: &str) -> Result<(Word, &str), TokenEr
 ///
 /// White space, which is the bytes 9 to 13 and 32, may stand between any two tokens. A name is a letter or `_`, then
 /// letters, digits and `_`, all of ASCII, at most 63 bytes, and comes in lower case. An integer is an optional `-`
-/// and digits directly behind it, in the range of an `i64`. A string stands in single quotes, `''` being one quote.
+/// and digits directly after it, in the range of an `i64`. A string stands in single quotes, `''` being one quote.
 /// The symbols are `( ) , * ; = <> != < <= > >=`, the longest first.
 ///
 /// # Errors
 ///
 /// The first fault from the left: [`Fault::Syntax`] at the first byte, counted from 0, of what begins no token, or of
 /// an open string, a string with the character 0, a name of more than 63 bytes, or digits with a letter or `_`
-/// directly behind them, even if their number is too large; [`Fault::NumberTooLarge`] for an integer that is out of
+/// directly after them, even if their number is too large; [`Fault::NumberTooLarge`] for an integer that is out of
 /// range. And [`TokenError::NoMemory`] if an allocation failed.
 pub fn tokens(alloc: Global, text: &str) -> Result<Vec<Token>, TokenError>
     ensures exact { Gives (λ v. all_placed v.items) result (tokens_in text.now) }
@@ -186,12 +186,12 @@ pub fn tokens(alloc: Global, text: &str) -> Result<Vec<Token>, TokenError>
     }
 }
 
-/// The tokens of a text as [`tokens`] gives them, or `None` where it has more than `most` of them: then the first `most` were read
-/// without a fault, and nothing behind them, so that no more memory is taken than for these.
+/// The tokens of a text as [`tokens`] gives them, or `None` if it has more than `most` of them. In that case the first `most` were read
+/// without a fault and nothing after them, so memory is taken for these alone.
 ///
 /// # Errors
 ///
-/// Those of [`tokens`], but for a fault behind the first `most` tokens.
+/// Those of [`tokens`], except for a fault after the first `most` tokens.
 pub fn tokens_up_to(
     alloc: Global,
     text: &str,

@@ -22,8 +22,8 @@ MergeIsCounted own (held ∷ theirs) query setting old writes new written =
     (work : Work) × (pages : ℕ) × JoinIsCounted (part_of own held.0) held.1 query setting old writes work pages
     × MergeIsCounted own theirs query setting work pages new written
 
--- what joining the parts of all origins below one takes, one after the other: from this work and so many pages it leads to a work, which
--- nobody is handed, and to pages, and at least so many are written
+-- what joining the parts of all origins below one takes, one after the other: from this work and this number of pages it leads to a work
+-- that no caller sees, and to a number of pages, of which at least as many are written
 pub record JoinedBelow (own theirs : Parts) (origin : ℕ) (query : Query) (setting : Setting) (old : Work) (writes written : ℕ) :
     Type 0 where
   pub lower : Parts
@@ -40,8 +40,8 @@ abbrev pub JoinsInOrder : (own theirs : Parts) → MergeError → Query → Sett
 JoinsInOrder own theirs (Join origin why) query setting old writes written = JoinedBelow own theirs origin query setting old writes written
 JoinsInOrder own theirs error query setting old writes written = Unit {0}
 
--- a replica was joined or merged with another by some means, with this result: what is counted of it where it is done, and where it is
--- refused over an honest disk, in which order the parts were joined
+-- a replica was joined or merged with another by some means, with this result. Where it is done, this is what is counted. Where it is
+-- refused over an honest disk, it says in which order the parts were joined
 pub record MergeRan {D H T : Type 0} (g : Ghosts D) (hash_of : H → List ℕ → ℕ) (own theirs : Held) (means : MeansState H)
     (result : Result T MergeError) (before : D) (begun : Work) (after : D) (done : Work) : Type 0 where
   pub ran : Ran g hash_of own.query means (MergeIsCounted own.parts theirs.parts) (merge_ended result) before begun after done

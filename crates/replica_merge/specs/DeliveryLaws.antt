@@ -56,13 +56,13 @@ module _ (honest : Bool) (old new : Held) (batch : Batch) (result : Result Deliv
   pub delivery_tells : IfErr result (λ e. BatchTells e.why (part_of old.parts batch.origin) batch.number batch.rows)
   delivery_tells = IfErr-weaker result (RefusesAt old.parts batch new.parts) _ (λ e refused. refused.tells) d.refused
 
-  -- disagreement is told wherever there is one
+  -- a disagreement is always reported
   pub delivery_agreed : OnOk result (¬ (Disagrees (part_of old.parts batch.origin) batch.number batch.rows))
   delivery_agreed = IfOk-weaker result (DeliversAt honest old.query old.parts batch.origin batch.number batch.rows new.parts) _
       (λ reply taken. taken_agrees honest old.query (part_of old.parts batch.origin) taken.part batch.number batch.rows reply
       (part_is old.query old.parts d.held batch.origin) taken.delivers) d.taken
 
-  -- nothing but disagreement is told of a number that is known already
+  -- nothing but a disagreement is reported for a number that is known already
   pub delivery_unknown : IfErr result (λ e. (error : SpillError) → e.why ≡ Spill error
       → knows (told old.parts) (batch.origin, batch.number) ≡ false)
   delivery_unknown = IfErr-weaker result (RefusesAt old.parts batch new.parts) _

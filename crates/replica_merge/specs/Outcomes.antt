@@ -1,5 +1,5 @@
--- What holds after a call of a replica: what users ask of it, in the words of what is known and of worlds. It follows of what the call
--- tells (Results), by the laws `delivered_batch`, `joined_replicas` and `merged_replicas`. All of this is our own.
+-- What holds after a call of a replica: what users ask of it, in the words of what is known and of worlds. It follows from what the call
+-- promises (Results), by the laws `delivered_batch`, `joined_replicas` and `merged_replicas`. All of this is our own.
 use Rattle.std.specs.Prelude.{◌≡◌, ◌≢◌, ℕ, Bool, false, List, Option, Some, Result, IfOk, IfErr, OnOk, IsTrue}
 use Rattle.grouping_model.specs.Datum.{Row}
 use Rattle.grouping_model.specs.Replies.{reply_of}
@@ -17,8 +17,8 @@ use Rattle.replica_merge.specs.declared.error.MergeError.{MergeError}
 use Rattle.replica_merge.specs.declared.error.MergeError.TheVariants.{Join}
 
 -- a batch was delivered: the reply is that of what was known, and the batch is known from then on. Over an honest disk, a replica that fits
--- a world whose batch this is fits it still. A refused batch is handed back, and nothing changes. Disagreement is told wherever there is
--- one, never of the batch of a world that the replica fits, and nothing else is told of a number that is known already
+-- a world whose batch this is fits it still. A refused batch is handed back, and nothing changes. A disagreement is always reported, and
+-- never for the batch of a world that the replica fits; nothing else is reported for a number that is known already
 pub record AfterDelivery (honest : Bool) (old : Held) (batch : Batch) (new : Held) (result : Result Delivered RefusedBatch) : Type 0 where
   pub held : AreHeldParts new.query new.parts
   pub reply : IfOk result (λ reply. reply ≡ reply_of (told old.parts) (batch.origin, batch.number))
@@ -33,7 +33,7 @@ pub record AfterDelivery (honest : Bool) (old : Held) (batch : Batch) (new : Hel
   pub agrees : IfErr result (λ e. (number : Option ℕ) → e.why ≡ OriginDisagrees number → (world : World) (rows : List Row)
       → Fits world old → world batch.origin batch.number ≡ Some rows → batch.rows ≢ packings rows)
 
--- disagreement is told of two replicas only where no world fits both
+-- a disagreement of two replicas is reported only where no world fits both
 abbrev pub TellsApart : {T : Type 0} → Held → Held → Result T MergeError → Type 0
 TellsApart own theirs result = IfErr result (λ e. (origin : ℕ) (number : Option ℕ) → e ≡ Join origin (OriginDisagrees number)
     → (world : World) → Fits world own → ¬ (Fits world theirs))

@@ -1,4 +1,4 @@
--- What a replica holds and tells, and when it fits a world. All of this is our own.
+-- What a replica holds and knows, and when it fits a world. All of this is our own.
 use Rattle.std.specs.Prelude.{◌≡◌, ◌≢◌, ℕ, ◌*◌, ◌<◌, ◌⊎◌, List, ◌++◌, map, flat_map, Option, Some, None, option_map, unwrap_or, Bool}
 use Rattle.std.specs.Prelude.{if◌then◌else◌, true, false, IsSome}
 use Rattle.std.specs.BTreeMap.{insert_entry, is_at}
@@ -34,12 +34,12 @@ part_at parts origin = lookup (eq_by_cmp nat_cmp origin) parts
 abbrev pub part_of : Parts → ℕ → Part
 part_of parts origin = unwrap_or (part_at parts origin) empty
 
--- the batches that a part of an origin tells: 1 to its prefix, and the early ones
+-- the batches that a part of an origin knows: 1 to its prefix, and the early ones
 abbrev pub batches_of : ℕ × Part → List Batch
 batches_of held = map (λ (number : ℕ). (held.0, number)) (count_up 1 held.1.prefix
     ++ map (λ (batch : ℕ × List (List ℕ)). batch.0) held.1.early)
 
--- what is told
+-- what the parts know, as a set of batches
 abbrev pub told : Parts → Knowledge
 told parts = knowing (flat_map batches_of parts)
 
@@ -76,7 +76,7 @@ pub record MergesIn (world : World) (query : Checked) (own theirs new : Parts) :
   pub their_fits : Fits world (record { query = query; parts = theirs })
   pub merges : MergesParts true query own theirs new
 
--- a part stands aside of an origin: itself, or, where it is the own one, a place for that
+-- what stands aside of an origin is this part, or, where the part is the own one, a place for it
 abbrev pub StandsAside : (old new : Option Part) → Part → Type 0
 StandsAside old new part = (new ≡ Some part) ⊎ ((old ≡ Some part) × (new ≡ Some empty))
 

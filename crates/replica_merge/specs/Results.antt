@@ -1,4 +1,5 @@
--- What the calls of a replica tell, each by its result. What follows of it are laws (DeliveryLaws, MergeLaws). All of this is our own.
+-- What the calls of a replica promise, each by its result. What follows from that are laws (DeliveryLaws, MergeLaws). All of this is our
+-- own.
 use Rattle.std.specs.Prelude.{◌≡◌, ◌≢◌, ℕ, Bool, List, Result, IfOk, IfErr, OnOk}
 use Rattle.grouping_model.specs.Replies.{InLimits}
 use Rattle.grouping_model.specs.declared.delivered.Delivered.{Delivered}
@@ -11,8 +12,8 @@ use Rattle.replica_merge.specs.Replicas.{Parts, Held, AreHeldParts, DeliversAt, 
 use Rattle.replica_merge.specs.Replicas.{MergeTells}
 use Rattle.replica_merge.specs.declared.error.MergeError.{MergeError}
 
--- a batch within the limits is delivered to a replica, over a disk of tapes that may be honest: the part of its origin takes it and the
--- others stay, or it is refused and handed back, and nothing changes
+-- a batch within the limits is delivered to a replica, over a disk of tapes that may be honest. The part of its origin takes it and the
+-- others stay; or it is refused and handed back, and nothing changes
 pub record DeliversBatch (honest : Bool) (old : Held) (batch : Batch) (new : Held) (result : Result Delivered RefusedBatch) : Type 0 where
   pub held : AreHeldParts old.query old.parts
   pub limits : InLimits (batch.origin, batch.number)

@@ -19,26 +19,26 @@ ghost use Rattle.replica_merge.specs.Results.{DeliversBatch, JoinsReplicas, Merg
 ghost use Rattle.replica_merge.specs.declared.error.MergeError.{MergeError};
 ghost use Rattle.replica_merge.specs.Replicas.{Parts, Held, told, Fits, AreHeldParts, MergesParts, MergesIn, counted_part};
 
-/// What holds after a delivery, by what `deliver` tells.
+/// What holds after a delivery, as follows from what `deliver` promises.
 pub fn delivered_batch()
     ensures { (honest : Bool) (old new : Held) (batch : Batch) (result : Result Delivered RefusedBatch) →
         DeliversBatch honest old batch new result → AfterDelivery honest old batch new result }
 {}
 
-/// What holds after a join, by what `join` tells.
+/// What holds after a join, as follows from what `join` promises.
 pub fn joined_replicas()
     ensures { (honest : Bool) (own theirs : Held) (result : Result Parts MergeError) →
         JoinsReplicas honest own theirs result → AfterJoin own theirs result }
 {}
 
-/// What holds after a merge, by what `merge` tells.
+/// What holds after a merge, as follows from what `merge` promises.
 pub fn merged_replicas()
     ensures { (honest : Bool) (old other new : Held) (result : Result (Unit {0}) MergeError) →
         MergesReplicas honest old other new result → AfterMerge honest old other new result }
 {}
 
-/// In what is told, merging depends neither on which replica takes the other, nor on how several are grouped, and once more
-/// gives nothing new.
+/// What is known after merging depends neither on which replica takes in the other, nor on how several are grouped, and merging again adds
+/// nothing.
 pub fn merged_knowledge()
     ensures commutative { (h i : Bool) (query : Checked) (a b ab ba : Parts) → AreHeldParts query a →
         AreHeldParts query b → AreHeldParts query ab → AreHeldParts query ba →
@@ -52,8 +52,8 @@ pub fn merged_knowledge()
         AreHeldParts query aa → MergesParts honest query a a aa → told aa ≡ told a }
 {}
 
-/// Replicas that fit one world and tell the same batches save the same bytes. So in saved bytes, too, merging depends neither on which
-/// replica takes the other, nor on how several are grouped, and once more gives nothing new.
+/// Replicas that fit one world and know the same batches save the same bytes. So the saved bytes, too, depend neither on which replica
+/// takes in the other, nor on how several are grouped, and merging again changes nothing.
 pub fn merged_files()
     ensures same { (world : World) (query : Checked) (a b : Parts) (bytes those : List ℕ) →
         AreHeldParts query a → AreHeldParts query b →
@@ -70,15 +70,15 @@ pub fn merged_files()
         MergesIn world query a a aa → IsSaved bytes query aa → IsSaved those query a → bytes ≡ those }
 {}
 
-/// The rows that a replica may have of all origins, as many as its prefixes allow, are fewer than 2^62, so that a state may count them.
+/// The rows that a replica's prefixes may have, of all origins together, are fewer than 2^62, so a state may count them.
 pub fn countable_rows()
     ensures { (query : Checked) (parts : Parts) → AreHeldParts query parts →
         all_rows (map counted_part parts) ≤ most_rows }
 {}
 
-/// The file of a query, a world and what is known of this world, where it is read, is read in either version as a replica of the query that
-/// fits the world and tells what is known, and as no other. A query's text is UTF-8. A file that is read as a replica is the file, in its
-/// version, of the query, a world and what the replica tells, exactly where the replica fits this world.
+/// The file of a query, a world and what is known of this world, if it is read, is read in either version as a replica of the query that
+/// fits the world and knows just that, and as no other. A query's text is UTF-8. A file that is read as a replica is the file, in its
+/// version, of the query, a world and what the replica knows, exactly if the replica fits this world.
 pub fn files_that_fit()
     ensures loaded { (version : Version) (query : Checked) (world : World) (known : Knowledge) (bytes : List ℕ) (held : Held) →
         IsCheckedQuery query → IsUtf8 (spelling (by_names query)) → IsWorld (kinds query.columns) world →

@@ -19,8 +19,8 @@ use std::collections::BTreeMap;
 use std::marker::Model;
 use std::mem::replace;
 
-/// What two replicas hold together, aside from both: the parts of an origin that the other one has, joined, and a place for each
-/// other part, and for each that stays since it includes the other's.
+/// What two replicas hold together, built aside from both: for each origin that the other one has, the joined part; and an empty place for
+/// each part that stays, since the other has none or it includes the other's.
 #[derive(Drop)]
 pub struct Joined {
     parts: BTreeMap<u16, OriginPart>,
@@ -151,14 +151,14 @@ fn fill(parts: &mut BTreeMap<u16, OriginPart>, old: BTreeMap<u16, OriginPart>)
 }
 
 impl Replica {
-    /// What this replica and another hold together, aside from both: `commit` moves it in. What the aggregations of early batches that
-    /// follow now took is added to `work`, and nothing at an error.
+    /// What this replica and another hold together, built aside from both: `commit` moves it in. What it took to fold early batches whose
+    /// gap is closed is added to `work`; an error adds nothing.
     ///
     /// # Errors
     ///
-    /// `DifferentQuery`, and then by rising origin `OriginDisagrees` where its parts disagree, with the first number where they do, and
-    /// want of memory or the error of the disk of tapes over which its batches are aggregated. The parts of all lower origins were joined
-    /// before, by construction; `order` of `MergeRan` has what a clause can say of it.
+    /// First `DifferentQuery`. Then, by rising origin: `OriginDisagrees` with the first number at which its parts disagree, a failed
+    /// allocation, or an error of the disk of tapes. The parts of all lower origins were joined before, by construction; `order` of
+    /// `MergeRan` has what a clause can say of it.
     pub fn join<H: KeyHash + Copy, D: TapeDisk>(
         &self,
         other: &Replica,
@@ -195,9 +195,9 @@ impl Replica {
         fill(&mut self.parts, old);
     }
 
-    /// Takes what another replica holds beside what this one does: afterwards it knows what either knew. The other must answer the same
-    /// query over the same schema, and hold no other batch of a number, as far as that can still be seen. What the aggregations of early
-    /// batches that follow now took is added to `work`.
+    /// Takes in what another replica holds: afterwards this one knows what either knew. The other must answer the same query over the same
+    /// schema, and hold no other batch of a number, as far as that can still be seen. What it took to fold early batches whose gap is
+    /// closed is added to `work`.
     ///
     /// # Errors
     ///

@@ -1,4 +1,4 @@
-//! What a replica holds, and what it tells of it.
+//! What a replica holds, and what it knows and answers.
 
 ghost use Rattle.std.specs.Prelude.{◌≡◌, ℕ, List, None, All, [], map, length, IfOk, OnErr};
 ghost use Rattle.grouping_model.specs.Answer.{answer};
@@ -118,24 +118,24 @@ impl Replica {
         }
     }
 
-    /// The query that is answered.
+    /// The query that the replica answers.
     pub fn query(&self) -> &Query
         ensures { result.now ≡ self.now.query }
     {
         &self.query
     }
 
-    /// What is known, by rising origin.
+    /// What is known, by rising origin. The only error is a failed allocation.
     pub fn known(&self) -> Result<Vec<KnownOrigin>, AllocError>
         ensures { IfOk result (λ list. map known_of list.items ≡ known_list (told self.now.parts)) }
     {
         known_parts(self.alloc, &self.parts)
     }
 
-    /// Takes a batch of the query's table, with an origin and a number within the limits. A number that is known already changes nothing;
-    /// one next to its origin's unbroken prefix is folded with the early ones that follow without a gap, by `means` and over a disk; any
-    /// other is kept until then. A refused batch is handed back and changes nothing: for want of memory, since its number is kept early
-    /// with other rows, or by the disk. What the aggregation of the batches that are folded took is added to `work`.
+    /// Takes a batch of the query's table, with an origin and a number within the limits. A batch whose number is known already changes
+    /// nothing. One next to its origin's unbroken prefix is folded, with the early ones that follow without a gap, by `means` and over a
+    /// disk. Any other is kept until its gap is closed. A refused batch is handed back and changes nothing: memory ran out, its number is
+    /// kept early with other rows, or the disk failed. What the folding took is added to `work`.
     pub fn deliver<H: KeyHash + Copy, D: TapeDisk>(
         &mut self,
         batch: Batch,
@@ -168,10 +168,10 @@ impl Replica {
         }
     }
 
-    /// The answer of the query over the rows of the unbroken prefixes, by the terms of ORDER BY in their order, and else in the order of
-    /// its keys: a row of the query's items for each group of which HAVING is true. Without GROUP BY there is one group, over no rows
-    /// too. The groups of several origins stand in the order of their keys already and are merged; those of one are shown as they
-    /// stand. So it takes memory alone, and neither a limit nor a disk.
+    /// The answer of the query over the rows of the unbroken prefixes: a row of the query's items for each group for which HAVING is true,
+    /// in the order of ORDER BY, and else in the order of the keys. Without GROUP BY there is one group, even over no rows. The groups of
+    /// several origins stand in the order of their keys already and are merged; those of one are shown as they stand. So it takes only
+    /// memory, and neither a limit nor a disk.
     ///
     /// # Errors
     ///

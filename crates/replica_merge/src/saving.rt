@@ -17,7 +17,7 @@ impl Replica {
     /// allocation.
     pub fn save(&self) -> Result<Vec<u8>, AllocError>
         ensures summary { IfOk result (λ bytes. IsSaved bytes.items self.now.query self.now.parts) }
-        // So replicas that tell the same batches of a world save equal bytes.
+        // So replicas that know the same batches of a world save equal bytes.
         ensures world { IfOk result (λ bytes. (world : World) → Fits world self.now →
             bytes.items ≡ world_file self.now.query world (told self.now.parts)) }
     {
@@ -32,8 +32,8 @@ impl Replica {
         Replica::load_sharing(alloc, None, bytes)
     }
 
-    /// What [`Replica::load`] gives, and by the same errors. Where a query is told that the file is of, the replica shares that: it is not
-    /// held once more, and its texts are compared in place of being parsed.
+    /// What [`Replica::load`] gives, with the same errors. If a query is given and the file has the same one, the replica shares it: it is
+    /// not held a second time, and its texts are compared instead of parsed.
     pub fn load_sharing(
         alloc: Global,
         known: Option<&Query>,

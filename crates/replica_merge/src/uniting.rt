@@ -54,9 +54,8 @@ fn copied(alloc: Global, parts: &[&OriginPart]) -> Result<Run, AllocError>
 
 /// The groups of all parts in one run, each once, with the states of all that have it.
 ///
-/// The runs of the parts are in the order of their keys already, so this is a merge sort: the parts of the first half are united, and
-/// those of the second, and the second run is added to the first. So a group is copied once a halving, and not once a part. The
-/// only error is a failed allocation.
+/// The runs of the parts are in key order already, so this is a merge sort: each half of the parts is united, and the second run is added
+/// to the first. So a group is copied once for each halving, and not once for each part. The only error is a failed allocation.
 pub(crate) fn united(alloc: Global, query: &Query, parts: &[&OriginPart]) -> Result<Run, AllocError>
     requires inputs { AllByRecursion (IsInput (meaning query.now)) (brought_by parts.now) }
     requires few { all_rows (brought_by parts.now) ≤ most_counted }

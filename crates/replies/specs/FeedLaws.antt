@@ -31,18 +31,18 @@ taken_read honest old batch new delivered d = λ origin number told_rows owned r
 
 module _ (honest : Bool) (old : Held) (batch : Batch) (new : Held) (refused : RefusedBatch)
     (d : DeliversBatch honest old batch new (Err refused)) where
-  -- it is never refused for what it says, but for what the replica holds, or for want of memory or by the disk
+  -- it is never refused for what it says, only for what the replica holds, for want of memory, or by the disk
   pub refused_not_of_batch : ¬ (IsOfBatch (refused_batch refused))
   refused_not_of_batch = not_of_batch refused.batch.origin refused.why
 
-  -- nothing but disagreement is told of a number that is known already
+  -- nothing but a disagreement is reported for a number that is known already
   pub refused_unknown : ((of : ℕ) (at : Option ℕ) → refused_batch refused ≢ OriginDisagrees of at)
       → knows (told old.parts) (batch.origin, batch.number) ≡ false
   refused_unknown other =
       let spill = by_spill refused.batch.origin refused.why other in
       delivery_unknown honest old new batch (Err refused) d spill.0 spill.1
 
-  -- disagreement is told of the batch's origin and number, where the replica holds this with other rows
+  -- a disagreement names the batch's origin and number, which the replica holds with other rows
   pub refused_disagrees : (of : ℕ) (at : Option ℕ) → refused_batch refused ≡ OriginDisagrees of at
       → (of ≡ batch.origin) × (at ≡ Some batch.number) × Disagrees (part_of old.parts batch.origin) batch.number batch.rows
   refused_disagrees of at is =

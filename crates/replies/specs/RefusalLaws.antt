@@ -39,7 +39,7 @@ merge_reasons merge.DifferentQuery = refl
 merge_reasons merge.NoMemory = refl
 merge_reasons (merge.Join origin why) = join_reasons origin why
 
--- it tells a failure of the disk where that error does, and damage where that is damage
+-- it reports a failure of the disk where that error does, and damage where that does
 pub reason_faults : (why : Refusal) → faults_of (Refused (refusal_reason why)) ≡ refusal_faults why
 reason_faults refuse.NoMemory = refl
 reason_faults refuse.TapeFault = refl
@@ -49,7 +49,7 @@ reason_faults why = refl
 pub reason_damage : (why : Refusal) → why ≡ refuse.TapeDamaged → refusal_reason why ≡ Some spill.TapeDamaged
 reason_damage why same = ap refusal_reason same
 
--- the fault of a batch tells none, nor do columns that are refused
+-- the fault of a batch reports none, nor do columns that are refused
 pub batch_tells : (error : BatchError) → refusal_faults (batch_refusal error) ≡ 0
 batch_tells batch.NoMemory = refl
 batch_tells batch.BadBatchHead = refl
@@ -90,6 +90,6 @@ row_tells (row.BadField column) = refl
 row_tells row.WrongWidth = refl
 row_tells row.BadPacked = refl
 
--- a reply that tells none
+-- a reply that reports none
 pub no_fault_in : (reply : Reply) → is_tape_fault reply ≡ false → faults_in reply ≡ 0
 no_fault_in reply none = ap (λ b. if b then 1 else 0) none

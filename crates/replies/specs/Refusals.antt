@@ -30,7 +30,7 @@ use Rattle.replies.specs.declared.refusal.Refusal.TheVariants.{OriginDisagrees, 
 abbrev pub limit_out_of_range : Refusal
 limit_out_of_range = Limit (record {})
 
--- whether a refusal tells that the disk of tapes failed
+-- whether a refusal says that the disk of tapes failed
 abbrev pub tells_fault : Refusal → Bool
 tells_fault TapeFault = true
 tells_fault refusal = false

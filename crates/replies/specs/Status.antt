@@ -1,4 +1,4 @@
--- The status that tells how a command ended. All of this is our own.
+-- The exit status that says how a command ended. All of this is our own.
 use Rattle.std.specs.Prelude.{ℕ, ◌==◌, Result, Ok, Err, if◌then◌else◌}
 use Rattle.replies.specs.declared.ending.Outcome.{Outcome}
 use Rattle.replies.specs.declared.error.RunError.{RunError}

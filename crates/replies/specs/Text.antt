@@ -1,4 +1,4 @@
--- The text of refusals and replies: a refusal's name, and a reply's line, of an answer and of what is known the lines behind it too. All
+-- The text of refusals and replies: a refusal's name, and a reply's line, of an answer and of what is known the lines after it too. All
 -- of this is our own.
 use Rattle.std.specs.Prelude.{ℕ, Bool, true, false, List, [], ◌∷◌, ◌++◌, flat_map, length, codes, decimal, string_bytes, if◌then◌else◌}
 use Rattle.grouping_model.specs.Aggregates.{Outcome}
@@ -57,7 +57,7 @@ delivered_text (Folded upto) = line (codes "folded upto ") (decimal upto)
 delivered_text Early = line (codes "early") []
 delivered_text Known = line (codes "known") []
 
--- a number behind a space
+-- a number after a space
 abbrev pub number_text : ℕ → List ℕ
 number_text n = codes " " ++ decimal n
 
@@ -104,7 +104,7 @@ abbrev pub is_refusal : Reply → Bool
 is_refusal (says.Refused why) = true
 is_refusal reply = false
 
--- whether a reply tells that the disk of tapes failed, and how often it does
+-- whether a reply says that the disk of tapes failed, and how often it does
 abbrev pub is_tape_fault : Reply → Bool
 is_tape_fault (says.Refused why) = tells_fault why
 is_tape_fault reply = false

@@ -1,4 +1,4 @@
-//! How a command of the program ends, and the status of the process that tells it.
+//! How a command of the program ends, and the exit status of the process.
 
 ghost use Rattle.std.specs.Prelude.{◌≡◌};
 ghost use Rattle.replies.specs.Status.{status_of, run_ending, refusal_ending};
@@ -6,7 +6,7 @@ ghost use Rattle.replies.specs.Status.{status_of, run_ending, refusal_ending};
 use crate::error::RunError;
 use crate::refusal::Refusal;
 
-/// How a run ended that answered each command of its script.
+/// How a run ended that replied to each command of its script.
 #[derive(Clone, Copy, Debug, PartialEq, Eq)]
 pub struct Outcome {
     /// How many commands were refused.

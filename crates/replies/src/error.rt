@@ -10,7 +10,7 @@ use script_io::{InputError, WriteFault};
 use std::alloc::AllocError;
 use thiserror::Error;
 
-/// Why a run stopped before the end of its script; of a file that is read or written whole, why it was not.
+/// Why a run stopped before the end of its script, or why a whole file was not read or not written.
 #[derive(Clone, Copy, Debug, PartialEq, Eq, Error)]
 pub enum RunError {
     /// Memory ran out for the script or for its next command. The commands before were answered.

@@ -1,5 +1,5 @@
-//! What commands say, in a script and on files: replies, refusals and their names, the texts of both, how a command ends and the
-//! status that tells it.
+//! What commands say, in a script and on files: replies, refusals and their names, the texts of both, how a command ends, and its exit
+//! status.
 #![tactic(auto)]
 
 mod ending;

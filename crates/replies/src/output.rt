@@ -52,7 +52,8 @@ fn put_answer<W: Write>(writer: &mut Fused<W>, rows: usize, table: &[u8]) -> Res
     put_all(writer, table)
 }
 
-/// Writes the text of a reply. It takes no memory.
+/// Writes the text of a reply. It takes no memory. `WriteFault` says that the writer failed: it has a front of the
+/// text.
 pub fn put_reply<W: Write>(writer: &mut Fused<W>, reply: &Reply<'_>) -> Result<(), WriteFault>
     ensures { IsPut W.contents writer.old writer.new result (said_text reply.now) }
 {

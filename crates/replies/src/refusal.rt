@@ -16,8 +16,8 @@ use replica_merge::{JoinError, MergeError, RefusedBatch, SummaryError};
 use std::alloc::AllocError;
 use thiserror::Error;
 
-/// Why a command or a script is refused. Each refusal stands once: what a lower crate refuses is its own error, but for want of
-/// memory, which is `NoMemory` wherever it was met.
+/// Why a command or a script is refused. Each refusal stands once: what a lower crate refuses is its own error, except that a failed
+/// allocation is `NoMemory` wherever it was met.
 #[derive(Clone, Copy, Debug, PartialEq, Eq, Error)]
 pub enum Refusal {
     /// An allocation failed.
@@ -41,13 +41,13 @@ pub enum Refusal {
     /// A replica does not take in another one, which answers another query.
     #[error("the replicas answer different queries")]
     DifferentQuery,
-    /// A number of an origin has two different batches: this one, which is early, or where none is told, one within equal prefixes,
-    /// which have different groups.
+    /// An origin gave one number to two different batches. The number is given if its batch is early. Else it lies within equal prefixes
+    /// that have different groups.
     #[error("one number of an origin has two different batches")]
     OriginDisagrees {
         /// The origin.
         origin: u16,
-        /// The number, if it is early.
+        /// The number, if its batch is early.
         number: Option<u32>,
     },
     /// The disk of tapes failed.

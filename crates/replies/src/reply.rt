@@ -9,21 +9,21 @@ use replica_merge::Delivered;
 /// The reply to a command.
 #[derive(Drop)]
 pub enum Reply<'c> {
-    /// There are so many columns.
+    /// How many columns there are.
     Columns(usize),
     /// The query, in its canonical text.
     Query(String),
-    /// The limit is so many bytes.
+    /// The limit, in bytes.
     Limit(u64),
-    /// There is a replica of this name now.
+    /// A replica of this name was made.
     Created(&'c [u8]),
     /// What became of a batch.
     Delivered(Delivered),
-    /// A replica knows what another knew, too.
+    /// A replica now knows what another knew, too.
     Merged,
-    /// What a replica knows was saved as a file of so many bytes.
+    /// What a replica knows was saved as a file of this many bytes.
     Saved(usize),
-    /// A replica knows what was saved.
+    /// A replica now knows what was saved.
     Loaded,
     /// What a replica knows, in its lines.
     Listed(Vec<u8>),

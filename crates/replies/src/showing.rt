@@ -26,7 +26,7 @@ pub enum Format {
 }
 
 /// What a replica knows: a line `origin O upto P` for each origin of which it knows a batch, by rising origin, and the numbers
-/// that came early behind it. The only error is a failed allocation.
+/// that came early after it. The only error is a failed allocation.
 pub fn origin_lines(alloc: Global, replica: &Replica) -> Result<Vec<u8>, AllocError>
     ensures { IfOk result (λ lines. lines.items ≡ origins_text (known_list (told replica.now.parts))) }
 {
@@ -34,7 +34,7 @@ pub fn origin_lines(alloc: Global, replica: &Replica) -> Result<Vec<u8>, AllocEr
     list_origins(alloc, &list)
 }
 
-/// What a replica knows, in the same lines behind a line `known COUNT`, which counts them. The only error is a failed allocation.
+/// What a replica knows, in the same lines after a line `known COUNT`, which counts them. The only error is a failed allocation.
 pub fn known_lines(alloc: Global, replica: &Replica) -> Result<Vec<u8>, AllocError>
     ensures { IfOk result (λ lines. lines.items ≡ known_text (known_list (told replica.now.parts))) }
 {

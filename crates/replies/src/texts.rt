@@ -15,7 +15,7 @@ fn push_number(text: &mut Vec<u8>, number: usize) -> Result<(), AllocError>
     text.extend_from_slice(Buffer::new().format(number).as_bytes())
 }
 
-/// Appends numbers, each behind a space.
+/// Appends numbers, each after a space.
 fn push_numbers(text: &mut Vec<u8>, numbers: &[u32]) -> Result<(), AllocError>
     ensures { OnOk result (text.new.items ≡ text.old.items ++ flat_map number_text numbers.now) }
 {
@@ -61,7 +61,7 @@ fn push_origins(text: &mut Vec<u8>, list: &[KnownOrigin]) -> Result<(), AllocErr
     Ok(())
 }
 
-/// A line for each origin: `origin O upto P`, and the numbers that came early behind it.
+/// A line for each origin: `origin O upto P`, and the numbers that came early after it.
 pub(crate) fn list_origins(alloc: Global, list: &[KnownOrigin]) -> Result<Vec<u8>, AllocError>
     ensures { IfOk result (λ text. text.items ≡ origins_text (map known_of list.now)) }
 {
@@ -70,7 +70,7 @@ pub(crate) fn list_origins(alloc: Global, list: &[KnownOrigin]) -> Result<Vec<u8
     Ok(text)
 }
 
-/// The same lines, behind one that counts the origins.
+/// The same lines, after one that counts the origins.
 pub(crate) fn list_known(alloc: Global, list: &[KnownOrigin]) -> Result<Vec<u8>, AllocError>
     ensures { IfOk result (λ text. text.items ≡ known_text (map known_of list.now)) }
 {

@@ -25,7 +25,7 @@ impl Command {
         ask(&self.head)
     }
 
-    /// How many of the records after it belong to the command: the rows of a `feed`, as many as it tells, and none of
+    /// How many of the records after it belong to the command: the rows of a `feed`, as many as it states, and none of
     /// any other command.
     pub fn owned(&self) -> usize
         ensures { result ≡ owned_by (fields_of self.now.head) }

@@ -24,7 +24,8 @@ pub enum Request<'c> {
     Limit(u64),
     /// `replica,NAME`: a new replica of this name.
     Replica(&'c [u8]),
-    /// `feed,NAME,ORIGIN,NUMBER,ROWS`: a batch for a replica. How many rows it tells is 1 to 9 digits.
+    /// `feed,NAME,ORIGIN,NUMBER,ROWS`: a batch for a replica. ROWS, the number of rows that it states, is 1 to 9
+    /// digits.
     Feed {
         name: &'c [u8],
         origin: &'c [u8],
@@ -35,7 +36,7 @@ pub enum Request<'c> {
     Known(&'c [u8]),
     /// `answer,NAME`: a replica's answer.
     Answer(&'c [u8]),
-    /// `merge,INTO,FROM`: one replica is to know what another knows too. They may be the same.
+    /// `merge,INTO,FROM`: INTO is to know what FROM knows, too. They may be the same.
     Merge {
         into: &'c [u8],
         from: &'c [u8],
@@ -96,7 +97,7 @@ fn as_text(field: &[u8]) -> Option<&str>
     }
 }
 
-/// What a word and one field behind it ask.
+/// What a word and one field after it ask.
 fn ask_of_one<'c>(word: &[u8], field: &'c [u8]) -> Request<'c>
     ensures { request_view result ≡ one_field word.now field.now }
 {
@@ -122,7 +123,7 @@ fn ask_of_one<'c>(word: &[u8], field: &'c [u8]) -> Request<'c>
     }
 }
 
-/// What a word and two names behind it ask.
+/// What a word and two names after it ask.
 fn ask_by_names<'c>(word: &[u8], name: &'c [u8], other: &'c [u8]) -> Request<'c>
     ensures { request_view result ≡ names_request word.now name.now other.now }
 {
@@ -140,7 +141,7 @@ fn ask_by_names<'c>(word: &[u8], name: &'c [u8], other: &'c [u8]) -> Request<'c>
     }
 }
 
-/// What a word and two fields behind it ask.
+/// What a word and two fields after it ask.
 fn ask_of_two<'c>(word: &[u8], name: &'c [u8], other: &'c [u8]) -> Request<'c>
     ensures { request_view result ≡ two_fields word.now name.now other.now }
 {
@@ -151,7 +152,7 @@ fn ask_of_two<'c>(word: &[u8], name: &'c [u8], other: &'c [u8]) -> Request<'c>
     }
 }
 
-/// What a word and four fields behind it ask.
+/// What a word and four fields after it ask.
 fn ask_to_feed<'c>(
     word: &[u8],
     name: &'c [u8],
@@ -194,7 +195,7 @@ pub(crate) fn ask(head: &ByteRecord) -> Request<'_>
     }
 }
 
-/// How many of the records after it belong to a record of this word that tells this number of rows.
+/// How many of the records after it belong to a record of this word that states this number of rows.
 fn owned_rows(word: &[u8], rows: &[u8]) -> usize
     ensures { result ≡ owned_rows word.now rows.now }
 {

@@ -7,7 +7,7 @@ use Rattle.script_io.specs.declared.fused.Fused.{Fused}
 abbrev pub fault_of : {S : Type 0} → Fused S → Option Error
 fault_of fused = fused.fault
 
--- own: the stream that it asks, where none has failed
+-- own: the stream that it calls, where no call has failed
 abbrev pub behind : {S : Type 0} → Fused S → S
 behind fused = fused.stream
 
@@ -23,6 +23,6 @@ unread remaining fused = remaining (behind fused)
 abbrev pub written : {W : Type 0} → (W → Option (List ℕ)) → Fused W → Option (List ℕ)
 written contents fused = contents (behind fused)
 
--- own: a stream that had not failed has failed now exactly where that is told
+-- own: a stream that had not failed has failed now exactly where the last argument says so
 abbrev pub FailsAsTold : {S : Type 0} → Fused S → Fused S → Bool → Type 0
 FailsAsTold old new told = has_failed old ≡ false → told ≡ has_failed new

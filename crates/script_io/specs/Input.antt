@@ -16,12 +16,12 @@ StopsReading old new most NoMemory = (bytes : List ℕ) × Consumes old new byte
     × (length bytes ≤ most)
 StopsReading old new most ReadFault = ConsumesAtMost old new most
 
--- own: whether an error tells that a read failed
+-- own: whether an error says that a read failed
 abbrev pub is_read_fault : InputError → Bool
 is_read_fault ReadFault = true
 is_read_fault error = false
 
--- own: whether an outcome of reading does
+-- own: whether an outcome of reading is such an error
 abbrev pub fails_to_read : {A : Type 0} → Result A InputError → Bool
 fails_to_read (Err error) = is_read_fault error
 fails_to_read (Ok read) = false

@@ -53,7 +53,7 @@ pub fn read_digits(field: &[u8], most: usize) -> Option<u64>
     }
 }
 
-/// The number of rows that a field tells, if it is one: 1 to 9 digits, leading zeros included.
+/// The number of rows that a field states, if it is one: 1 to 9 digits, leading zeros included.
 pub fn read_row_count(field: &[u8]) -> Option<u32>
     ensures { result ≡ row_count field.now }
 {
@@ -63,7 +63,7 @@ pub fn read_row_count(field: &[u8]) -> Option<u32>
     }
 }
 
-/// The number of bytes that a field tells as a limit, if it is one: 1 to 19 digits, leading zeros included.
+/// The number of bytes that a field states as a limit, if it is one: 1 to 19 digits, leading zeros included.
 pub fn read_limit(field: &[u8]) -> Option<u64>
     ensures { result ≡ limit_told field.now }
 {

@@ -8,8 +8,8 @@ ghost use Rattle.std.specs.Result.{result_err};
 use std::io;
 use std::io::{Error, ErrorKind, Read, Write};
 
-/// A reader or a writer that stays failed: once a call of it failed, or was interrupted, or took none of some bytes, every later call
-/// answers the same error, and asks the stream behind no more. So it is known afterwards whether a call failed, and why.
+/// A reader or a writer that stays failed. Once a call failed, was interrupted, or took none of the bytes offered, every later call returns
+/// the same error, and no longer calls the stream behind. So a caller can ask afterwards whether a call failed, and why.
 #[derive(Drop)]
 pub struct Fused<S> {
     stream: S,

@@ -29,10 +29,9 @@ pub enum InputError {
 
 /// All the bytes that a reader has left, where they are `most` bytes or fewer.
 ///
-/// It reads on until `read` answers 0 bytes, and never takes more than `most` + 1 bytes, so a reader
-/// without an end is refused too. A failed read ends it and is not tried again, also where the read
-/// was interrupted: `ReadFault` is answered then, and then alone. After an error the bytes that were
-/// taken are lost.
+/// It reads on until `read` returns 0 bytes, and never takes more than `most` + 1 bytes, so a reader without an end is
+/// refused too. A failed read ends it and is not tried again, also where the read was interrupted: the result is
+/// `ReadFault` then, and then alone. After an error the bytes that were taken are lost.
 pub fn read_input<R: Read>(
     alloc: Global,
     reader: &mut Fused<R>,

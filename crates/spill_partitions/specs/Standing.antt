@@ -96,8 +96,8 @@ pub record EndsPass {D : Type 0} (g : Ghosts D) (old : PartitionsState) (before 
       → g.writes after + written_pages old ≡ g.writes before + pages_of (partitions_of old.level spilled)
   pub alive : new.tapes.is_dead ≡ false
 
--- what a call gives that reads the next record of the partition that the pass reads: over an honest disk the first that is left, and never
--- damage; over any disk one less is left then, or none where none is left; and no bytes without a record
+-- what reading the next record of the pass's partition gives. Over an honest disk it is the first that is left, and never damage. Over any
+-- disk one less is left then; or there is no record and no bytes, where none is left
 pub record ReadsRecord {D : Type 0} (g : Ghosts D) (old : PartitionsState) (before : D) (result : Result (Option (ℕ × ℕ)) SpillError)
     (new : PartitionsState) (after : D) (bytes : List ℕ) : Type 0 where
   pub gives : IfOk result (λ found. IsTrue (g.honest before) → (spilled ahead : List Record) (pending : List PendingPartition)

@@ -143,7 +143,8 @@ impl SpillPartitions {
         number
     }
 
-    /// Adds a record to those that the pass spills: a hash, a tag, which is 0 or 1, and up to 65,535 bytes.
+    /// Adds a record to those that the pass spills: a hash, a tag, which is 0 or 1, and up to 65,535 bytes. The errors
+    /// are `NoMemory` and `TapeFault`.
     pub fn spill<D: TapeDisk>(
         &mut self,
         disk: &mut D,
@@ -224,7 +225,8 @@ impl SpillPartitions {
         }
     }
 
-    /// Ends the pass: later passes are to read what it spilled, partition by partition.
+    /// Ends the pass: later passes are to read what it spilled, partition by partition. The errors are `NoMemory` and
+    /// `TapeFault`.
     pub fn end_pass<D: TapeDisk>(&mut self, disk: &mut D) -> Result<(), SpillError>
         requires alive { self.old.tapes.is_dead ≡ false }
         ensures ended { OnOk result (EndsPass D.TapeDisk self.old disk.old self.new disk.new) }
@@ -299,8 +301,9 @@ impl SpillPartitions {
         }
     }
 
-    /// Reads the next record of the partition that the pass reads, if there is one: its hash and its tag are answered, and its
-    /// bytes are put in the place of those in `bytes`. Without a record, or where it fails, there are none.
+    /// Reads the next record of the partition that the pass reads, if there is one. It returns the record's hash and tag, and puts its
+    /// bytes in place of those in `bytes`, which is empty without a record or after an error. The errors are `NoMemory`, `TapeFault` and
+    /// `TapeDamaged`.
     pub fn next<D: TapeDisk>(
         &mut self,
         disk: &mut D,

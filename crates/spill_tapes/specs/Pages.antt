@@ -3,7 +3,7 @@ use Rattle.std.specs.Prelude.{◌≡◌, ℕ, ◌+◌, ◌-◌, ◌*◌, ◌/◌
 use Rattle.tape_disks.specs.declared.limits.TheConstants.{PAGE}
 use Rattle.spill_tapes.specs.declared.limits.TheConstants.{MAX_PAGES}
 
--- how many pages so many bytes take
+-- how many pages this many bytes take
 abbrev pub pages_for : ℕ → ℕ
 pages_for n = (n + (PAGE - 1)) / PAGE
 

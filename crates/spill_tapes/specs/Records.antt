@@ -27,7 +27,7 @@ header_of hash tag len = to_be_bytes w32 hash ++ (tag ∷ to_be_bytes w32 len)
 abbrev pub record_bytes : Record → List ℕ
 record_bytes r = header_of r.hash r.tag (length r.bytes) ++ r.bytes
 
--- the bytes of records one behind the other
+-- the bytes of records one after the other
 abbrev pub tape_bytes : List Record → List ℕ
 tape_bytes rs = flat_map record_bytes rs
 

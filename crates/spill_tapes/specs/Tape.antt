@@ -86,8 +86,8 @@ pub record IsGoodWritten (t : TapeState) : Type 0 where
   pub number : t.records ≤ tape_len t
   pub begun : t.records ≡ 0 → tape_len t ≡ 0
 
--- and of one that is being read: it has the page of each byte that is left to be read, and no page more, since one that was read is
--- free; and behind its last record nothing is left
+-- and of one that is being read. It has the pages of the bytes that are left to be read and no other, since a page that was read is free.
+-- After its last record nothing is left
 pub record IsGoodRead (t : TapeState) : Type 0 where
   pub read : t.read ≤ length t.buffer
   pub left : t.left ≤ ahead t
@@ -111,7 +111,7 @@ IsGoodIn Read t = IsGoodRead t
 abbrev pub IsGood : TapeState → Type 0
 IsGood t = IsGoodIn t.phase t
 
--- a tape is a list of records: all that were written, or all that are to be read. What is behind these on its last page
+-- a tape is a list of records: all that were written, or all that are to be read. What is after these on its last page
 -- tells nothing
 pub record AreWritten (last : ℕ → ℕ → Type 0) (t : TapeState) (rs : List Record) : Type 0 where
   pub good : AreRecords rs
@@ -156,7 +156,7 @@ ended_by false t = t
 abbrev pub ended : TapeState → TapeState
 ended t = ended_by (t.records == 0) t
 
--- what is told of the next of these records
+-- what a read returns of the next of these records
 abbrev pub Gives : (List Record → Type 0) → List Record → List ℕ → Option (ℕ × ℕ) → Type 0
 Gives IsRest rs bytes None = (rs ≡ []) × IsRest []
 Gives IsRest rs bytes (Some told) = (rest : List Record) × (rs ≡ record { hash = told.0; tag = told.1; bytes = bytes } ∷ rest) × IsRest rest
@@ -166,7 +166,7 @@ abbrev pub IsCounted : {A : Type 0} → (before after : ℕ) → Option A → Ty
 IsCounted before after None = before ≡ 0
 IsCounted before after (Some found) = before ≡ after + 1
 
--- what the call told that read the next record of a tape: the first of those ahead, if the disk is honest; and over any disk that none is
+-- what reading the next record of a tape returned. If the disk is honest, it is the first of those ahead. Over any disk it is that none is
 -- left, or a tag and bytes that a record can have
 pub record IsGiven (honest : Bool) (last : ℕ → ℕ → Type 0) (before : TapeState) (last' : ℕ → ℕ → Type 0) (after : TapeState)
     (bytes : List ℕ) (found : Option (ℕ × ℕ)) : Type 0 where

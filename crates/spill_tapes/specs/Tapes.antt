@@ -81,7 +81,7 @@ abbrev pub IsReadRefusal : Bool → TapeError → Type 0
 IsReadRefusal dead TapesDead = dead ≡ true
 IsReadRefusal dead _ = dead ≡ false
 
--- how a call ends that reads or writes the disk: dead tapes refuse it, and nothing is changed; and where living ones refuse it, for one of
+-- how a call ends that reads or writes the disk. Dead tapes refuse it, and nothing is changed. Where living tapes refuse it, for one of
 -- these reasons, they are dead from then on
 pub record DiesIfRefused {T D : Type 0} (IsReason : Bool → TapeError → Type 0) (result : Result T TapeError) (old new : TapesState)
     (before after : D) : Type 0 where
@@ -104,7 +104,7 @@ pub record IsOpened (last : ℕ → ℕ → Type 0) (before after : TapesState) 
   pub empty : IsTape last after tape []
   pub others : KeepsOthers last last before after tape
 
--- a record was put behind those of a tape, and the pages that it filled were written
+-- a record was put after those of a tape, and the pages that it filled were written
 pub record Appends {D : Type 0} (g : Ghosts D) (tape : TapeId) (entry : Record) (old : TapesState) (before : D) (new : TapesState)
     (after : D) : Type 0 where
   pub records : (rs : List Record) → IsTape (g.last before) old tape rs → IsTape (g.last after) new tape (rs ++ entry ∷ [])
@@ -127,8 +127,8 @@ pub record FreesPages (before after : TapesState) (tape : TapeId) : Type 0 where
 abbrev pub HasNoPageMore : TapeState → Type 0
 HasNoPageMore t = PAGE * length t.pages < t.left + PAGE
 
--- what a call gives that reads the next record of a tape: over an honest disk the first that is left, and never damage; over any disk a
--- record that a tape can have, of which one less is left then, or none where none is left; and no bytes without a record
+-- what reading the next record of a tape gives. Over an honest disk it is the first that is left, and never damage. Over any disk it is a
+-- record that a tape can have, and one less is left; or no record and no bytes, where none is left
 pub record ReadsNext {D : Type 0} (g : Ghosts D) (tape : TapeId) (old : TapesState) (before : D)
     (result : Result (Option (ℕ × ℕ)) TapeError) (new : TapesState) (after : D) (bytes : List ℕ) : Type 0 where
   pub gives : IfOk result (λ found. IsTrue (g.honest before) → (rs : List Record) → IsTape (g.last before) old tape rs
@@ -141,8 +141,8 @@ pub record ReadsNext {D : Type 0} (g : Ghosts D) (tape : TapeId) (old : TapesSta
   pub nothing : OnErr result (bytes ≡ [])
   pub few : OnOk result (HasNoPageMore (tape_at new tape))
 
--- what is true of all tapes: each page that was given out is free or one tape's, and there is no tape that is not open with
--- pages; and what is true of each by its phase, as long as no call failed
+-- what is true of all tapes. Each page that was given out is free or belongs to one tape, and only open tapes have pages. As long as no
+-- call failed, each tape has what its phase says
 pub record AreTapes (t : TapesState) : Type 0 where
   pub pool : IsPool t.pool
   pub each : (page : ℕ) → times page t.pool.free + sum_by (λ x. times page x.pages) t.tapes ≡ below page t.pool.count

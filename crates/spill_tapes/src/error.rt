@@ -10,13 +10,13 @@ use thiserror::Error;
 /// Why a call of tapes is refused.
 #[derive(Clone, Copy, Debug, PartialEq, Eq, Error)]
 pub enum TapeError {
-    /// Memory was wanted, and there was none.
+    /// An allocation failed.
     #[error("out of memory")]
     NoMemory,
     /// The disk failed.
     #[error("the tape disk failed")]
     TapeFault,
-    /// What was read from the disk are not the bytes of a record.
+    /// The bytes read from the disk are not those of a record.
     #[error("the tape is damaged")]
     TapeDamaged,
     /// A call on these tapes failed earlier.

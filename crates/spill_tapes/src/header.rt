@@ -4,7 +4,7 @@ ghost use Rattle.spill_tapes.specs.Records.{number_at, header_of};
 
 use crate::limits::FRONT;
 
-/// What the front of a record tells: its hash, its tag, and how many bytes follow.
+/// The front of a record: its hash, its tag, and how many bytes follow.
 #[derive(Clone, Copy)]
 pub(crate) struct Header {
     pub(crate) hash: u32,

@@ -97,7 +97,7 @@ impl Tape {
         Ok(())
     }
 
-    /// Puts bytes behind those that were written.
+    /// Puts bytes after those that were written.
     fn put<D: TapeDisk>(
         &mut self,
         disk: &mut D,
@@ -125,7 +125,7 @@ impl Tape {
         self.put(disk, pool, &bytes[n..])
     }
 
-    /// Puts a record behind those that were written.
+    /// Puts a record after those that were written.
     pub(crate) fn append<D: TapeDisk>(
         &mut self,
         disk: &mut D,
@@ -227,7 +227,7 @@ impl Tape {
         disk.read_at(page * PAGE as u64, &mut self.buffer)
     }
 
-    /// Puts the next `n` bytes of the buffer behind `bytes`.
+    /// Puts the next `n` bytes of the buffer after `bytes`.
     fn spend(&mut self, n: usize, bytes: &mut Vec<u8>) -> Result<(), AllocError>
         requires read { self.old.read ≤ length self.old.buffer }
         requires fits { n ≤ length self.old.buffer - self.old.read }
@@ -240,7 +240,7 @@ impl Tape {
         Ok(())
     }
 
-    /// Puts the next `n` bytes of the tape behind `bytes`.
+    /// Puts the next `n` bytes of the tape after `bytes`.
     fn fill<D: TapeDisk>(
         &mut self,
         disk: &mut D,
@@ -320,7 +320,7 @@ impl Tape {
         Ok(())
     }
 
-    /// Reads the next record: its hash and its tag are answered, and its bytes are put into `bytes`.
+    /// Reads the next record: returns its hash and its tag, and puts its bytes into `bytes`.
     pub(crate) fn next<D: TapeDisk>(
         &mut self,
         alloc: Global,

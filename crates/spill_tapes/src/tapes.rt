@@ -30,7 +30,7 @@ use tape_disks::TapeDisk;
 /// A record is a hash, a tag, which is 0 or 1, and up to 65,535 bytes. Each call that reads or writes is handed the disk,
 /// which nothing else may write to as long as the tapes are in use.
 ///
-/// Where a call that reads or writes the disk fails, for memory, by the disk, or by bytes that are not those of a record, the
+/// If a call that reads or writes the disk fails, because memory ran out, the disk failed, or its bytes are not those of a record, the
 /// tapes are dead: every further call but `close` is refused.
 #[derive(Drop)]
 pub struct Tapes {
@@ -155,7 +155,8 @@ impl Tapes {
         Ok(())
     }
 
-    /// Puts a record behind those of a tape.
+    /// Adds a record at the end of a tape. The errors are `TapesDead`, `NoMemory` and `TapeFault`; after one the tapes
+    /// are dead.
     pub fn append<D: TapeDisk>(
         &mut self,
         disk: &mut D,
@@ -210,7 +211,8 @@ impl Tapes {
         let _are_tapes = &self.pool;
     }
 
-    /// Ends the writing of a tape, which is then to be read. It has no buffer until its first record is read.
+    /// Ends the writing of a tape, which is then to be read. It has no buffer until its first record is read. The
+    /// errors are `TapesDead`, `NoMemory` and `TapeFault`; after one the tapes are dead.
     pub fn rewind<D: TapeDisk>(&mut self, disk: &mut D, tape: TapeId) -> Result<(), TapeError>
         requires written { self.old.is_dead ≡ false → is_written self.old tape ≡ true }
         ensures dies { DiesIfRefused IsRefusal result self.old self.new disk.old disk.new }
@@ -229,8 +231,9 @@ impl Tapes {
         Ok(())
     }
 
-    /// Reads the next record of a tape, if there is one: its hash and its tag are answered, and its bytes are put in the
-    /// place of those in `bytes`. Without a record there are none. A page of which all was read, or that lies in the buffer, is free.
+    /// Reads the next record of a tape, if there is one: returns its hash and its tag, and puts its bytes in place of those in `bytes`,
+    /// which is empty without a record. A page that was read whole, or lies in the buffer, is free. The errors are `TapesDead`, `NoMemory`,
+    /// `TapeFault` and `TapeDamaged`; after one the tapes are dead.
     pub fn next<D: TapeDisk>(
         &mut self,
         disk: &mut D,

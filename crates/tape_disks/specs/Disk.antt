@@ -5,8 +5,8 @@ use Rattle.tape_disks.specs.Errors.{disk_faults}
 use Rattle.tape_disks.specs.declared.disk.DiskError.{DiskError}
 use Rattle.tape_disks.specs.declared.disk.TapeDisk.{Ghosts}
 
--- what a call leaves of a disk that failed so often in it: the disk is as honest as it was, has failed so often more, and has been
--- written no less often
+-- what a call leaves of a disk that failed `faults` times in it: the disk is as honest as before, counts that many failures more, and no
+-- fewer writes
 pub record DiskFrame {D : Type 0} (g : Ghosts D) (faults : ℕ) (old new : D) : Type 0 where
   pub honesty : g.honest new ≡ g.honest old
   pub failures : g.failures new ≡ g.failures old + faults
@@ -19,7 +19,7 @@ pub record OnlyReads {D : Type 0} (g : Ghosts D) (faults : ℕ) (old new : D) : 
   pub writes : g.writes new ≡ g.writes old
   pub keeps : Keeps (g.last old) (g.last new)
 
--- what `read_at` of a disk comes to, as `TapeDisk` says it: these bytes were read, in the place of as many
+-- the result of `read_at`, as `TapeDisk` states it: these bytes were read, in the place of as many
 pub record IsReadOf {D T : Type 0} (g : Ghosts D) (at : ℕ) (room bytes : List ℕ) (old : D) (result : Result T DiskError) (new : D) :
     Type 0 where
   pub len : length bytes ≡ length room

@@ -7,8 +7,8 @@ ghost use Rattle.tape_disks.specs.declared.disk.DiskError.TheVariants.{TapeFault
 use crate::disk::{DiskError, TapeDisk};
 use std::marker::Model;
 
-/// A disk of which one call fails, by its number: it answers `TapeFault` and changes nothing. All else is the inner disk's. It
-/// takes no memory of its own, and shows what becomes of a failure wherever one may come.
+/// A disk that fails one call, chosen by its number: that call returns `TapeFault` and changes nothing. All else is the inner disk's. It
+/// takes no memory of its own. It serves to try a failure wherever one may come.
 #[derive(Drop)]
 pub struct FailDisk<D: TapeDisk + Drop> {
     inner: D,

@@ -25,8 +25,8 @@ pub struct WriteFault {
     pub cause: io::Error,
 }
 
-/// A disk in a file, which is as honest as the file, and fails just where the file does: over any that gives back what was written to it,
-/// so does the disk. Places past its end are 0.
+/// A disk in a file, which is as honest as the file, and fails exactly where the file does: over any that gives back what was written to
+/// it, so does the disk. Places past its end are 0.
 #[derive(Drop)]
 pub struct FileDisk<F: SeekableFile + Drop> {
     file: F,

@@ -40,7 +40,8 @@ impl<D: TapeDisk + Drop> FlipDisk<D> {
         &self.inner
     }
 
-    /// Reads from the disk behind, and flips the bits of the one byte of each page in what was read.
+    /// Reads from the disk behind, and flips the bits of the one byte of each page in what was read. The errors are
+    /// those of that disk.
     pub fn read_flipped(&mut self, at: u64, bytes: &mut [u8]) -> Result<(), DiskError>
         requires { at + length bytes.old < 2 ^ 63 }
         ensures { ReadsFlipped D.TapeDisk at bytes.old bytes.new self.old result self.new }

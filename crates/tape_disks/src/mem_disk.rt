@@ -14,7 +14,7 @@ use std::alloc::Global;
 use std::collections::BTreeMap;
 use std::marker::Model;
 
-/// A disk in memory, which is honest and never fails but for want of memory. At first each place is 0.
+/// A disk in memory, which is honest and fails only where an allocation does. At first each place is 0.
 ///
 /// Its pages, of 8,192 bytes each, lie in a `Generation` context, and are found by their numbers. A page is taken when it is
 /// first written to.
@@ -135,7 +135,7 @@ impl MemDisk {
     }
 }
 
-/// How many bytes from a place on lie in its page, if there are so many.
+/// How many of the `left` bytes from a place on lie in the page of that place.
 fn part_len(at: u64, left: usize) -> usize
     requires { 0 < left }
     ensures some { 0 < result }

@@ -6,8 +6,8 @@ use crate::seekable_file::SeekableFile;
 use std::alloc::{AllocError, Global};
 use std::marker::Model;
 
-/// A file in memory, which is honest and never fails; where memory is wanted it answers `NoMemory`, and nothing changed. What lies between
-/// its end and a place beyond that is written is 0.
+/// A file in memory, which is honest and never fails; where an allocation fails it returns `NoMemory` and changes nothing. What lies
+/// between its end and a place beyond that is written is 0.
 #[derive(Drop)]
 pub struct MemFile {
     bytes: Vec<u8>,
@@ -34,7 +34,7 @@ impl MemFile {
     }
 }
 
-/// Grows a list of bytes by zeros, so that it has so many.
+/// Grows a list of bytes by zeros, up to this length.
 fn grow(bytes: &mut Vec<u8>, end: usize) -> Result<(), AllocError>
     ensures same { (place : ℕ) → get_or bytes.new.items place 0 ≡ get_or bytes.old.items place 0 }
     ensures long { OnOk result (end ≤ length bytes.new.items) }

@@ -9,8 +9,8 @@ use crate::disk::DiskError;
 /// A file that is read and written from where it stands on (POSIX: `lseek`, `read`, `write`).
 ///
 /// It is honest if it gives back what was written to it: a read that succeeds gives, at every place that was ever written, the byte last
-/// written there, and where it ends nothing but 0 was written from there on. Whether it is so never changes. A call that answers
-/// `TapeFault` met one failure more, and any other met none.
+/// written there. From its end on nothing but 0 was written. Whether it is so never changes. A call that returns `TapeFault` adds one
+/// failure, and any other adds none.
 pub trait SeekableFile {
     /// How often it failed.
     ghost failures: { Self → ℕ };

@@ -100,7 +100,7 @@ impl Hoard {
         })
     }
 
-    /// Holds all that there is but so many bytes on end.
+    /// Holds all memory but this many bytes in one piece.
     pub fn leave(&mut self, room: usize) -> Result<(), AllocError> {
         let free = Vec::<u8>::with_capacity(self.alloc, room)?;
         take_halves(self.alloc, &mut self.around, LARGE, SMALL);

@@ -1,4 +1,4 @@
-//! What crates of tests share: tables of cases, which they go through, and rooms: so many bytes, which are all the memory that a call
+//! What crates of tests share: tables of cases, which they go through, and rooms: a number of bytes, which are all the memory that a call
 //! finds.
 #![tactic(auto)]
 

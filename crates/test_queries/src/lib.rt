@@ -1,6 +1,6 @@
-//! Tests of tokens, values, packed rows, rows that lie on end, batch files and the aggregate functions; of queries by what they tell of
-//! themselves, and of answers; by their crates' public calls alone. What queries answer, and why texts are refused, is tested by scripts.
-//! A test goes through the lines of a table: a case, and what is wanted of it behind ` => `.
+//! Tests of tokens, values, packed rows, rows that lie end to end, batch files and the aggregate functions; of queries by what they tell of
+//! themselves, and of answers; by their crates' public calls alone. What queries answer, and why texts are refused, is tested by scripts. A
+//! test goes through the lines of a table: a case, and what is wanted of it behind ` => `.
 #![tactic(auto)]
 
 #[cfg(test)]

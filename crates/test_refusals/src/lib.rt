@@ -1,5 +1,5 @@
-//! Tests in which memory is refused: in rooms of so many bytes, where each test takes all memory of its process but so much, and
-//! growth by growth, as `bin/refuse_growths` runs the tests of the module `growths`.
+//! Tests in which memory is refused. In rooms, each test takes all memory of its process but a number of bytes. In the module `growths` one
+//! growth of memory after the other is refused, as `bin/refuse_growths` runs it.
 #![tactic(auto)]
 
 #[cfg(test)]

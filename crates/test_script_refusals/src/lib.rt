@@ -1,4 +1,4 @@
-//! Tests in which scripts are refused memory, in rooms of so many bytes: each test takes all memory of its process but so much.
+//! Tests in which scripts are refused memory: each test takes all memory of its process but a number of bytes.
 #![tactic(auto)]
 
 #[cfg(test)]

@@ -12,7 +12,7 @@ use Rattle.aggregation_cost.specs.Space.{Setting}
 use Rattle.aggregation_cost.specs.ListLaws.{each_of_flat_map}
 use Rattle.aggregation_cost.specs.Lemmas.PassLaws.{filter_short}
 
--- passes over so many records at most
+-- passes over this many records at most
 abbrev AreShort : ℕ → List Pass → Type 0
 AreShort most some = AllByRecursion (λ (pass : Pass). length pass.records ≤ most) some
 

@@ -102,7 +102,7 @@ module _ (before : ℤ → ℤ → Bool) (itself : (x : ℤ) → before x x ≡ 
   leader_of_some : (z : ℤ) (zs : List ℤ) → IsSome (find (leads (z ∷ zs)) (z ∷ zs))
   leader_of_some z zs = ap is_some (leader_some z zs).1
 
-  -- the leader of two lists on end: the one that pick takes of both leaders
+  -- the leader of two lists appended: the one that pick takes of both leaders
   leader_append : (pick : ℤ → ℤ → ℤ) → ((x y : ℤ) → before (pick x y) x ≡ true) → ((x y : ℤ) → before (pick x y) y ≡ true)
       → ((x y : ℤ) → (pick x y ≡ x) ⊎ (pick x y ≡ y)) → (xs ys : List ℤ) → find (leads (xs ++ ys)) (xs ++ ys)
       ≡ joined pick (find (leads xs) xs) (find (leads ys) ys)

@@ -1,4 +1,4 @@
--- A function's partial result of two lists of arguments on end is what their partial results combine to.
+-- A function's partial result of two lists of arguments appended is what their partial results combine to.
 use Rattle.std.specs.Prelude.{◌≡◌, refl, ℕ, ◌+◌, ◌%◌, ◌^◌, ◌<◌, ◌==◌, min, max, Bool, true, false, cond, ◌&&◌, ◌||◌, List, [], ◌∷◌, ◌++◌}
 use Rattle.std.specs.Prelude.{length, map, filter, count_by, ℤ, ◌+ℤ◌, bit_and, bit_or, bit_xor, Some}
 use Rattle.std.proofs.Common.{sym, ◌∙◌, ap, arith}

@@ -1,4 +1,4 @@
--- The groups of a list of rows as a map, and the groups of two lists of rows on end.
+-- The groups of a list of rows as a map, and the groups of two lists of rows appended.
 use Rattle.std.specs.Prelude.{◌≡◌, refl, Bool, true, false, cond, ◌||◌, List, [], ◌∷◌, ◌++◌, map}
 use Rattle.std.proofs.Common.{sym, ◌∙◌, ap, arith}
 use Rattle.std.proofs.lemmas.List.{map-append}

@@ -134,7 +134,7 @@ module _ {D H : Type 0} (g : Ghosts D) (hash_of : H → List ℕ → ℕ) (query
     held = λ low. low;
   }
 
-  -- a refusal behind calls that are done leaves the work as it was before them all
+  -- a refusal after calls that are done leaves the work as it was before them all
   pub refused_later : (Counts : Counting) (reason : Option SpillError) (before middle after : D) (work : Work)
       → DiskFrame g 0 before middle → DiskFrame g (faults_of (Refused reason)) middle after
       → (IsTrue (g.honest middle) → reason ≢ Some TapeDamaged)

@@ -130,7 +130,7 @@ told_is parts rising o n = knows_knowing (flat_map batches_of parts) (o, n) ∙ 
 
 -- ---- prefixes, early numbers, origins
 
--- a part has a gap behind its prefix
+-- a part has a gap after its prefix
 abbrev pub HasGap : Part → Type 0
 HasGap p = tells p (p.prefix + 1) ≡ false
 

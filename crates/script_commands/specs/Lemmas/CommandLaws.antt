@@ -1,4 +1,4 @@
--- A feed owns as many records as it tells.
+-- A feed owns as many records as it states.
 use Rattle.std.proofs.Common.{◌≡◌, ◌≢◌, ℕ, List, [], ◌∷◌, ◌&&◌, Bool, true, false, if◌then◌else◌, Option, Some, None, codes, unwrap_or}
 use Rattle.std.specs.Option.{option_map_or}
 use Rattle.std.specs.Str.{bytes_eq, is_utf8}

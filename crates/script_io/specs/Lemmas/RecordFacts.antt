@@ -11,7 +11,7 @@ few_next : (n : ℕ) (o : Option Read) → ((r : Read) → length (records_from 
 few_next n None h = omega arith
 few_next n (Some r) h = let short = h r in omega arith
 
--- so many turns read no more records
+-- this many turns read no more records
 pub records-few : (n : ℕ) (s : State) (text : List ℕ) → length (records_from default_config n s text) ≤ n
 unfolding records_from
 records-few zero s text = omega arith
