@@ -1,8 +1,10 @@
 -- README's first script: its commands, their replies and texts, and that there are no others.
-use Rattle.std.specs.Prelude.{◌≡◌, ◌≢◌, ◌≤◌, refl, ℕ, pos, true, false, nat_lt, List, [], ◌∷◌, ◌++◌, length, take, codes, All, Contains}
-use Rattle.std.specs.Prelude.{Some, None, Ok}
+use Rattle.std.specs.Prelude.{◌≡◌, ◌≤◌, refl, ℕ, pos, true, false, nat_lt, List, [], ◌∷◌, ◌++◌, length, take, codes, All, Contains}
+use Rattle.std.specs.Prelude.{FitsSigned, Some, None, Ok}
+use Rattle.std.specs.Int.{w64}
 use Rattle.std.specs.List.{AllByRecursion, list_all}
-use Rattle.std.proofs.Common.{◌∙◌, ap, sym, subst, arith, inl, lit<, lit≤, Fits-lit}
+use Rattle.std.proofs.Common.{◌∙◌, ap, sym, subst, arith, inl, lit<, lit≤}
+use Rattle.std.proofs.lemmas.Int.{ints}
 use Rattle.std.proofs.lemmas.Bool.{true≢false}
 use Rattle.std.proofs.lemmas.List.Elements.{All-from_recursion}
 use Rattle.grouping_model.specs.Aggregates.{Count_rows, Sum}
@@ -39,8 +41,10 @@ use Rattle.script_machine.specs.Text.{joined, reply_text}
 unfoldable use Rattle.agg_protocol.specs.Signatures.{function_named}
 unfoldable use Rattle.csv.specs.Machine.{next_record}
 unfoldable use Rattle.csv.specs.Reading.{records_from, strip_bom}
-unfoldable use Rattle.core.specs.List.{IsDistinct}
-unfoldable use Rattle.core.specs.Str.{chars, is_utf8}
+unfoldable use Rattle.csv.specs.Writing.{fields_text, is_blank}
+unfoldable use Rattle.std.specs.Fmt.{digits}
+unfoldable use Rattle.std.specs.List.{IsDistinct}
+unfoldable use Rattle.std.specs.Str.{chars, is_utf8}
 unfoldable use Rattle.group_parser.specs.Parsing.{asked_in}
 unfoldable use Rattle.packed_rows.specs.Columns.{Describes, kind_named}
 unfoldable use Rattle.query_checks.specs.Checks.{checked, checked_order, checked_places}
@@ -149,10 +153,9 @@ is_schema = record {
     most = lit≤ tt;
     named = (
       record { legal = record { begins = refl; continues = refl; lower = refl; within = lit≤ tt }; free = refl },
-      record { legal = record { begins = refl; continues = refl; lower = refl; within = lit≤ tt }; free = refl },
-      tt,
+      (record { legal = record { begins = refl; continues = refl; lower = refl; within = lit≤ tt }; free = refl }, tt),
     );
-    distinct = ((refl, tt), tt, tt);
+    distinct = ((refl, tt), (tt, tt));
   };
 }
 
@@ -168,11 +171,19 @@ no_zero bytes above there =
     absurd (true≢false (sym passes))
 
 bergen_text : IsText (codes "bergen")
+unfolding lib.Utf8.encode
 bergen_text =
-    ((codes "bergen", refl, refl), lit≤ tt, no_zero (codes "bergen") refl, λ e. absurd (let n = ap length e in omega (arith, n)))
+    ((codes "bergen", (refl, refl)), lit≤ tt, no_zero (codes "bergen") refl, λ e. absurd (let n = ap length e in omega (arith, n)))
 
 oslo_text : IsText (codes "oslo")
-oslo_text = ((codes "oslo", refl, refl), lit≤ tt, no_zero (codes "oslo") refl, λ e. absurd (let n = ap length e in omega (arith, n)))
+unfolding lib.Utf8.encode
+oslo_text = ((codes "oslo", (refl, refl)), lit≤ tt, no_zero (codes "oslo") refl, λ e. absurd (let n = ap length e in omega (arith, n)))
+
+five_fits : FitsSigned w64 (pos 5)
+five_fits = record { sfits = grind (arith, ints) }
+
+seven_fits : FitsSigned w64 (pos 7)
+seven_fits = record { sfits = grind (arith, ints) }
 
 abbrev bergen_rows : List Row
 bergen_rows = (Text (codes "bergen") ∷ Bigint (pos 7) ∷ []) ∷ []
@@ -192,7 +203,7 @@ bergen_is = record {
   number_is = record { reads = refl; above = lit≤ tt; within = lit≤ tt };
   few = lit≤ tt;
   whole = refl;
-  rows_are = (((bergen_text, refl), ((lit< tt, lit< tt, tt), Fits-lit tt, refl), tt), tt);
+  rows_are = (((bergen_text, refl), (((lit< tt, (lit< tt, tt)), seven_fits, refl), tt)), tt);
 }
 
 oslo_is : IsBatch (kinds first_columns) (codes "0") (codes "1") 1 (rec_oslo ∷ []) oslo
@@ -201,7 +212,7 @@ oslo_is = record {
   number_is = record { reads = refl; above = lit≤ tt; within = lit≤ tt };
   few = lit≤ tt;
   whole = refl;
-  rows_are = (((oslo_text, refl), ((lit< tt, lit< tt, tt), Fits-lit tt, refl), tt), tt);
+  rows_are = (((oslo_text, refl), (((lit< tt, (lit< tt, tt)), five_fits, refl), tt)), tt);
 }
 
 -- ---- its replies
@@ -280,6 +291,7 @@ rows_known : (world : World) → world 0 1 ≡ Some oslo_rows → world 0 2 ≡ 
 rows_known world one two = rw (one, two) refl
 
 table_is : answer_over_rows (oslo_rows ++ bergen_rows) ≡ answer_line
+unfolding digits fields_text is_blank
 table_is = refl
 
 answer_is : (world : World) → world 0 1 ≡ Some oslo_rows → world 0 2 ≡ Some bergen_rows
@@ -293,7 +305,7 @@ query_line world = refl
 -- ---- so these are right
 
 along : (world : World) → RightAlong world start first_commands first_replies first_texts
-unfolding RightAlong request_of is_utf8
+unfolding RightAlong request_of is_utf8 chars lib.Utf8.encode digits
 along world = λ a. (
   Rightly columns_told,
   refl,
@@ -346,10 +358,12 @@ is_of_columns fed origin first last few rows = record { origin = origin; first =
 of_the_columns : IsWorld (kinds first_columns) first_world
 of_the_columns = is_world (oslo ∷ bergen ∷ []) first_columns (All-from_recursion (IsOfColumns first_columns) (oslo ∷ bergen ∷ []) (
   is_of_columns oslo (lit≤ tt) (lit≤ tt) (lit≤ tt) (lit≤ tt)
-      (All-from_recursion (HasKinds (kinds first_columns)) oslo_rows ((oslo_text, Fits-lit tt, tt), tt)),
-  is_of_columns bergen (lit≤ tt) (lit≤ tt) (lit≤ tt) (lit≤ tt)
-      (All-from_recursion (HasKinds (kinds first_columns)) bergen_rows ((bergen_text, Fits-lit tt, tt), tt)),
-  tt,
+      (All-from_recursion (HasKinds (kinds first_columns)) oslo_rows ((oslo_text, (five_fits, tt)), tt)),
+  (
+    is_of_columns bergen (lit≤ tt) (lit≤ tt) (lit≤ tt) (lit≤ tt)
+        (All-from_recursion (HasKinds (kinds first_columns)) bergen_rows ((bergen_text, (seven_fits, tt)), tt)),
+    tt,
+  ),
 ))
 
 -- what is read tells columns that the world has
@@ -411,11 +425,11 @@ feed_agrees old name origin number told owned known fed there columns is has =
     (one_fed (kinds first_columns) origin number told owned fed other is batch) has)
 
 columns_asked : request_of rec_columns ≡ ask.Columns schema_text
-unfolding request_of is_utf8 chars
+unfolding request_of is_utf8 chars lib.Utf8.encode
 columns_asked = refl
 
 query_asked : request_of rec_query ≡ ask.Query query_text
-unfolding request_of is_utf8 chars
+unfolding request_of is_utf8 chars lib.Utf8.encode
 query_asked = refl
 
 north_asked : request_of rec_replica ≡ ask.Replica north
@@ -436,6 +450,7 @@ answer_asked = refl
 
 module _ (xs : List Reply) (ts : List (List ℕ)) (right : RightAlong first_world start first_commands xs ts) (sound : NoneRefused xs) where
   behind_columns : Left with_columns from_query ts (codes "columns 2\n")
+  unfolding digits
   behind_columns = next start (ask.Columns schema_text) (command rec_columns []) from_query
       (machine.Has_columns first_columns) (codes "columns 2\n")
       xs ts columns_asked
@@ -471,6 +486,7 @@ module _ (xs : List Reply) (ts : List (List ℕ)) (right : RightAlong first_worl
       bergen_taken refl behind_north.right behind_north.sound
 
   behind_oslo : Left with_oslo last_command behind_bergen.texts (codes "folded upto 2\n")
+  unfolding digits
   behind_oslo = next with_bergen feed_one (command (rec_feed (codes "1")) (rec_oslo ∷ [])) last_command
       (machine.Took north oslo (Folded 2)) (codes "folded upto 2\n")
       behind_bergen.replies behind_bergen.texts one_asked
