@@ -7,8 +7,9 @@ use Rattle.std.proofs.lemmas.List.Elements.{recursion_from_All}
 use Rattle.std.specs.Option.{is_some}
 use Rattle.std.specs.List.{AllByRecursion}
 use Rattle.script_machine.proofs.Words.{Row, HasKinds, LAST_ORIGIN, LAST_NUMBER, MAX_ROWS, IsWorld, Knowledge, Column, kinds, Record}
-use Rattle.script_machine.proofs.Words.{Command, request_of, Fed, IsBatch, State, Step, Along, AgreesAt, AgreesWith, FeedAgrees, Agrees}
-use Rattle.script_machine.proofs.Words.{after, world_of, OneBatchEach, IsOfColumns, ColumnsOf, FeedsAmong, FeedsOf, AreAmong}
+use Rattle.script_machine.proofs.Words.{Command, Fed, IsBatch, State, AgreesAt, AgreesWith, FeedAgrees, Agrees}
+use Rattle.script_machine.proofs.Words.{world_of, OneBatchEach, IsOfColumns, ColumnsOf, FeedsAmong, FeedsOf, AreAmong}
+use Rattle.script_machine.proofs.RunLaws.{along_weaker}
 use Rattle.grouping_model.specs.MemberLaws.{Member, from_contains, to_contains}
 use Rattle.script_commands.specs.Commands as ask
 use Rattle.script_commands.specs.Commands.{Request}
@@ -122,18 +123,8 @@ agrees_feed feds one old (ask.Feed name origin number told) owned among = go (ol
 
 agrees_step : (feds : List Fed) → OneBatchEach feds → (old : State) (request : Request) (owned : List Record) (reply : Reply)
     → FeedsOf feds old request owned reply → AgreesAt (world_of feds) old request owned reply
-agrees_step feds one old request owned reply among = (agrees_reply feds reply among.0, agrees_feed feds one old request owned among.1)
-
--- a step that follows from another follows from it all along
-along_weaker : (P Q : Step) → ((old : State) (request : Request) (owned : List Record) (reply : Reply) → P old request owned reply
-    → Q old request owned reply) → (old : State) (commands : List Command) (replies : List Reply) → Along P old commands replies
-    → Along Q old commands replies
-unfolding Along
-along_weaker P Q weaker old [] [] all = tt
-along_weaker P Q weaker old (c ∷ commands) (r ∷ replies) all =
-    (weaker old (request_of c.head) c.owned r all.0, along_weaker P Q weaker (after old r) commands replies all.1)
-along_weaker P Q weaker old [] (r ∷ replies) all = absurd all
-along_weaker P Q weaker old (c ∷ commands) [] all = absurd all
+agrees_step feds one old request owned reply among =
+    (λ right. agrees_reply feds reply (among.0 right), agrees_feed feds one old request owned among.1)
 
 pub agrees : (feds : List Fed) → OneBatchEach feds → (old : State) (commands : List Command) (replies : List Reply)
     → AreAmong feds old commands replies → Agrees (world_of feds) old commands replies

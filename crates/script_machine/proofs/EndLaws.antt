@@ -1,5 +1,5 @@
 -- How a run of a script ends, by what its commands did.
-use Rattle.std.specs.Prelude.{◌≡◌, ◌≤◌, refl, ℕ, Bool, false, IsTrue, List, length, Option, Some, None, IfSome, OnOk, Result}
+use Rattle.std.specs.Prelude.{◌≡◌, ◌≤◌, refl, ℕ, Bool, false, IsTrue, List, length, take, Option, Some, None, IfSome, OnOk, Result}
 use Rattle.std.specs.Prelude.{Ok, Err}
 use Rattle.std.proofs.Common.{sym, subst, arith}
 use Rattle.std.specs.Io.KnownBytes.{Appends, Consumes, IsAtEnd}
@@ -18,12 +18,14 @@ use Rattle.script_io.specs.declared.input.InputError.TheVariants as input
 use Rattle.replies.specs.declared.ending.Outcome.{Outcome}
 use Rattle.replies.specs.declared.error.RunError.{RunError}
 use Rattle.replies.specs.declared.error.RunError.TheVariants as stop
-use Rattle.script_machine.proofs.Words.{AreWritten, Command, DiskFrame, ExecutesAllBut, Works, WorksThrough, empty, run_error}
-use Rattle.script_machine.proofs.RunLaws.{output_lengths, ran_all, ran_start, writes_all, writes_front}
+use Rattle.script_machine.proofs.Words.{AreWritten, Command, DiskFrame, ExecutesAllBut, Works, WorksThrough, empty, exact_wording}
+use Rattle.script_machine.proofs.Words.{run_error}
+use Rattle.script_machine.specs.Exact.{IsExactOutput, WritesExactly}
+use Rattle.script_machine.proofs.RunLaws.{output_lengths, ran_all, ran_start, right_of_exact, writes_all, writes_front}
 use Rattle.script_machine.specs.Headline.{IsRightOutput, Streams, WritesRight, commands_in}
 use Rattle.script_machine.specs.Output.{Ends, KeepsUnread, StopsAt, WritesAll, disk_over, tells_read_fault, tells_write_fault}
 use Rattle.script_machine.specs.Running.{RunsOver}
-use Rattle.script_machine.specs.Text.{joined}
+use Rattle.script_machine.specs.Text.{Wording, joined}
 
 -- what holds of an error that it is passed on as holds of the result
 pub passed_on : {T E : Type 0} (result : Result T E) (e : E) (P : Result T E → Type 0) → IsErrAnd result (λ x. x ≡ e) → P (Err e) → P result
@@ -179,15 +181,15 @@ fails_unread input.TooLong writer = λ sound. sym sound
 
 -- ---- the promise
 
--- over an honest disk a run that ended well wrote the right output
-pub writes_right : {D : Type 0} (g : Ghosts D) (before after : D) (streams : Streams) (result : Result Outcome RunError)
-    → RunsOver g before after streams result → OnOk result (IsTrue (g.honest before) → WritesRight streams)
-writes_right g before after streams (Err e) runs = tt
-writes_right g before after streams (Ok outcome) runs = λ so. go so streams.script runs.ends
+-- over an honest disk a run that ended well wrote an output that is right to the byte
+pub writes_exactly : {D : Type 0} (g : Ghosts D) (before after : D) (streams : Streams) (result : Result Outcome RunError)
+    → RunsOver g before after streams result → OnOk result (IsTrue (g.honest before) → WritesExactly streams)
+writes_exactly g before after streams (Err e) runs = tt
+writes_exactly g before after streams (Ok outcome) runs = λ so. go so streams.script runs.ends
   where
     go : IsTrue (g.honest before) → (script : Option (List ℕ)) → IfSome script (λ s. (length s ≤ MAX_INPUT_LEN)
         × WritesAll (disk_over g before after) (commands_in s) streams.old streams.new outcome.refused)
-        → IfSome script (λ s. (output : List ℕ) × Appends streams.old streams.new output × IsRightOutput s output)
+        → IfSome script (λ s. (output : List ℕ) × Appends streams.old streams.new output × IsExactOutput s output)
     go so None ends = tt
     go so (Some script) ends =
         let all = ends.1 in
@@ -195,11 +197,32 @@ writes_right g before after streams (Ok outcome) runs = λ so. go so streams.scr
           joined all.texts,
           all.writes,
           record {
-            replies = all.replies;
-            texts = all.texts;
-            each = lengths.0;
-            each_text = lengths.1;
-            right = all.output.right so;
-            whole = refl;
+            is_right = record {
+              replies = all.replies;
+              texts = all.texts;
+              each = lengths.0;
+              each_text = lengths.1;
+              right = λ front. right_of_exact (take front (commands_in script)) (take front all.replies) (take front all.texts)
+                  (all.output.right so front);
+              whole = refl;
+            };
+            tells = λ front history keeps. (all.output.right so front history keeps).0;
           },
         )
+
+-- so it wrote a right one
+pub exact_is_right : (streams : Streams) → WritesExactly streams → WritesRight streams
+exact_is_right streams = go streams.script
+  where
+    go : (script : Option (List ℕ)) → IfSome script (λ s. (output : List ℕ) × Appends streams.old streams.new output
+        × IsExactOutput s output)
+        → IfSome script (λ s. (wording : Wording) × (output : List ℕ) × Appends streams.old streams.new output
+        × IsRightOutput wording s output)
+    go None wrote = tt
+    go (Some script) wrote = (exact_wording, wrote.0, wrote.1, wrote.2.is_right)
+
+pub writes_right : {D : Type 0} (g : Ghosts D) (before after : D) (streams : Streams) (result : Result Outcome RunError)
+    → RunsOver g before after streams result → OnOk result (IsTrue (g.honest before) → WritesRight streams)
+writes_right g before after streams (Err e) runs = tt
+writes_right g before after streams (Ok outcome) runs = λ so.
+    exact_is_right streams (writes_exactly g before after streams (Ok outcome) runs so)

@@ -1,4 +1,6 @@
 pub mod Words
+pub mod BatchLaws
+pub mod Reasons
 pub mod FeedLaws
 pub mod StoreLaws
 pub mod ExecuteLaws
@@ -8,3 +10,4 @@ pub mod ReplyLaws
 pub mod SomeReply
 pub mod SameLaws
 pub mod AgreementLaws
+pub mod ExampleLaws

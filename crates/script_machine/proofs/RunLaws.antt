@@ -9,8 +9,9 @@ use Rattle.std.proofs.lemmas.Grind.{flat_map-append}
 use Rattle.std.specs.Io.KnownBytes.{Appends}
 use Rattle.std.proofs.KnownBytes.{Appends-nil, Appends-trans}
 use Rattle.script_machine.proofs.Words.{DiskFrame, World, Record, Command, request_of, State}
-use Rattle.script_machine.proofs.Words.{Refused, Run, StrictRun, Step, Along, MayReply}
-use Rattle.script_machine.proofs.Words.{IsReply, Agrees, AgreesAt, As_always, For_memory, start, after, is_refused, is_fault, line}
+use Rattle.script_machine.proofs.Words.{AllMayRead, AreExact, Exactly, Refused, Run, Step, Along, MayReply, exact_wording}
+use Rattle.script_machine.proofs.Words.{IsReply, Agrees, AgreesAt, As_always, For_fault, For_memory, Rightly, start, after}
+use Rattle.script_machine.proofs.Words.{is_refused, is_fault, line}
 use Rattle.script_machine.proofs.Words.{refusal_name, said_text, is_refusal, faults_in, Store, empty, Represents, FitsWorld}
 use Rattle.script_machine.proofs.Words.{Answers, Steps, Executes, Executed, ExecutesAllBut, AreWritten, said_texts}
 use Rattle.tape_disks.specs.declared.disk.TapeDisk.{Ghosts}
@@ -18,8 +19,8 @@ use Rattle.script_io.specs.Output.{StopsShort}
 use Rattle.script_io.specs.OutputLaws.{short-first, short-second}
 use Rattle.script_commands.specs.Commands.{Request}
 use Rattle.script_machine.specs.Headline.{AreRight}
-use Rattle.script_machine.specs.Machine.{Reply}
-use Rattle.script_machine.specs.Text.{AllMayRead, joined, reply_text, replies_text}
+use Rattle.script_machine.specs.Machine.{Reply, Replies}
+use Rattle.script_machine.specs.Text.{joined, reply_text, replies_text}
 use Rattle.script_machine.specs.Output.{Disk, IsOutput, WritesAll, WritesFront, disk_over}
 use Rattle.replies.specs.declared.refusal.Refusal.TheVariants.{NoMemory}
 use Rattle.replies.specs.declared.reply.Reply as code
@@ -32,6 +33,17 @@ along_length step old [] [] p = refl
 along_length step old (c ∷ cs) (x ∷ xs) p = ap suc (along_length step (after old x) cs xs p.1)
 along_length step old [] (x ∷ xs) p = absurd p
 along_length step old (c ∷ cs) [] p = absurd p
+
+-- a step that follows from another follows from it all along
+pub along_weaker : (P Q : Step) → ((old : State) (request : Request) (owned : List Record) (reply : Reply) → P old request owned reply
+    → Q old request owned reply) → (old : State) (commands : List Command) (replies : List Reply) → Along P old commands replies
+    → Along Q old commands replies
+unfolding Along
+along_weaker P Q weaker old [] [] all = tt
+along_weaker P Q weaker old (c ∷ commands) (r ∷ replies) all =
+    (weaker old (request_of c.head) c.owned r all.0, along_weaker P Q weaker (after old r) commands replies all.1)
+along_weaker P Q weaker old [] (r ∷ replies) all = absurd all
+along_weaker P Q weaker old (c ∷ commands) [] all = absurd all
 
 along_append : (step : Step) (old : State) (cs ds : List Command) (xs ys : List Reply) → Along step old cs xs
     → ((later : State) → Along step later ds ys) → Along step old (cs ++ ds) (xs ++ ys)
@@ -59,7 +71,7 @@ reads_append (x ∷ xs) ys [] us p q = absurd p
 unfoldable pub RightAlong : World → State → List Command → List Reply → List (List ℕ) → Type 0
 RightAlong world old [] [] [] = Unit {0}
 RightAlong world old (c ∷ cs) (x ∷ xs) (t ∷ ts) = AgreesAt world old (request_of c.head) c.owned x
-    → IsReply old (request_of c.head) c.owned x × (t ≡ reply_text world x) × RightAlong world (after old x) cs xs ts
+    → IsReply Exactly old (request_of c.head) c.owned x × (t ≡ reply_text exact_wording world x) × RightAlong world (after old x) cs xs ts
 RightAlong world old cs xs ts = ⊥
 
 right_append : (world : World) (old : State) (cs ds : List Command) (xs ys : List Reply) (ts us : List (List ℕ))
@@ -76,9 +88,9 @@ right_append world old (c ∷ cs) ds [] ys ts us p q = absurd p
 right_append world old (c ∷ cs) ds (x ∷ xs) ys [] us p q = absurd p
 
 -- then those of each front are right
-front_right : (world : World) (old : State) (cs : List Command) (xs : List Reply) (ts : List (List ℕ)) → RightAlong world old cs xs ts
+pub front_right : (world : World) (old : State) (cs : List Command) (xs : List Reply) (ts : List (List ℕ)) → RightAlong world old cs xs ts
     → (n : ℕ) → Agrees world old (take n cs) (take n xs)
-    → StrictRun old (take n cs) (take n xs) × (joined (take n ts) ≡ replies_text world (take n xs))
+    → Along (IsReply Exactly) old (take n cs) (take n xs) × (joined (take n ts) ≡ replies_text exact_wording world (take n xs))
 unfolding RightAlong Along
 front_right world old cs xs ts right zero agrees = (tt, refl)
 front_right world old [] [] [] right (suc n) agrees = (tt, refl)
@@ -341,6 +353,19 @@ take_long [] (suc n) e = refl
 take_long (x ∷ xs) zero e = absurd (omega (arith, e))
 take_long (x ∷ xs) (suc n) e = ap (λ l. x ∷ l) (take_long xs n (omega (arith, e)))
 
+-- where a reply is given with its reason, it is right
+reasons_aside : (old : State) (request : Request) (owned : List Record) (reply : Reply) → IsReply Exactly old request owned reply
+    → IsReply Replies old request owned reply
+reasons_aside old request owned reply (Rightly is) = Rightly is.0
+reasons_aside old request owned reply (For_memory is) = For_memory is
+reasons_aside old request owned reply (For_fault uses is) = For_fault uses is
+
+pub right_of_exact : (commands : List Command) (replies : List Reply) (texts : List (List ℕ)) → AreExact commands replies texts
+    → AreRight exact_wording commands replies texts
+right_of_exact commands replies texts exact = λ history keeps.
+    let is = exact history keeps in
+    (along_weaker (IsReply Exactly) (IsReply Replies) reasons_aside start commands replies is.0, is.1)
+
 -- the lengths of an output
 pub output_lengths : (disk : Disk) (commands : List Command) (replies : List Reply) (texts : List (List ℕ))
     → IsOutput disk commands replies texts → (length replies ≡ length commands) × (length texts ≡ length replies)
@@ -348,32 +373,32 @@ output_lengths disk commands replies texts is =
     (along_length (MayReply disk.honest) start commands replies is.runs, reads_length replies texts is.reads)
 
 pub right_whole : (disk : Disk) (commands : List Command) (replies : List Reply) (texts : List (List ℕ))
-    → IsOutput disk commands replies texts → IsTrue disk.honest → AreRight commands replies texts
+    → IsOutput disk commands replies texts → IsTrue disk.honest → AreExact commands replies texts
 right_whole disk commands replies texts is so =
     let lengths = output_lengths disk commands replies texts is in
-    subst (λ cs. AreRight cs replies texts) (take_long commands (length commands) refl)
-    (subst (λ xs. AreRight (take (length commands) commands) xs texts) (take_long replies (length commands) lengths.0)
-    (subst (λ ts. AreRight (take (length commands) commands) (take (length commands) replies) ts)
+    subst (λ cs. AreExact cs replies texts) (take_long commands (length commands) refl)
+    (subst (λ xs. AreExact (take (length commands) commands) xs texts) (take_long replies (length commands) lengths.0)
+    (subst (λ ts. AreExact (take (length commands) commands) (take (length commands) replies) ts)
     (take_long texts (length commands) (lengths.1 ∙ lengths.0)) (is.right so (length commands))))
 
 -- where each front is right, replies are right for as long as a world has what is fed
-right_fronts : (world : World) (old : State) (cs : List Command) (xs : List Reply) (ts : List (List ℕ)) → length xs ≡ length cs
+pub right_fronts : (world : World) (old : State) (cs : List Command) (xs : List Reply) (ts : List (List ℕ)) → length xs ≡ length cs
     → length ts ≡ length xs
     → ((n : ℕ) → Agrees world old (take n cs) (take n xs)
-    → StrictRun old (take n cs) (take n xs) × (joined (take n ts) ≡ replies_text world (take n xs)))
+    → Along (IsReply Exactly) old (take n cs) (take n xs) × (joined (take n ts) ≡ replies_text exact_wording world (take n xs)))
     → RightAlong world old cs xs ts
 unfolding RightAlong Along
 right_fronts world old [] [] [] same same_texts fronts = tt
 right_fronts world old (c ∷ cs) (x ∷ xs) (t ∷ ts) same same_texts fronts = λ agrees.
     let first = fronts 1 (agrees, tt) in
-    let text : t ≡ reply_text world x = append_cancel_right t (reply_text world x) [] first.1 in (
+    let text : t ≡ reply_text exact_wording world x = append_cancel_right t (reply_text exact_wording world x) [] first.1 in (
       first.0.0,
       text,
       right_fronts world (after old x) cs xs ts (omega (arith, same)) (omega (arith, same_texts)) (λ n rest.
           let more = fronts (suc n) (agrees, rest) in (
             more.0.1,
-            append_cancel_left t (joined (take n ts)) (replies_text world (take n xs)) (more.1
-                ∙ ap (λ l. l ++ replies_text world (take n xs)) (sym text)),
+            append_cancel_left t (joined (take n ts)) (replies_text exact_wording world (take n xs)) (more.1
+                ∙ ap (λ l. l ++ replies_text exact_wording world (take n xs)) (sym text)),
           )),
     )
 right_fronts world old [] [] (t ∷ ts) same same_texts fronts = absurd (omega (arith, same_texts))

@@ -4,9 +4,10 @@ use Rattle.std.specs.Prelude.{unwrap_or, Result, Ok, Err}
 use Rattle.std.proofs.Common.{subst, arith, inl, inr}
 use Rattle.std.proofs.lemmas.Bool.{cases_lt}
 use Rattle.script_machine.proofs.Words.{MAX_ROWS, Kind, Row, Bigint_kind, reply_of, Knowledge, Column, kinds, ReadsRows, BatchError}
-use Rattle.script_machine.proofs.Words.{Checked, parsing, Record, Fed, IsBatch, IsNoBatch, State, ColumnsReply, QueryReply, FeedReply}
-use Rattle.script_machine.proofs.Words.{Replies, limit_reply, replica_reply, known_reply, answer_reply, merge_reply, save_reply, load_reply}
+use Rattle.script_machine.proofs.Words.{Checked, Exactly, parsing, Record, Fed, IsBatch, IsNoBatch, State, limit_reply, replica_reply}
 use Rattle.script_machine.proofs.Words.{batch_refusal, query_refusal, Refusal}
+use Rattle.script_machine.proofs.Reasons.{ColumnsReply, QueryReply, FeedReply, Replies, answer_reply, exactly, known_reply, load_reply}
+use Rattle.script_machine.proofs.Reasons.{merge_reply, save_reply}
 use Rattle.packed_rows.specs.Field.{ReadsRow, IsLeftmostBad}
 use Rattle.packed_rows.specs.Packing.{packing}
 use Rattle.packed_rows.specs.Lemmas.RowLaws.{PackedSoFar, packed_all, packed_more}
@@ -129,17 +130,21 @@ feed_answered columns (Some known) name origin number told owned none =
     (inl (record { what = fed; is_so = is; says = refl })))
     (λ w is. none (machine.Refused w) (inr (record { refusal = w; is_so = is; says = refl })))
 
-pub some_reply : (old : State) (request : Request) (owned : List Record) → ((reply : machine.Reply) → ¬ (Replies old request owned reply))
+some_said : (old : State) (request : Request) (owned : List Record) → ((reply : machine.Reply) → ¬ (Replies old request owned reply))
     → ⊥
-some_reply old (ask.Columns text) owned none = columns_answered old.columns text none
-some_reply old (ask.Query text) owned none = query_answered old.columns old.query text none
-some_reply old (ask.Limit bytes) owned none = none (limit_reply bytes) refl
-some_reply old (ask.Replica name) owned none = none (replica_reply old.query (old.replicas name) name) refl
-some_reply old (ask.Feed name origin number told) owned none = feed_answered (unwrap_or old.columns []) (old.replicas name) name origin
+some_said old (ask.Columns text) owned none = columns_answered old.columns text none
+some_said old (ask.Query text) owned none = query_answered old.columns old.query text none
+some_said old (ask.Limit bytes) owned none = none (limit_reply bytes) refl
+some_said old (ask.Replica name) owned none = none (replica_reply old.query (old.replicas name) name) refl
+some_said old (ask.Feed name origin number told) owned none = feed_answered (unwrap_or old.columns []) (old.replicas name) name origin
     number told owned none
-some_reply old (ask.Known name) owned none = none (known_reply (old.replicas name)) refl
-some_reply old (ask.Answer name) owned none = none (answer_reply old.query (old.replicas name)) refl
-some_reply old (ask.Merge into from) owned none = none (merge_reply (old.replicas into) (old.replicas from) into from) refl
-some_reply old (ask.Save name saved) owned none = none (save_reply old.query (old.replicas name) saved) refl
-some_reply old (ask.Load name saved) owned none = none (load_reply (old.saved saved) name) refl
-some_reply old ask.Unknown owned none = none (machine.Refused why.BadCommand) refl
+some_said old (ask.Known name) owned none = none (known_reply (old.replicas name)) refl
+some_said old (ask.Answer name) owned none = none (answer_reply old.query (old.replicas name)) refl
+some_said old (ask.Merge into from) owned none = none (merge_reply (old.replicas into) (old.replicas from) into from) refl
+some_said old (ask.Save name saved) owned none = none (save_reply old.query (old.replicas name) saved) refl
+some_said old (ask.Load name saved) owned none = none (load_reply (old.saved saved) name) refl
+some_said old ask.Unknown owned none = none (machine.Refused why.BadCommand) refl
+
+pub some_reply : (old : State) (request : Request) (owned : List Record) → ((reply : machine.Reply) → ¬ (Exactly old request owned reply))
+    → ⊥
+some_reply old request owned none = some_said old request owned (λ reply is. none reply (exactly old request owned reply is))

@@ -14,14 +14,15 @@ use Rattle.std.proofs.lemmas.Slice.Eq.{bytes_eq-Decides}
 use Rattle.std.proofs.lemmas.Bool.{true≢false, false_from_ne_true}
 use Rattle.script_machine.proofs.Words.{World, IsWorld, Knowledge, nothing, learn, union, Column, kinds, IsSchemaText, printed, Checked}
 use Rattle.script_machine.proofs.Words.{meaning, Accepts, known_list, reply_of, Held, told, Fits, SameQuery, MergeTells, Record, Fed}
-use Rattle.script_machine.proofs.Words.{IsBatch, IsNoBatch, IsNoQuery, Takes, IsOfBatch, IsOtherBatch, State, ColumnsReply, QueryReply}
-use Rattle.script_machine.proofs.Words.{limit_reply, replica_reply, FeedReply, known_reply, answer_reply, merge_reply, save_reply}
-use Rattle.script_machine.proofs.Words.{load_reply, Replies, IsReply, FeedAgrees, uses_tapes, with_replica, line, known_text, answer_text}
-use Rattle.script_machine.proofs.Words.{said_text, FeedApart, IsHeldAt, TellsDisagreement, Store, IsStore, IsFileOf, AreSaved, IsFitting}
-use Rattle.script_machine.proofs.Words.{Represents, FitsWorld, Answers, Steps, JoinRefused, JoinsNames, Updates, Files, replica_at}
-use Rattle.script_machine.proofs.Words.{saved_at, knowledge_of, limit_out_of_range, columns_refusal, merge_refusal, Refusal}
-use Rattle.script_machine.proofs.Words.{Becomes, KeepsAll, TakesFed, Rightly}
-use Rattle.script_machine.proofs.Words.{For_memory, For_fault, As_always, For_disagreement, For_damage}
+use Rattle.script_machine.proofs.Words.{IsBatch, IsNoBatch, IsNoQuery, Takes, IsOfBatch, IsOtherBatch, State, Exactly}
+use Rattle.script_machine.proofs.Words.{limit_reply, replica_reply, IsReply, FeedAgrees, uses_tapes, with_replica, line, known_text}
+use Rattle.script_machine.proofs.Words.{answer_text, said_text, FeedApart, IsHeldAt, TellsDisagreement, Store, IsStore, IsFileOf, AreSaved}
+use Rattle.script_machine.proofs.Words.{IsFitting, Represents, FitsWorld, Answers, Steps, JoinRefused, JoinsNames, Updates, Files}
+use Rattle.script_machine.proofs.Words.{replica_at, saved_at, knowledge_of, limit_out_of_range, columns_refusal, merge_refusal, Refusal}
+use Rattle.script_machine.proofs.Words.{Becomes, KeepsAll, Rightly, TakesFed, For_memory, For_fault, As_always}
+use Rattle.script_machine.proofs.Words.{For_disagreement, For_damage}
+use Rattle.script_machine.proofs.Reasons.{ColumnsReply, FeedReply, QueryReply, Replies, answer_reply, exactly, known_reply, load_reply}
+use Rattle.script_machine.proofs.Reasons.{merge_reply, rightly, save_reply}
 use Rattle.grouping_model.specs.Answer.{answer}
 use Rattle.grouping_model.specs.Aggregates.{Outcome}
 use Rattle.query_checks.specs.Spelling.{spelling}
@@ -479,7 +480,7 @@ turns_it {honest = honest} {request = request} {owned = owned} {reply = reply} {
 module _ {honest : Bool} where
   -- a refusal of the code is one of the machine's
   pub refused_for : (request : Request) (owned : List Record) (old new : Store) (refusal : Refusal) → Same old new
-      → ((state : State) → Represents state old → IsReply state request owned (machine.Refused refusal))
+      → ((state : State) → Represents state old → IsReply Exactly state request owned (machine.Refused refusal))
       → Steps honest request owned old (says.Refused refusal) new
   refused_for request owned old new refusal s may =
       record {
@@ -528,7 +529,7 @@ module _ {honest : Bool} where
       → ((state : State) → Represents state store → Replies state request owned (machine.Refused refusal))
       → Steps honest request owned store (says.Refused refusal) store
   refused request owned store refusal replies = refused_for request owned store store refusal (same store)
-      (λ state r. Rightly (replies state r))
+      (λ state r. rightly (replies state r))
 
   -- a refusal that may be for want of memory
   pub refused_or_memory : (request : Request) (owned : List Record) (old new : Store) (refusal : Refusal) → Same old new
@@ -538,9 +539,9 @@ module _ {honest : Bool} where
       (λ state r. go state r (memory_or refusal))
     where
       go : (state : State) → Represents state old → (refusal ≡ why.NoMemory) ⊎ (refusal ≢ why.NoMemory)
-          → IsReply state request owned (machine.Refused refusal)
+          → IsReply Exactly state request owned (machine.Refused refusal)
       go state r (inl e) = For_memory (ap machine.Refused e)
-      go state r (inr other) = Rightly (replies other state r)
+      go state r (inr other) = rightly (replies other state r)
 
   pub columns_there : (store : Store) (text : List ℕ) (owned : List Record) → is_some store.columns ≡ true
       → Steps honest (ask.Columns text) owned store (says.Refused why.BadCommand) store
@@ -575,19 +576,22 @@ module _ {honest : Bool} where
       (record store { columns = Some columns })
   columns_told store text owned columns count none is counted =
       record {
-        steps = λ state r. record {
-          said = machine.Has_columns columns;
-          may = As_always (Rightly (subst (λ cs. ColumnsReply cs text (machine.Has_columns columns))
-              (sym (r.columns ∙ none_there store.columns none)) (inl (record { what = columns; is_so = is; says = refl }))));
-          strict = λ right world f agrees. Rightly (subst (λ cs. ColumnsReply cs text (machine.Has_columns columns))
-              (sym (r.columns ∙ none_there store.columns none)) (inl (record { what = columns; is_so = is; says = refl })));
-          represents = record { columns = refl; query = r.query; replicas = r.replicas; saved = r.saved; limit = r.limit };
-          refused = refl;
-          faulted = refl;
-          fits = λ right world f agrees. record { of_columns = agrees.0; fit = f.fit; files = f.files };
-          reads = λ world. ap (λ n. said_text (says.Columns n)) counted;
-          text = λ right world f agrees. ap (λ n. said_text (says.Columns n)) counted;
-        };
+        steps = λ state r.
+            let reply : Exactly state (ask.Columns text) owned (machine.Has_columns columns)
+            = exactly state (ask.Columns text) owned (machine.Has_columns columns)
+            (subst (λ cs. ColumnsReply cs text (machine.Has_columns columns)) (sym (r.columns ∙ none_there store.columns none))
+            (inl (record { what = columns; is_so = is; says = refl }))) in
+            record {
+              said = machine.Has_columns columns;
+              may = As_always (Rightly reply);
+              strict = λ right world f agrees. Rightly reply;
+              represents = record { columns = refl; query = r.query; replicas = r.replicas; saved = r.saved; limit = r.limit };
+              refused = refl;
+              faulted = refl;
+              fits = λ right world f agrees. record { of_columns = agrees.0 reply.0; fit = f.fit; files = f.files };
+              reads = λ world. ap (λ n. said_text (says.Columns n)) counted;
+              text = λ right world f agrees. ap (λ n. said_text (says.Columns n)) counted;
+            };
         becomes = record { replicas = λ name. refl; saved = λ name. refl };
       }
 
@@ -624,9 +628,9 @@ module _ {honest : Bool} where
       record {
         steps = λ state r. record {
           said = machine.Has_query query;
-          may = As_always (Rightly (query_says state store text columns None (machine.Has_query query) r told (none_there store.query none)
+          may = As_always (rightly (query_says state store text columns None (machine.Has_query query) r told (none_there store.query none)
               (inl (record { what = query; is_so = is; says = refl }))));
-          strict = λ right world f agrees. Rightly (query_says state store text columns None (machine.Has_query query) r told
+          strict = λ right world f agrees. rightly (query_says state store text columns None (machine.Has_query query) r told
               (none_there store.query none) (inl (record { what = query; is_so = is; says = refl })));
           represents = record { columns = r.columns; query = refl; replicas = r.replicas; saved = r.saved; limit = r.limit };
           refused = refl;
@@ -646,8 +650,8 @@ module _ {honest : Bool} where
       record {
         steps = λ state r. record {
           said = machine.Has_limit bytes;
-          may = As_always (Rightly reply);
-          strict = λ right world f agrees. Rightly reply;
+          may = As_always (rightly reply);
+          strict = λ right world f agrees. rightly reply;
           represents = record { columns = r.columns; query = r.query; replicas = r.replicas; saved = r.saved; limit = refl };
           refused = refl;
           faulted = refl;
@@ -695,10 +699,10 @@ module _ {honest : Bool} where
       record {
         steps = λ state r. record {
           said = machine.Created name.now;
-          may = As_always (Rightly (sym (ap (λ q. replica_reply q (state.replicas name.now) name.now) (r.query ∙ told)
+          may = As_always (rightly (sym (ap (λ q. replica_reply q (state.replicas name.now) name.now) (r.query ∙ told)
               ∙ ap (λ known. replica_reply (Some query) known name.now) (r.replicas name.now
               ∙ ap (option_map knowledge_of) (none_there (replica_at old name.now) none)))));
-          strict = λ right world f agrees. Rightly (sym (ap (λ q. replica_reply q (state.replicas name.now) name.now) (r.query ∙ told)
+          strict = λ right world f agrees. rightly (sym (ap (λ q. replica_reply q (state.replicas name.now) name.now) (r.query ∙ told)
               ∙ ap (λ known. replica_reply (Some query) known name.now) (r.replicas name.now
               ∙ ap (option_map knowledge_of) (none_there (replica_at old name.now) none))));
           represents = represents_updated state old new name.now (record { query = query; parts = [] }) nothing r u refl;
@@ -723,7 +727,9 @@ module _ {honest : Bool} where
           said = machine.Refused (why.OriginDisagrees of at);
           may = For_disagreement (record {
             instead = machine.Took name other.fed (reply_of (told held.parts) (other.fed.origin, other.fed.number));
-            would = subst (λ known. FeedReply (unwrap_or state.columns []) known name origin number told_rows owned
+            would = (exactly state (ask.Feed name origin number told_rows) owned
+                (machine.Took name other.fed (reply_of (told held.parts) (other.fed.origin, other.fed.number)))
+                (subst (λ known. FeedReply (unwrap_or state.columns []) known name origin number told_rows owned
                 (machine.Took name other.fed (reply_of (told held.parts) (other.fed.origin, other.fed.number))))
                 (sym (known_there state old name held r there))
                 (inl (record {
@@ -731,7 +737,7 @@ module _ {honest : Bool} where
                   is_so = subst (λ cs. IsBatch (kinds cs) origin number told_rows owned other.fed)
                       (sym (feed_columns state old name held r is there)) other.is_batch;
                   says = refl;
-                }));
+                })))).0;
             takes = refl;
             origin = of;
             told = at;
@@ -773,7 +779,7 @@ module _ {honest : Bool} where
           → Steps honest request owned old (says.Refused refusal) new
       of_batch refusal bad =
           refused_for request owned old new refusal s
-          (λ state r. Rightly (subst (λ known. FeedReply (unwrap_or state.columns []) known name origin number told_rows owned
+          (λ state r. rightly (subst (λ known. FeedReply (unwrap_or state.columns []) known name origin number told_rows owned
           (machine.Refused refusal)) (sym (known_there state old name held r there))
           (inr (record {
             refusal = refusal;
@@ -801,7 +807,7 @@ module _ {honest : Bool} where
       record {
         steps = λ state r. record {
           said = machine.Took name takes.fed delivered;
-          may = As_always (Rightly (subst (λ known. FeedReply (unwrap_or state.columns []) known name origin number told_rows owned
+          may = As_always (rightly (subst (λ known. FeedReply (unwrap_or state.columns []) known name origin number told_rows owned
               (machine.Took name takes.fed delivered)) (sym (known_there state old name held r there))
               (inl (record {
                 what = takes.fed;
@@ -809,7 +815,7 @@ module _ {honest : Bool} where
                     (sym (feed_columns state old name held r is there)) takes.is_batch;
                 says = ap (machine.Took name takes.fed) takes.reply;
               }))));
-          strict = λ right world f agrees. Rightly
+          strict = λ right world f agrees. rightly
               (subst (λ known. FeedReply (unwrap_or state.columns []) known name origin number told_rows owned
               (machine.Took name takes.fed delivered)) (sym (known_there state old name held r there))
               (inl (record {
@@ -845,8 +851,8 @@ module _ {honest : Bool} where
       record {
         steps = λ state r. record {
           said = machine.Listed (known_list (told held.parts));
-          may = As_always (Rightly (sym (ap known_reply (known_there state store name held r there))));
-          strict = λ right world f agrees. Rightly (sym (ap known_reply (known_there state store name held r there)));
+          may = As_always (rightly (sym (ap known_reply (known_there state store name held r there))));
+          strict = λ right world f agrees. rightly (sym (ap known_reply (known_there state store name held r there)));
           represents = r;
           refused = refl;
           faulted = refl;
@@ -879,9 +885,9 @@ module _ {honest : Bool} where
       record {
         steps = λ state r. record {
           said = machine.Answered held.query (told held.parts);
-          may = As_always (Rightly (sym (ap (λ q. answer_reply q (state.replicas name)) (r.query ∙ asks.0)
+          may = As_always (rightly (sym (ap (λ q. answer_reply q (state.replicas name)) (r.query ∙ asks.0)
               ∙ ap (λ known. answer_reply (Some held.query) known) (known_there state store name held r there))));
-          strict = λ right world f agrees. Rightly (sym (ap (λ q. answer_reply q (state.replicas name)) (r.query ∙ asks.0)
+          strict = λ right world f agrees. rightly (sym (ap (λ q. answer_reply q (state.replicas name)) (r.query ∙ asks.0)
               ∙ ap (λ known. answer_reply (Some held.query) known) (known_there state store name held r there)));
           represents = r;
           refused = refl;
@@ -977,8 +983,8 @@ module _ {honest : Bool} where
             sym (λ i. merge_reply (known_there state old into own r one i) (known_there state old from theirs r two i) into from) in
             record {
               said = machine.Merged into from;
-              may = As_always (Rightly reply);
-              strict = λ right world f agrees. Rightly reply;
+              may = As_always (rightly reply);
+              strict = λ right world f agrees. rightly reply;
               represents = represents_updated state old new into later _ r u
                   ((λ i. union (unwrap_or (known_there state old into own r one i) nothing)
                   (unwrap_or (known_there state old from theirs r two i) nothing)) ∙ sym learns);
@@ -1025,8 +1031,8 @@ module _ {honest : Bool} where
             ∙ ap (λ known. save_reply (Some held.query) known saved) (known_there state old name held r there)) in
             record {
               said = machine.Saved saved held.query (told held.parts);
-              may = As_always (Rightly reply);
-              strict = λ right world f agrees. Rightly reply;
+              may = As_always (rightly reply);
+              strict = λ right world f agrees. rightly reply;
               represents = record {
                 columns = r.columns ∙ sym u.columns;
                 query = r.query ∙ sym u.query;
@@ -1084,8 +1090,8 @@ module _ {honest : Bool} where
           let reply : machine.Loaded name known ≡ load_reply (state.saved saved) name = sym (ap (λ k. load_reply k name) e) in
           record {
             said = machine.Loaded name known;
-            may = As_always (Rightly reply);
-            strict = λ right world f agrees. Rightly reply;
+            may = As_always (rightly reply);
+            strict = λ right world f agrees. rightly reply;
             represents = represents_updated state old new name later _ r u (sym are.tells ∙ ap knowledge_of (sym (is are.held are.is)));
             refused = refl;
             faulted = refl;

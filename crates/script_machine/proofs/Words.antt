@@ -23,15 +23,17 @@ pub use Rattle.script_machine.specs.Agreement.{PrintTheSame, after_all, world_of
 pub use Rattle.script_machine.specs.Disagreements.{FeedAlike, FeedApart, IsHeldAt, TellsDisagreement}
 pub use Rattle.hash_agg.specs.Counting.{no_work}
 unfoldable pub use Rattle.script_machine.specs.Executing.{Executed}
-pub use Rattle.script_machine.specs.Executing.{AreWritten, Executes, ExecutesAllBut, JoinsNamed, Works, WorksThrough, said_texts}
+pub use Rattle.script_machine.specs.Executing.{AreWritten, Executes, ExecutesAllBut, Works, WorksThrough, said_texts}
+pub use Rattle.script_machine.specs.Joining.{JoinRefused, JoinsNamed, JoinsNames}
 pub use Rattle.script_machine.specs.Limits.{FeedWorked, WorksAtLimit, setting_at}
+pub use Rattle.script_machine.specs.AnyDisk.{MayReply, Run, As_always, For_damage, For_disagreement, is_fault, is_refused}
+unfoldable pub use Rattle.script_machine.specs.AnyDisk.{AllMayRead}
+pub use Rattle.script_machine.specs.Exact.{AreExact, ExactRun, Exactly, TellsWhy}
 unfoldable pub use Rattle.script_machine.specs.Machine.{Along}
-pub use Rattle.script_machine.specs.Machine.{Agrees, Run, Step, StrictRun, Rightly, For_memory, For_fault, As_always, For_disagreement}
-pub use Rattle.script_machine.specs.Machine.{For_damage}
-pub use Rattle.script_machine.specs.Machine.{AgreesAt, AgreesWith, ColumnsReply, FeedAgrees, FeedReply, IsAccepted, IsNoSchema}
-pub use Rattle.script_machine.specs.Machine.{IsRefusedFor, IsReply, MayReply, QueryReply, Refused, Replies, State, after, answer_reply}
-pub use Rattle.script_machine.specs.Machine.{is_fault, is_refused, known_reply, limit_reply, load_reply, merge_reply, replica_reply}
-pub use Rattle.script_machine.specs.Machine.{save_reply, start, uses_tapes, with_replica}
-pub use Rattle.script_machine.specs.Views.{Answers, AreSaved, Files, FitsWorld, IsFileOf, IsFitting, IsStore, JoinRefused, JoinsNames}
+pub use Rattle.script_machine.specs.Machine.{Agrees, AgreesAt, AgreesWith, FeedAgrees, IsReply, Reads, Refused, State, Step, StrictRun}
+pub use Rattle.script_machine.specs.Machine.{As, As_nothing, For_fault, For_memory, Rightly, after, limit_reply, replica_reply, start}
+pub use Rattle.script_machine.specs.Machine.{uses_tapes, with_replica}
+pub use Rattle.script_machine.specs.Wording.{exact_wording, file_saved}
+pub use Rattle.script_machine.specs.Views.{Answers, AreSaved, Files, FitsWorld, IsFileOf, IsFitting, IsStore}
 pub use Rattle.script_machine.specs.Views.{Becomes, KeepsAll, Loads, Makes, Represents, Saves, Steps, Store, TakesFed, TakesIn, Updates}
 pub use Rattle.script_machine.specs.Views.{empty, knowledge_of, replica_at, saved_at}

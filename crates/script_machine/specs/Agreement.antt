@@ -10,7 +10,8 @@ use Rattle.grouping_model.specs.World.{World, Batch, Knowledge, knows}
 use Rattle.query_checks.specs.Checks.{Checked}
 use Rattle.replies.specs.Batches.{Fed, IsBatch}
 use Rattle.script_machine.specs.Machine.{State, Reply, Has_columns, Step, Along, Replies, after}
-use Rattle.script_machine.specs.Text.{reply_text, file_saved}
+use Rattle.script_machine.specs.Wording.{exact_wording, file_saved}
+use Rattle.script_machine.specs.Text.{reply_text}
 
 -- what is there after replies, one after the other
 abbrev pub after_all : State → List Reply → State
@@ -33,7 +34,7 @@ pub record KnowTheSame (here there : State) (a b : List ℕ) (world other : Worl
 abbrev pub SaysTheSame : (here there : State) (world other : World) (ask asked : Request) → Type 0
 SaysTheSame here there world other ask asked =
     (owned : List Record) (r s : Reply) → Replies here ask owned r → Replies there asked owned s
-    → (reply_text world r ≡ reply_text other s) × (file_saved world r ≡ file_saved other s)
+    → (reply_text exact_wording world r ≡ reply_text exact_wording other s) × (file_saved world r ≡ file_saved other s)
 
 -- two replicas print and save the same bytes: their answers, what they know, and their files, under whichever names these are saved
 pub record PrintTheSame (here there : State) (a b : List ℕ) (world other : World) : Type 0 where
@@ -70,9 +71,9 @@ FeedsAmong feds old (Feed name origin number told) owned =
     → Contains feds fed)
 FeedsAmong feds old request owned = Unit {0}
 
--- the batches that a run feeds are among these, which are of the columns that are told
+-- the batches that a run feeds are among these, which are of the columns that are told rightly
 abbrev pub FeedsOf : List Fed → Step
-FeedsOf feds old request owned reply = ColumnsOf feds reply × FeedsAmong feds old request owned
+FeedsOf feds old request owned reply = (Replies old request owned reply → ColumnsOf feds reply) × FeedsAmong feds old request owned
 
 abbrev pub AreAmong : List Fed → State → List Command → List Reply → Type 0
 AreAmong feds = Along (FeedsOf feds)

@@ -1,4 +1,4 @@
--- What a session keeps as plain parts, which tell two of them apart. All of this is our own.
+-- What a session keeps as plain parts, which tell two of them apart. Only types that no other crate sees cite this. All of this is our own.
 use Rattle.std.specs.Prelude.{ℕ, List, Option}
 use mathlib.Core.Path.{refl}
 use base.Stored.{Coded}

@@ -1,26 +1,20 @@
 -- What a command of a script does, in one record. All of this is our own.
-use Rattle.std.specs.Prelude.{ℕ, ◌≡◌, ◌≢◌, IsTrue, List, [], ◌∷◌, ◌++◌, flat_map, count_by, Option, IfSome, Result, Ok, Err, IfErr}
+use Rattle.std.specs.Prelude.{ℕ, ◌≡◌, IsTrue, List, [], ◌∷◌, ◌++◌, flat_map, count_by, Option, IfSome, Result, Ok, Err}
 use Rattle.std.specs.Io.KnownBytes.{Appends}
-use Rattle.tape_disks.specs.Calls.{failed}
 use Rattle.tape_disks.specs.Disk.{DiskFrame}
 use Rattle.tape_disks.specs.declared.disk.TapeDisk.{Ghosts}
-use Rattle.replica_merge.specs.Replicas.{Parts}
 use Rattle.script_io.specs.Records.{Record}
 use Rattle.script_io.specs.Output.{StopsShort}
-use Rattle.script_commands.specs.Commands.{Command, Request, Merge, request_of}
-use Rattle.replies.specs.Refusals.{refusal_faults}
+use Rattle.script_commands.specs.Commands.{Command, Request, request_of}
 use Rattle.replies.specs.Text.{faults_in, is_refusal, said_text}
 use Rattle.replies.specs.declared.ending.Outcome.{Outcome}
 use Rattle.replies.specs.declared.error.RunError.{RunError}
 use Rattle.replies.specs.declared.error.RunError.TheVariants.{InputTooLong, NoMemory, ReadFault, WriteFault}
-use Rattle.replies.specs.declared.refusal.Refusal.{Refusal}
-use Rattle.replies.specs.declared.refusal.Refusal.TheVariants.{TapeDamaged}
 use Rattle.replies.specs.declared.reply.Reply.{Reply}
-use Rattle.replies.specs.declared.reply.Reply.TheVariants as says
 use Rattle.script_machine.specs.Disagreements.{TellsDisagreement}
 use Rattle.script_machine.specs.Headline.{Streams, commands_in}
 use Rattle.script_machine.specs.Limits.{WorksAtLimit}
-use Rattle.script_machine.specs.Views.{Store, Steps, JoinsNames, empty}
+use Rattle.script_machine.specs.Views.{Store, Steps, empty}
 
 -- a command that asks for this and owns these records is answered, over a disk of tapes: the reply and what is kept then are the
 -- machine's; what disagrees is never taken, and disagreement is told of nothing else; the disk failed as often as the reply tells; and an
@@ -31,21 +25,6 @@ pub record Executes {D : Type 0} (g : Ghosts D) (request : Request) (owned : Lis
   pub tells : TellsDisagreement old request owned reply
   pub disk : DiskFrame g (faults_in reply) before after
   pub limit : IsTrue (g.honest before) → WorksAtLimit old request owned reply (g.writes before) (g.writes after)
-
--- what a merge replies that ended so
-abbrev pub merge_says : {T : Type 0} → Result T Refusal → Reply
-merge_says (Ok joined) = says.Merged
-merge_says (Err why) = says.Refused why
-
--- the replicas of two names are joined aside from both, for a merge of them, which replies what is told here
-pub record JoinsNamed {D : Type 0} (g : Ghosts D) (store : Store) (into from : List ℕ) (before : D) (result : Result Parts Refusal)
-    (after : D) : Type 0 where
-  pub joins : JoinsNames (g.honest before) store into from result
-  pub tells : (owned : List Record) → TellsDisagreement store (Merge into from) owned (merge_says result)
-  pub undamaged : IfErr result (λ why. IsTrue (g.honest before) → why ≢ TapeDamaged)
-  pub disk : DiskFrame g (failed refusal_faults result) before after
-  pub limit : IsTrue (g.honest before) → (owned : List Record)
-      → WorksAtLimit store (Merge into from) owned (merge_says result) (g.writes before) (g.writes after)
 
 -- commands are executed one after the other, each where the one before left the session and the disk
 unfoldable pub Executed : {D : Type 0} → Ghosts D → (old : Store) (before : D) → List Command → List Reply → (new : Store) (after : D)

@@ -1,4 +1,13 @@
--- What is promised of a script, from the top: read this file first. Each word is defined in the file that its `use` line names.
+-- What is promised of a script, in one page. `run` of src/engine.rt, which reads a script and writes its replies, promises by its clause
+-- `headline`: if it ends well, over a disk that gives back what was written to it, `WritesRight` holds of what it read and wrote.
+--
+-- A script is CSV: a record is a command, and the rows of a batch follow its `feed`. Origins, such as tills, number their batches from 1.
+-- Replicas take these in any order, and merge. An answer is the table of one GROUP BY query over each origin's batches up to its first
+-- gap. Example.antt beside this has README's script: by this promise it has the output that README shows, and no other.
+--
+-- To read it: a list of ℕ is bytes; `(x : X) → P` says P of every x, `(x : X) × P` of some x; `P × Q` is both; `≡` is equality;
+-- `IfSome o P` says P of what o has, if it has something. A record holds where all of its fields do. A word is defined in the file that
+-- its `use` line names. docs/DEFINITIONS.md has these files in the order in which one comes to them.
 use Rattle.std.specs.Prelude.{ℕ, ◌≡◌, List, length, take, Option, IfSome}
 use Rattle.std.specs.Io.KnownBytes.{Appends}
 use Rattle.grouping_model.specs.World.{World}
@@ -8,37 +17,36 @@ use Rattle.script_io.specs.declared.fused.Fused.{Fused}
 use Rattle.script_commands.specs.Commands.{Command, commands_of}
 use Rattle.script_machine.specs.Agreement.{KnowTheSame, PrintTheSame, after_all}
 use Rattle.script_machine.specs.Machine.{Reply, Agrees, StrictRun, start}
-use Rattle.script_machine.specs.Text.{joined, replies_text}
+use Rattle.script_machine.specs.Text.{Wording, joined, replies_text}
 
--- the commands in a script: its records as RFC 4180 has them, each with those that belong to it
+-- the commands in a script: its records, as the csv crate reads them, each with those that belong to it
 abbrev pub commands_in : List ℕ → List Command
 commands_in script = commands_of (records_of script)
 
--- The premise of origins: each batch that these commands feed to a replica is the one that a history has of its origin and number. A
--- history is a function, so an origin gave a number to one batch.
+-- Assumed of origins: each gives a number to one batch. That is, there is a history, a function from origin and number to rows, that has
+-- each batch which these commands feed. (Their replies tell which replicas are there.)
 abbrev pub KeepNumbers : (history : World) → List Command → List Reply → Type 0
 KeepNumbers history = Agrees history start
 
--- Replies are right, and so are their texts: where origins keep their numbers, each command has the one reply that the machine gives it,
--- beginning where nothing is there, and an answer is the table of SQL's grouping over the history's rows. The premise of memory and of
--- the disk: a command may also be refused for want of memory, or for a fault of the disk, and changes nothing then. So replies that are
--- all NoMemory are right, too.
-abbrev pub AreRight : List Command → List Reply → (texts : List (List ℕ)) → Type 0
-AreRight commands replies texts = (history : World) → KeepNumbers history commands replies
-    → StrictRun start commands replies × (joined texts ≡ replies_text history replies)
+-- Promised of commands whose origins keep their numbers: each is answered as `Replies` of Machine says, beginning where nothing is there,
+-- and the texts are those of the replies, of an answer the table of the query over the history's rows. Assumed of memory and disk: they
+-- don't fail; else a command is refused for that, and changes nothing. So replies that are all `refused NoMemory` are right, too.
+abbrev pub AreRight : Wording → List Command → List Reply → (texts : List (List ℕ)) → Type 0
+AreRight wording commands replies texts = (history : World) → KeepNumbers history commands replies
+    → StrictRun start commands replies × (joined texts ≡ replies_text wording history replies)
 
--- An output is right for a script: it has a reply to each command, in order, and those of every front of the commands are right. So where
--- an origin gives one number to two batches, all replies before that are right still.
-pub record IsRightOutput (script output : List ℕ) : Type 0 where
+-- An output is right for a script: it has a reply to each command, in order, and the first replies are right, however many one takes. So
+-- where an origin gives a number twice, all replies before that are right still.
+pub record IsRightOutput (wording : Wording) (script output : List ℕ) : Type 0 where
   pub replies : List Reply
   pub texts : List (List ℕ)
   pub each : length replies ≡ length (commands_in script)
   pub each_text : length texts ≡ length replies
-  pub right : (front : ℕ) → AreRight (take front (commands_in script)) (take front replies) (take front texts)
+  pub right : (front : ℕ) → AreRight wording (take front (commands_in script)) (take front replies) (take front texts)
   pub whole : output ≡ joined texts
 
--- What a run reads and writes. The premise of streams: its reader tells the bytes of the script, and its writer those that it held before
--- and holds then, as those in memory do. Of a reader that tells no bytes nothing is said.
+-- What a run reads and writes. Assumed of streams: the reader tells the bytes of the script, and the writer those that it held before and
+-- holds now, as those in memory do. Of a reader that tells no bytes (`None`) nothing is promised: files and terminals are trusted.
 pub record Streams : Type 0 where
   pub script : Option (List ℕ)
   pub old : Option (List ℕ)
@@ -48,13 +56,14 @@ abbrev pub streams : {R W : Type 0} → (R → Option (List ℕ)) → (W → Opt
 streams remaining contents reader old new =
     record { script = unread remaining reader; old = written contents old; new = written contents new }
 
--- the promise of `run`, where it ends well over an honest disk, that is one that gives back what was written to it
+-- Promised of a run: it appends a right output. By which words a refusal is named, a query told again and the length of a saved file
+-- told is left open here. The clause `exact` of `run` has these words, and says why each text or batch is refused.
 abbrev pub WritesRight : Streams → Type 0
 WritesRight streams = IfSome streams.script
-    (λ script. (output : List ℕ) × Appends streams.old streams.new output × IsRightOutput script output)
+    (λ script. (wording : Wording) × (output : List ℕ) × Appends streams.old streams.new output × IsRightOutput wording script output)
 
--- the promise of replicas, of one script or of two: those that answer one query and know the same batches print and save the same bytes,
--- whatever came to them, in whatever order and however often
+-- Promised of replicas, of one script or of two, by the law `same_batches_same_bytes`: those that answer one query and know the same
+-- batches print and save the same bytes, in whatever order and however often batches came.
 abbrev pub SameKnowledgeSameBytes : Type 0
 SameKnowledgeSameBytes = (here there : List Reply) (a b : List ℕ) (history other : World)
     → KnowTheSame (after_all start here) (after_all start there) a b history other

@@ -1,4 +1,4 @@
--- What summary files of one query begin with. All of this is our own.
+-- What summary files of one query begin with. Only types that no other crate sees cite this. All of this is our own.
 use Rattle.std.specs.Prelude.{ℕ, List, [], Option, Some, None}
 use Rattle.std.specs.declared.alloc.Global.{Global}
 use Rattle.std.specs.declared.vec.Vec.{Vec}

@@ -1,11 +1,16 @@
 pub mod Headline
 pub mod Machine
 pub mod Text
+pub mod Wording
+pub mod Exact
+pub mod AnyDisk
+pub mod Example
 pub mod Output
 pub mod Heads
 pub mod Views
 pub mod Limits
 pub mod Disagreements
+pub mod Joining
 pub mod Executing
 pub mod Running
 pub mod Agreement

@@ -9,9 +9,11 @@ use Rattle.script_commands.specs.Commands.{Command}
 use Rattle.replies.specs.declared.ending.Outcome.{Outcome}
 use Rattle.replies.specs.declared.error.RunError.{RunError}
 use Rattle.replies.specs.declared.error.RunError.TheVariants.{InputTooLong, ReadFault, NoMemory, WriteFault}
-use Rattle.script_machine.specs.Headline.{Streams, commands_in, AreRight}
-use Rattle.script_machine.specs.Machine.{Reply, Run, start, is_refused, is_fault}
-use Rattle.script_machine.specs.Text.{AllMayRead, joined}
+use Rattle.script_machine.specs.AnyDisk.{Run, AllMayRead, is_refused, is_fault}
+use Rattle.script_machine.specs.Exact.{AreExact}
+use Rattle.script_machine.specs.Headline.{Streams, commands_in}
+use Rattle.script_machine.specs.Machine.{Reply, start}
+use Rattle.script_machine.specs.Text.{joined}
 
 -- the disk of tapes while a run is made: whether it is honest, and how often it had failed before and after
 pub record Disk : Type 0 where
@@ -32,7 +34,7 @@ pub record IsOutput (disk : Disk) (commands : List Command) (replies : List Repl
   pub runs : Run disk.honest start commands replies
   pub faults : AreFaultsOf disk replies
   pub reads : AllMayRead replies texts
-  pub right : IsTrue disk.honest → (front : ℕ) → AreRight (take front commands) (take front replies) (take front texts)
+  pub right : IsTrue disk.honest → (front : ℕ) → AreExact (take front commands) (take front replies) (take front texts)
 
 -- what was written is an output of the commands, of whose replies so many are refusals
 pub record WritesAll (disk : Disk) (commands : List Command) (old new : Option (List ℕ)) (refused : ℕ) : Type 0 where

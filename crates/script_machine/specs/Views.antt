@@ -1,5 +1,5 @@
 -- What a clause sees of the values of the code.
-use Rattle.std.specs.Prelude.{ℕ, ◌≡◌, Bool, false, List, [], length, Option, Some, None, IfSome, IsTrue, option_map, Result, Ok, Err}
+use Rattle.std.specs.Prelude.{ℕ, ◌≡◌, Bool, false, List, [], length, Option, Some, None, IfSome, IsTrue, option_map}
 use Rattle.std.specs.declared.alloc.Global.{Global}
 use Rattle.std.specs.declared.vec.Vec.{Vec}
 use Rattle.std.specs.Map.{lookup}
@@ -10,20 +10,21 @@ use Rattle.grouping_model.specs.declared.delivered.Delivered.{Delivered}
 use Rattle.batch_reader.specs.Rows.{packings}
 use Rattle.packed_rows.specs.Columns.{Column, kinds}
 use Rattle.query_checks.specs.Checks.{Checked}
-use Rattle.replica_merge.specs.Replicas.{Parts, Held, told, Fits, DeliversAt}
-use Rattle.replica_merge.specs.Results.{JoinsHeld, MergesHeld}
+use Rattle.replica_merge.specs.Replicas.{Held, told, Fits, DeliversAt}
+use Rattle.replica_merge.specs.Results.{MergesHeld}
 use Rattle.summary_codec.specs.Reading.{IsSaved}
 use Rattle.script_io.specs.Records.{Record}
 use Rattle.script_commands.specs.Commands.{Request, Replica, Feed, Merge, Save, Load}
 use Rattle.replies.specs.Batches.{Fed, IsBatch}
 use Rattle.replies.specs.Text.{said_text, is_refusal, is_tape_fault}
-use Rattle.replies.specs.declared.refusal.Refusal.{Refusal}
-use Rattle.replies.specs.declared.refusal.Refusal.TheVariants.{NoMemory, OriginDisagrees, TapeFault, TapeDamaged, NoSuchName}
 use Rattle.replies.specs.declared.reply.Reply.{Reply}
 use Rattle.replies.specs.declared.reply.Reply.TheVariants as says
 use Rattle.script_machine.specs.Machine as machine
-use Rattle.script_machine.specs.Machine.{State, IsReply, MayReply, AgreesAt, after}
-use Rattle.script_machine.specs.Text.{MayRead, reply_text}
+use Rattle.script_machine.specs.Machine.{State, IsReply, AgreesAt, after}
+use Rattle.script_machine.specs.Exact.{Exactly}
+use Rattle.script_machine.specs.Wording.{exact_wording}
+use Rattle.script_machine.specs.AnyDisk.{MayReply, MayRead, is_fault, is_refused}
+use Rattle.script_machine.specs.Text.{reply_text}
 
 -- what the code keeps: the columns and the query, once they were told, the replicas by their names, the summary files by theirs, and the
 -- limit of aggregations
@@ -118,14 +119,14 @@ pub record Answers (honest : Bool) (state : State) (request : Request) (owned : 
   pub said : machine.Reply
   pub may : MayReply honest state request owned said
   pub represents : Represents (after state said) new
-  pub refused : is_refusal reply ≡ machine.is_refused said
-  pub faulted : is_tape_fault reply ≡ machine.is_fault said
+  pub refused : is_refusal reply ≡ is_refused said
+  pub faulted : is_tape_fault reply ≡ is_fault said
   pub reads : MayRead said (said_text reply)
   pub strict : IsTrue honest → (world : World) → FitsWorld world old → AgreesAt world state request owned said
-      → IsReply state request owned said
+      → IsReply Exactly state request owned said
   pub fits : IsTrue honest → (world : World) → FitsWorld world old → AgreesAt world state request owned said → FitsWorld world new
   pub text : IsTrue honest → (world : World) → FitsWorld world old → AgreesAt world state request owned said → said_text reply
-      ≡ reply_text world said
+      ≡ reply_text exact_wording world said
 
 -- the replicas and the files stay
 pub record KeepsAll (old new : Store) : Type 0 where
@@ -190,17 +191,3 @@ Becomes honest request owned old reply new = KeepsAll old new
 pub record Steps (honest : Bool) (request : Request) (owned : List Record) (old : Store) (reply : Reply) (new : Store) : Type 0 where
   pub steps : (state : State) → Represents state old → Answers honest state request owned old reply new
   pub becomes : Becomes honest request owned old reply new
-
--- what the replicas of two names hold together, or why it is refused
-abbrev pub JoinRefused : Option Held → Option Held → Refusal → Type 0
-JoinRefused (Some own) (Some theirs) NoMemory = Unit {0}
-JoinRefused (Some own) (Some theirs) TapeFault = Unit {0}
-JoinRefused (Some own) (Some theirs) TapeDamaged = Unit {0}
-JoinRefused (Some own) (Some theirs) (OriginDisagrees origin told) = (world : World) → Fits world own → ¬ (Fits world theirs)
-JoinRefused (Some own) (Some theirs) why = ⊥
-JoinRefused own theirs why = why ≡ NoSuchName
-
-abbrev pub JoinsNames : (honest : Bool) → Store → List ℕ → List ℕ → Result Parts Refusal → Type 0
-JoinsNames honest store into from (Ok joined) =
-    (own theirs : Held) × (replica_at store into ≡ Some own) × (replica_at store from ≡ Some theirs) × JoinsHeld honest own theirs joined
-JoinsNames honest store into from (Err why) = JoinRefused (replica_at store into) (replica_at store from) why

@@ -7,6 +7,7 @@ ghost use Rattle.script_io.specs.Input.{ConsumesAtMost};
 ghost use Rattle.script_commands.specs.Commands.{commands_of};
 ghost use Rattle.script_machine.specs.Views.{empty};
 ghost use Rattle.script_machine.specs.Executing.{Works};
+ghost use Rattle.script_machine.specs.Exact.{WritesExactly};
 ghost use Rattle.script_machine.specs.Headline.{WritesRight, commands_in, streams};
 ghost use Rattle.script_machine.specs.Running.{RunsOver};
 ghost use Rattle.script_machine.specs.Output.{tells_read_fault, tells_write_fault};
@@ -124,6 +125,9 @@ pub fn run<R: Read, W: Write, D: TapeDisk>(
     // The promise: what is written is the right output of the script.
     ensures headline { OnOk result (IsTrue (D.TapeDisk.honest disk.old) → WritesRight
         (streams R.remaining W.contents reader.old writer.old writer.new)) }
+    // The same to the byte: why something is refused, names of refusals, canonical texts, and how long saved files are.
+    ensures exact { OnOk result (IsTrue (D.TapeDisk.honest disk.old) → WritesExactly
+        (streams R.remaining W.contents reader.old writer.old writer.new)) }
     // What holds of any disk, honest or not, and where the run stops: what is written, what commands do, what becomes of the disk.
     ensures any_disk { RunsOver D.TapeDisk disk.old disk.new (streams R.remaining W.contents reader.old writer.old writer.new) result }
     // The script is told to be unreadable exactly where its reader failed.
@@ -147,6 +151,8 @@ pub fn run_observed<R: Read, W: Write, O: Observer, D: TapeDisk>(
 ) -> Result<Outcome, RunError>
     ensures reads { ConsumesAtMost (unread R.remaining reader.old) (unread R.remaining reader.new) (MAX_INPUT_LEN + 1) }
     ensures headline { OnOk result (IsTrue (D.TapeDisk.honest disk.old) → WritesRight
+        (streams R.remaining W.contents reader.old writer.old writer.new)) }
+    ensures exact { OnOk result (IsTrue (D.TapeDisk.honest disk.old) → WritesExactly
         (streams R.remaining W.contents reader.old writer.old writer.new)) }
     ensures any_disk { RunsOver D.TapeDisk disk.old disk.new (streams R.remaining W.contents reader.old writer.old writer.new) result }
     ensures fault { tells_read_fault result ≡ has_failed reader.new }

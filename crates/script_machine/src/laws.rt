@@ -10,18 +10,20 @@ ghost use Rattle.script_io.specs.Records.{Record};
 ghost use Rattle.script_commands.specs.Commands.{Command, Request};
 ghost use Rattle.replies.specs.Batches.{Fed};
 ghost use Rattle.script_machine.specs.Agreement.{OneBatchEach, AreAmong, world_of};
-ghost use Rattle.script_machine.specs.Headline.{AreRight, SameKnowledgeSameBytes};
+ghost use Rattle.script_machine.specs.Example.{HasFirstOutput};
+ghost use Rattle.script_machine.specs.Exact.{AreExact, Exactly};
+ghost use Rattle.script_machine.specs.Headline.{SameKnowledgeSameBytes};
 ghost use Rattle.script_machine.specs.Output.{Disk, IsOutput, WritesFront};
 ghost use Rattle.script_machine.specs.Text.{joined};
-ghost use Rattle.script_machine.specs.Machine.{State, Reply, Replies, Agrees, start};
+ghost use Rattle.script_machine.specs.Machine.{State, Reply, Agrees, start};
 
-/// A command has one reply, memory being there: the machine's step is a function of what is there and the command. There are never
-/// two, nor is there ever none.
+/// A command has one reply with its reason, memory being there: the machine's step is a function of what is there and the command. There
+/// are never two, nor is there ever none.
 pub fn one_reply()
     ensures not_two { (old : State) (request : Request) (owned : List Record) (a b : Reply) →
-        Replies old request owned a → Replies old request owned b → a ≡ b }
+        Exactly old request owned a → Exactly old request owned b → a ≡ b }
     ensures not_none { (old : State) (request : Request) (owned : List Record) →
-        ((reply : Reply) → ¬ (Replies old request owned reply)) → ⊥ }
+        ((reply : Reply) → ¬ (Exactly old request owned reply)) → ⊥ }
 {}
 
 /// Two replicas of one query that know the same batches print and save the same bytes, be they of one script or of two: in whatever order
@@ -36,7 +38,7 @@ pub fn same_batches_same_bytes()
 /// commands, in which each that was not answered is refused for want of memory.
 pub fn outputs_as_a_whole()
     ensures whole { (disk : Disk) (commands : List Command) (replies : List Reply) (texts : List (List ℕ)) →
-        IsOutput disk commands replies texts → IsTrue disk.honest → AreRight commands replies texts }
+        IsOutput disk commands replies texts → IsTrue disk.honest → AreExact commands replies texts }
     ensures front { (disk : Disk) (commands : List Command) (old new : Option (List ℕ)) →
         WritesFront disk commands (StopsShort old new) →
         (replies : List Reply) × (texts : List (List ℕ)) × IsOutput disk commands replies texts × StopsShort old new (joined texts) }
@@ -48,6 +50,11 @@ pub fn one_batch_each_agrees()
     ensures { (feds : List Fed) (commands : List Command) (replies : List Reply) →
         OneBatchEach feds → AreAmong feds start commands replies →
         Agrees (world_of feds) start commands replies }
+{}
+
+/// README's first script has the output that README shows: it is right to the byte, and no other is in which no command is refused.
+pub fn first_example()
+    ensures { HasFirstOutput }
 {}
 
 /// The limits, in digits. Definitions and code cite them by their names.

@@ -10,5 +10,6 @@ mod session;
 
 pub use engine::{Observer, run, run_observed};
 pub use laws::{
-    limits_in_digits, one_batch_each_agrees, one_reply, outputs_as_a_whole, same_batches_same_bytes,
+    first_example, limits_in_digits, one_batch_each_agrees, one_reply, outputs_as_a_whole,
+    same_batches_same_bytes,
 };

@@ -19,7 +19,8 @@ ghost use Rattle.replies.specs.Batches.{IsNoQuery};
 ghost use Rattle.replies.specs.Text.{is_tape_fault};
 ghost use Rattle.replies.specs.declared.reply.Reply.TheVariants as says;
 ghost use Rattle.replies.specs.declared.refusal.Refusal.TheVariants.{NoMemory};
-ghost use Rattle.script_machine.specs.Executing.{Executes, JoinsNamed};
+ghost use Rattle.script_machine.specs.Executing.{Executes};
+ghost use Rattle.script_machine.specs.Joining.{JoinsNamed};
 ghost use Rattle.script_machine.specs.Views.{empty, Steps};
 ghost use Rattle.tape_disks.specs.Disk.{DiskFrame};
 
