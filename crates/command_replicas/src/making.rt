@@ -42,7 +42,7 @@ pub fn load(alloc: Global, file: &[u8]) -> Result<Replica, Refusal>
 }
 
 /// The summary file of a replica: the one spelling of its query and of what it knows, in the second version. A file that would be longer
-/// than the 67,108,864 bytes that are read is `InputTooLong`, want of memory `NoMemory`.
+/// than the 67,108,864 bytes that are read is `InputTooLong`, and is not made. Want of memory is `NoMemory`.
 pub fn save(replica: &Replica) -> Result<SummaryFile, Refusal>
     ensures file { IfOk result (λ file. IsSaved file replica.now.query replica.now.parts) }
     ensures short { IfOk result (λ file. length file ≤ MAX_INPUT_LEN) }
@@ -51,9 +51,10 @@ pub fn save(replica: &Replica) -> Result<SummaryFile, Refusal>
         file ≡ world_file replica.now.query world (told replica.now.parts)) }
     ensures why { IfErr result (IsTooLong replica.now) }
 {
-    let file = replica.save()?;
-    if file.len() > MAX_INPUT_LEN {
+    let len = replica.saved_len()?;
+    if len > MAX_INPUT_LEN {
         return Err(Refusal::Run(RunError::InputTooLong));
     }
+    let file = replica.save()?;
     Ok(SummaryFile::new(file))
 }

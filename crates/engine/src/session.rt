@@ -210,14 +210,11 @@ impl Session {
         ensures file { IfOk result (λ file. IsFileOf self.now.held file.items) }
         ensures why { IfErr result (IsTooLong self.now.held) }
     {
-        let file = match self.replica.save() {
-            Ok(file) => file,
-            Err(_) => return Err(Refusal::NoMemory),
-        };
-        if file.len() > MAX_INPUT_LEN {
+        let len = self.replica.saved_len()?;
+        if len > MAX_INPUT_LEN {
             return Err(Refusal::Run(RunError::InputTooLong));
         }
-        Ok(file)
+        Ok(self.replica.save()?)
     }
 
     /// The answer of the query: how many rows it has, and its table in a format. The only error is a failed allocation.

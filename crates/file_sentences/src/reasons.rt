@@ -171,7 +171,7 @@ pub fn saving_reason(
     if why != Refusal::Run(RunError::InputTooLong) {
         return Ok(None);
     }
-    let len = replica.save()?.len();
+    let len = replica.saved_len()?;
     let said = format!(in alloc; "more than 67,108,864 bytes: it would have {len}")?;
     Ok(Some(Reason::whole(alloc, said)))
 }

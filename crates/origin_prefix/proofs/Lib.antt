@@ -4,3 +4,4 @@ pub mod PartLaws
 pub mod CountLaws
 pub mod DeliverLaws
 pub mod JoinLaws
+pub mod AsideLaws

@@ -1,6 +1,6 @@
 -- The batches that follow a prefix: what they bring, and what becomes of a part that takes them.
 use Rattle.std.specs.Prelude.{◌≡◌, refl, ℕ, zero, suc, ◌+◌, ◌*◌, ◌<◌, ◌≤◌, ◌==◌, Bool, true, false, cond, List, [], ◌∷◌, map, filter, take}
-use Rattle.std.specs.Prelude.{drop, length, if◌then◌else◌, IsTrue}
+use Rattle.std.specs.Prelude.{drop, length, if◌then◌else◌}
 use Rattle.std.proofs.Common.{◌∙◌, sym, ap, subst, inl, inr, arith}
 use Rattle.std.proofs.lemmas.List.{length-map, length-append}
 use Rattle.std.proofs.lemmas.List.Sums.{sum_by-cons}

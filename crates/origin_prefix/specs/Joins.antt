@@ -1,5 +1,6 @@
 -- What becomes of two parts of one origin that are joined. All of this is our own.
-use Rattle.std.specs.Prelude.{◌≡◌, ◌≢◌, ℕ, ◌<◌, ◌≤◌, ◌⊎◌, max, nat_lt, Bool, List, map, Option, Some, None}
+use Rattle.std.specs.Prelude.{◌≡◌, ◌≢◌, ℕ, ◌+◌, ◌<◌, ◌≤◌, ◌⊎◌, max, nat_lt, nat_eq, Bool, List, [], map, length, Option, Some, None, option_map}
+use Rattle.std.specs.Prelude.{unwrap_or}
 use Rattle.std.specs.Prelude.{if◌then◌else◌, Result, IfOk, IfErr, OnOk}
 use Rattle.std.specs.List.{AllByRecursion}
 use Rattle.std.specs.List.Sorted.{IsStrictlySortedBy}
@@ -87,6 +88,48 @@ pub record Joins (honest : Bool) (query : Query) (a b new : Part) : Type 0 where
 pub record Joining (honest : Bool) (query : Checked) (a b : Part) (result : Result Part JoinError) : Type 0 where
   pub joins : IfOk result (Joins honest (meaning query) a b)
   pub part : IfOk result (IsPartOf query)
+  pub agree : OnOk result (¬ (PartsDisagree a b))
+  pub tells : IfErr result (λ why. JoinTells why a b)
+
+-- what a place holds, if it is there, once rows that may be there were put into it
+abbrev pub put_into : (place rows : Option (List (List ℕ))) → Option (List (List ℕ))
+put_into None rows = None
+put_into (Some empty) rows = either rows (Some empty)
+
+-- batches in places under the same numbers: those that are kept, and where none is kept what stands in the place
+abbrev pub with_rows : (kept places : Batches) → Batches
+with_rows kept places = map (λ (place : ℕ × List (List ℕ)). (place.0, unwrap_or (rows_at kept place.0) place.1)) places
+
+-- a part keeps its prefix and its groups, and has the early batches that stand aside for it, or its own where none do
+abbrev pub gaining : (own aside : Part) → Part
+gaining own aside = record {
+  prefix = own.prefix;
+  run = own.run;
+  early = if nat_eq (length aside.early) 0 then own.early else with_rows own.early aside.early;
+}
+
+-- a part takes in what stands aside for it: a part with a prefix in its place, and else the early batches alone
+abbrev pub settled : (own aside : Part) → Part
+settled own aside = if nat_eq aside.prefix 0 then gaining own aside else aside
+
+-- a part keeps its prefix and its groups where it is joined with another one, whose prefix is not longer and whose early batches don't follow
+pub record KeepsGroups (own other : Part) : Type 0 where
+  pub longer : other.prefix ≤ own.prefix
+  pub gap : rows_at other.early (own.prefix + 1) ≡ None
+
+-- the early batches of two parts of which the first keeps its groups stand aside for it, with a place for each of its own
+pub record StandAside (own other aside : Part) : Type 0 where
+  pub prefix : aside.prefix ≡ 0
+  pub run : aside.run ≡ []
+  pub rising : IsStrictlySortedBy nat_cmp (map (λ (batch : ℕ × List (List ℕ)). batch.0) aside.early)
+  pub rows : (number : ℕ) → rows_at aside.early number ≡ either (option_map (λ _. []) (rows_at own.early number))
+      (if nat_lt own.prefix number then rows_at other.early number else None)
+
+-- two parts are joined aside from both: what the first becomes by taking that in is what both give, or what refuses them says why
+pub record JoiningAside (honest : Bool) (query : Checked) (a b : Part) (result : Result Part JoinError) : Type 0 where
+  pub joins : IfOk result (λ aside. Joins honest (meaning query) a b (settled a aside))
+  pub part : IfOk result (λ aside. IsPartOf query (settled a aside))
+  pub groups : IfOk result (λ aside. aside.prefix ≡ 0 → aside.run ≡ [])
   pub agree : OnOk result (¬ (PartsDisagree a b))
   pub tells : IfErr result (λ why. JoinTells why a b)
 

@@ -8,8 +8,9 @@ ghost use Rattle.hash_agg.specs.Inputs.{Packed, brought};
 ghost use Rattle.origin_prefix.specs.Parts.{rows_at, IsBehind, following, rows_following};
 ghost use Rattle.grouping_model.specs.Datum.{Kind};
 ghost use Rattle.std.specs.List.Sorted.{IsStrictlySortedBy};
-ghost use Rattle.std.specs.Ordering.{nat_cmp};
-ghost use Rattle.origin_prefix.specs.Joins.{either, IsFirstDifference, AreAmong};
+ghost use Rattle.std.specs.Ordering.{eq_by_cmp, nat_cmp};
+ghost use Rattle.std.specs.Prelude.{[], cond, option_map};
+ghost use Rattle.origin_prefix.specs.Joins.{either, put_into, with_rows, IsFirstDifference, AreAmong};
 ghost use Rattle.std.specs.Option.{option_copied};
 
 use batch_reader::PackedRows;
@@ -77,6 +78,46 @@ pub(crate) fn copy_above(
         }
     }
     Ok(())
+}
+
+/// A place under each number, in which there are no rows.
+pub(crate) fn places(
+    alloc: Global,
+    early: &BTreeMap<u32, PackedRows>,
+) -> Result<BTreeMap<u32, PackedRows>, AllocError>
+    ensures rising { IfOk result (λ places. IsStrictlySortedBy nat_cmp
+        (map (λ (batch : ℕ × List (List ℕ)). batch.0) places.entries)) }
+    ensures rows { IfOk result (λ places. (n : ℕ) → rows_at places.entries n
+        ≡ option_map (λ _. []) (rows_at early.now.entries n)) }
+{
+    let mut places = BTreeMap::new(alloc);
+    for (number, _) in early {
+        places.insert(*number, PackedRows::new(alloc))?;
+    }
+    Ok(places)
+}
+
+/// Puts rows into the place of their number, if there is one.
+fn put_rows(places: &mut BTreeMap<u32, PackedRows>, number: u32, rows: PackedRows)
+    ensures rising { IsStrictlySortedBy nat_cmp
+        (map (λ (batch : ℕ × List (List ℕ)). batch.0) places.new.entries) }
+    ensures rows { (n : ℕ) → rows_at places.new.entries n ≡ cond (eq_by_cmp nat_cmp n number)
+        (put_into (rows_at places.old.entries n) (Some rows)) (rows_at places.old.entries n) }
+{
+    if let Some(place) = places.get_mut(&number) {
+        *place = rows;
+    }
+}
+
+/// Puts the rows of batches into the places of their numbers. It takes no memory.
+pub(crate) fn put_all(places: &mut BTreeMap<u32, PackedRows>, kept: BTreeMap<u32, PackedRows>)
+    requires { IsStrictlySortedBy nat_cmp
+        (map (λ (batch : ℕ × List (List ℕ)). batch.0) places.old.entries) }
+    ensures { places.new.entries ≡ with_rows kept.entries places.old.entries }
+{
+    for (number, rows) in kept {
+        put_rows(places, number, rows);
+    }
 }
 
 /// The first number behind another one that is there in both, with different rows.

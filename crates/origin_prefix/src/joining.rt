@@ -1,18 +1,21 @@
 //! Joining two parts of one origin.
 
-ghost use Rattle.std.specs.Prelude.{◌≡◌, ◌≤◌, ◌↔◌, ℕ, Option, IfOk, IfErr, IsTrue};
+ghost use Rattle.std.specs.Prelude.{◌≡◌, ◌≢◌, ◌≤◌, ◌↔◌, ℕ, Option, IfOk, IfErr, IsTrue};
+ghost use Rattle.grouping_model.specs.declared.limits.TheConstants.{LAST_NUMBER};
 ghost use Rattle.having_filter.specs.Meaning.{meaning};
 ghost use Rattle.hash_agg.specs.Ran.{Ran, ended};
 ghost use Rattle.origin_prefix.specs.Errors.{join_ended};
 ghost use Rattle.origin_prefix.specs.Parts.{Batches, IsPartOf, Drains};
 ghost use Rattle.origin_prefix.specs.Joins.{PartsDisagree, DisagreeAt, Joining, JoinIsCounted, Unites, UniteIsCounted, Includes};
+ghost use Rattle.origin_prefix.specs.Joins.{settled, KeepsGroups, StandAside, JoiningAside};
 ghost use Rattle.origin_prefix.specs.declared.error.JoinError.TheVariants.{OriginDisagrees};
 
-use crate::early::{are_among, copy_above, first_difference};
+use crate::early::{are_among, copy_above, first_difference, places, put_all};
 use crate::error::JoinError;
 use crate::part::OriginPart;
-use hash_agg::{KeyHash, Means, SpillError, TapeDisk, Work};
+use hash_agg::{KeyHash, Means, Run, SpillError, TapeDisk, Work};
 use having_filter::Query;
+use std::alloc::AllocError;
 use std::collections::BTreeMap;
 
 impl OriginPart {
@@ -39,6 +42,73 @@ impl OriginPart {
             return Ok(other.united(self, query, means, disk, work)?);
         }
         Ok(self.united(other, query, means, disk, work)?)
+    }
+
+    /// What this part takes in so that it is what [`join`](OriginPart::join) gives of both: [`settle`](OriginPart::settle) moves it in. Where
+    /// early batches alone are added, neither the groups nor the rows of this part are copied.
+    pub fn join_aside<H: KeyHash + Copy, D: TapeDisk>(
+        &self,
+        other: &OriginPart,
+        query: &Query,
+        means: &Means<H>,
+        disk: &mut D,
+        work: &mut Work,
+    ) -> Result<OriginPart, JoinError>
+        requires part { IsPartOf query.now self.now }
+        requires other { IsPartOf query.now other.now }
+        ensures joining { JoiningAside (D.honest disk.old) query.now self.now other.now result }
+        ensures ran { Ran D.TapeDisk H.hash_of query.now means.now (JoinIsCounted self.now other.now) (join_ended result) disk.old
+            work.old disk.new work.new }
+    {
+        if !self.keeps_groups(other) {
+            return self.join(other, query, means, disk, work);
+        }
+        self.agree(other)?;
+        Ok(self.early_aside(other)?)
+    }
+
+    /// Takes the place of another part of the origin: this one has stood aside for it since both were joined. It takes no memory.
+    pub fn settle(&mut self, own: OriginPart)
+        ensures { self.new ≡ settled own self.old }
+    {
+        if self.prefix > 0 {
+            return;
+        }
+        if self.early.len() == 0 {
+            *self = own;
+            return;
+        }
+        let OriginPart {
+            alloc: _,
+            prefix,
+            run,
+            early,
+        } = own;
+        put_all(&mut self.early, early);
+        self.prefix = prefix;
+        self.run = run;
+    }
+
+    /// Whether this part keeps its prefix and its groups where it is joined with another one.
+    fn keeps_groups(&self, other: &OriginPart) -> bool
+        ensures { IsTrue result ↔ ((self.now.prefix ≢ LAST_NUMBER) × KeepsGroups self.now other.now) }
+    {
+        if other.prefix > self.prefix {
+            return false;
+        }
+        if self.prefix == u32::MAX {
+            return false;
+        }
+        !other.early.contains_key(&(self.prefix + 1))
+    }
+
+    /// The early batches of both parts behind the prefix of this one, with a place for each of its own.
+    fn early_aside(&self, other: &OriginPart) -> Result<OriginPart, AllocError>
+        ensures { IfOk result (StandAside self.now other.now) }
+    {
+        let mut early = places(self.alloc, &self.early)?;
+        copy_above(self.alloc, &other.early, self.prefix, &mut early)?;
+        Ok(OriginPart::from_fields(self.alloc, 0, Run::new(self.alloc), early))
     }
 
     /// Whether this part includes another one of the origin: then both agree, and joined they give this part again, so that a caller need

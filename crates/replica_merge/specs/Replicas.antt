@@ -1,6 +1,6 @@
 -- What a replica holds and knows, and when it fits a world. All of this is our own.
-use Rattle.std.specs.Prelude.{◌≡◌, ◌≢◌, ℕ, ◌*◌, ◌<◌, ◌⊎◌, List, ◌++◌, map, flat_map, Option, Some, None, option_map, unwrap_or, Bool}
-use Rattle.std.specs.Prelude.{if◌then◌else◌, true, false, IsSome}
+use Rattle.std.specs.Prelude.{◌≡◌, ◌≢◌, ℕ, ◌*◌, ◌<◌, List, ◌++◌, map, flat_map, Option, Some, None, option_map, unwrap_or, Bool}
+use Rattle.std.specs.Prelude.{true, false, IsSome}
 use Rattle.std.specs.BTreeMap.{insert_entry, is_at}
 use Rattle.std.specs.List.Sorted.{IsStrictlySortedBy}
 use Rattle.std.specs.Map.{lookup, remove_entry}
@@ -16,10 +16,10 @@ use Rattle.query_checks.specs.Checks.{Checked}
 use Rattle.having_filter.specs.Meaning.{meaning}
 use Rattle.query_checks.specs.Spelling.{spelling}
 use Rattle.batch_reader.specs.declared.batch.Batch as packed
-use Rattle.origin_prefix.specs.Parts.{Part, empty, is_nothing, IsPartOf, Delivers, BatchTells}
+use Rattle.origin_prefix.specs.Parts.{Part, empty, IsPartOf, Delivers, BatchTells}
 use Rattle.origin_prefix.specs.declared.error.JoinError.{JoinError}
 use Rattle.origin_prefix.specs.declared.error.RefusedBatch.{RefusedBatch}
-use Rattle.origin_prefix.specs.Joins.{Joins, PartsDisagree, JoinTells}
+use Rattle.origin_prefix.specs.Joins.{Joins, PartsDisagree, JoinTells, settled}
 use Rattle.origin_prefix.specs.Fitting.{FitsOrigin}
 pub use Rattle.origin_prefix.specs.Held.{Parts, IsHeldPart, AreHeldParts}
 use Rattle.replica_merge.specs.declared.known_origin.KnownOrigin as code
@@ -76,9 +76,15 @@ pub record MergesIn (world : World) (query : Checked) (own theirs new : Parts) :
   pub their_fits : Fits world (record { query = query; parts = theirs })
   pub merges : MergesParts true query own theirs new
 
--- what stands aside of an origin is this part, or, where the part is the own one, a place for it
+-- what a place holds once the own part was put back: the part that the own one becomes by taking in what stands there
+abbrev pub filled : Option Part → Option Part → Option Part
+filled None old = None
+filled (Some new) None = Some new
+filled (Some new) (Some old) = Some (settled old new)
+
+-- what stands aside of an origin is this part, once the own one was put back
 abbrev pub StandsAside : (old new : Option Part) → Part → Type 0
-StandsAside old new part = (new ≡ Some part) ⊎ ((old ≡ Some part) × (new ≡ Some empty))
+StandsAside old new part = filled new old ≡ Some part
 
 -- what stands aside of an origin while two replicas are merged: the parts of both, joined, or where the other has none, a place for
 -- the own one
@@ -90,12 +96,6 @@ AsideAt honest query own old (Some theirs) new = (part : Part) × StandsAside ol
 pub record JoinedAside (honest : Bool) (query : Checked) (old other joined : Parts) : Type 0 where
   pub rising : IsStrictlySortedBy nat_cmp (map (λ (held : ℕ × Part). held.0) joined)
   pub at : (origin : ℕ) → AsideAt honest query (part_of old origin) (part_at old origin) (part_at other origin) (part_at joined origin)
-
--- what a place holds once the own part was put back where nothing else came
-abbrev pub filled : Option Part → Option Part → Option Part
-filled None old = None
-filled (Some new) None = Some new
-filled (Some new) (Some old) = if is_nothing new then Some old else Some new
 
 -- the parts of an origin disagree
 pub record DisagreeSomewhere (own theirs : Parts) : Type 0 where

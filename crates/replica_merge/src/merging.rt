@@ -19,8 +19,8 @@ use std::collections::BTreeMap;
 use std::marker::Model;
 use std::mem::replace;
 
-/// What two replicas hold together, built aside from both: for each origin that the other one has, the joined part; and an empty place for
-/// each part that stays, since the other has none or it includes the other's.
+/// What two replicas hold together, built aside from both. For each origin that the other one has, it is what the own part takes in to
+/// become what both give. A part that stays has an empty place: the other replica has none, or it includes the other's.
 #[derive(Drop)]
 pub struct Joined {
     parts: BTreeMap<u16, OriginPart>,
@@ -107,14 +107,14 @@ fn join_all<H: KeyHash + Copy, D: TapeDisk>(
             continue;
         }
         let own = part_or(own, *origin, &nothing);
-        let part = match own.join(part, query, means, disk, &mut counted) {
-            Ok(part) => part,
+        let aside = match own.join_aside(part, query, means, disk, &mut counted) {
+            Ok(aside) => aside,
             Err(why) => {
                 let origin = *origin;
                 return Err(MergeError::Join { origin, why });
             }
         };
-        if joined.insert(*origin, part).is_err() {
+        if joined.insert(*origin, aside).is_err() {
             return Err(MergeError::NoMemory);
         }
     }
@@ -122,21 +122,19 @@ fn join_all<H: KeyHash + Copy, D: TapeDisk>(
     Ok(Joined { parts: joined })
 }
 
-/// Puts a part back to its place, if nothing else came there.
+/// Puts a part back to its place, where it takes in what stands there.
 fn put_back(parts: &mut BTreeMap<u16, OriginPart>, origin: u16, part: OriginPart)
     ensures at { (o : ℕ) → part_at parts.new.entries o ≡ cond (eq_by_cmp nat_cmp o origin)
         (filled (part_at parts.old.entries o) (Some part)) (part_at parts.old.entries o) }
     ensures rising { IsStrictlySortedBy nat_cmp
         (map (λ (held : ℕ × Part). held.0) parts.new.entries) }
 {
-    if let Some(place) = parts.get_mut(&origin) {
-        if place.is_empty() {
-            *place = part;
-        }
+    if let Some(aside) = parts.get_mut(&origin) {
+        aside.settle(part);
     }
 }
 
-/// Puts parts back to their places, where nothing else came.
+/// Puts parts back to their places, where they take in what stands there.
 fn fill(parts: &mut BTreeMap<u16, OriginPart>, old: BTreeMap<u16, OriginPart>)
     requires { IsStrictlySortedBy nat_cmp
         (map (λ (held : ℕ × Part). held.0) parts.old.entries) }

@@ -2,6 +2,7 @@
 
 ghost use Rattle.std.specs.Prelude.{◌≡◌, IfOk};
 ghost use Rattle.grouping_model.specs.World.{World};
+ghost use Rattle.summary_codec.specs.Lengths.{HasLength};
 ghost use Rattle.summary_codec.specs.Reading.{IsSaved};
 ghost use Rattle.summary_codec.specs.WorldFile.{world_file};
 ghost use Rattle.replica_merge.specs.Replicas.{told, Fits};
@@ -10,7 +11,7 @@ ghost use Rattle.replica_merge.specs.Results.{LoadsReplica};
 use crate::replica::Replica;
 use having_filter::Query;
 use std::alloc::{AllocError, Global};
-use summary_codec::{SummaryError, decode_sharing, encode};
+use summary_codec::{SummaryError, decode_sharing, encode, encoded_len};
 
 impl Replica {
     /// The summary file of the query and of what is known: the one spelling of both, in the second version. The only error is a failed
@@ -22,6 +23,14 @@ impl Replica {
             bytes.items ≡ world_file self.now.query world (told self.now.parts)) }
     {
         encode(self.alloc, &self.query, &self.parts)
+    }
+
+    /// How many bytes the file has that [`Replica::save`] gives, or the greatest number where they are more. The file is not made for that.
+    /// The only error is a failed allocation.
+    pub fn saved_len(&self) -> Result<usize, AllocError>
+        ensures { IfOk result (HasLength self.now.query self.now.parts) }
+    {
+        encoded_len(&self.query, &self.parts)
     }
 
     /// The replica that a summary file is of, of either version. Any bytes are read: those that are no such file are refused, by the first

@@ -4,3 +4,4 @@ pub mod LoopLaws
 pub mod GroupLaws
 pub mod WriteLaws
 pub mod KnownLaws
+pub mod CountedLaws

@@ -6,3 +6,4 @@ pub mod WorldFile
 pub mod Worlds
 pub mod Names
 pub mod Lemmas
+pub mod Lengths

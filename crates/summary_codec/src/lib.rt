@@ -4,12 +4,14 @@
 mod error;
 mod fields;
 mod laws;
+mod length;
 mod reading;
 mod version;
 mod writing;
 
 pub use error::SummaryError;
 pub use laws::{files_of_the_known, files_of_worlds, one_spelling, versions};
+pub use length::encoded_len;
 pub use reading::{decode, decode_sharing};
 pub use version::{LAST_NUMBER_OF_FIRST, MAX_ROWS_OF_FIRST, Version};
 pub use writing::encode;

@@ -1,5 +1,5 @@
 -- A part that includes another one stays where it is joined with that.
-use Rattle.std.specs.Prelude.{◌≡◌, ◌≢◌, refl, ℕ, suc, ◌+◌, ◌<◌, ◌*◌, ◌==◌, ◌⊎◌, max, nat_lt, Bool, true, false, List, [], ◌∷◌, map}
+use Rattle.std.specs.Prelude.{◌≡◌, refl, ℕ, suc, ◌+◌, ◌<◌, ◌*◌, ◌==◌, nat_lt, Bool, false, List, [], ◌∷◌, map}
 use Rattle.std.specs.Prelude.{take, drop}
 use Rattle.std.specs.Prelude.{Option, Some, None, if◌then◌else◌}
 use Rattle.std.proofs.Common.{◌∙◌, sym, ap, subst, inl, inr, arith}
@@ -15,7 +15,7 @@ use Rattle.hash_agg.specs.Counting.{AreCounted}
 use Rattle.hash_agg.specs.declared.work.Work.{Work}
 use Rattle.origin_prefix.specs.Parts.{Batches, Part, rows_at, IsEarly, IsPartOf, Drains, Folds, following, aggregation_of}
 use Rattle.origin_prefix.specs.Parts.{aggregations_behind}
-use Rattle.origin_prefix.specs.Joins.{either, longer, Unites, Joins, DiffersBehind, PartsDisagree, JoinIsCounted, Includes, StaysJoined}
+use Rattle.origin_prefix.specs.Joins.{either, Unites, PartsDisagree, Includes, StaysJoined}
 use Rattle.origin_prefix.specs.Lemmas.ByNumber.{some_is}
 
 -- where the first is what the second is, if that is there, it is either of both

@@ -8,7 +8,7 @@ use Rattle.std.specs.Option.{is_some}
 use Rattle.std.specs.List.Sorted.{IsStrictlySortedBy}
 use Rattle.std.specs.BTreeMap.{BTreeMap, insert_entry, WritesThrough}
 use Rattle.std.specs.Ordering.{eq_by_cmp, nat_cmp}
-use Rattle.replica_merge.specs.Lemmas.Words.{World, IsWorld, union, Query, kinds, Checked, meaning, Part, empty, tells, is_nothing}
+use Rattle.replica_merge.specs.Lemmas.Words.{World, IsWorld, union, Query, kinds, Checked, meaning, Part, empty, tells}
 use Rattle.replica_merge.specs.Lemmas.Words.{IsPartOf}
 use Rattle.replica_merge.specs.Lemmas.Words.{either, Joins, PartsDisagree, DisagreeAt, JoinTells, JoinIsCounted, OriginDisagrees}
 use Rattle.replica_merge.specs.Lemmas.Words.{StaysJoined}
@@ -16,6 +16,8 @@ use Rattle.replica_merge.specs.Lemmas.Words.{FitsOrigin}
 use Rattle.replica_merge.specs.Lemmas.Words.{Parts, part_at, part_of, told, Fits, IsHeldPart, AreHeldParts, AsideAt, JoinedAside, JoinsAt}
 use Rattle.replica_merge.specs.Lemmas.Words.{MergesParts, StandsAside}
 use Rattle.replica_merge.specs.Lemmas.Words.{DisagreeSomewhere, IsFirstRefused, filled, MergeIsCounted}
+use Rattle.origin_prefix.specs.Parts.{Batches}
+use Rattle.origin_prefix.specs.Joins.{gaining, settled, with_rows}
 use Rattle.grouping_model.specs.KnowledgeLaws.{same_knowledge, knows_union}
 use Rattle.aggregation_cost.specs.Space.{Setting}
 use Rattle.hash_agg.specs.declared.work.Work.{Work}
@@ -64,21 +66,53 @@ placed old rest n p all o before = go (same_or_other o n)
 
 -- ---- joining
 
+-- where nothing was held, what stands aside is what is held
+kept_alone : (places : Batches) → with_rows [] places ≡ places
+kept_alone [] = refl
+kept_alone (place ∷ places) = ap (λ rest. place ∷ rest) (kept_alone places)
+
+settled_none : (aside : Part) → (aside.prefix ≡ 0 → aside.run ≡ []) → settled empty aside ≡ aside
+settled_none aside groups =
+    elim (nat_eq aside.prefix 0) as (λ b. nat_eq aside.prefix 0 ≡ b → (if b then gaining empty aside else aside) ≡ aside) [
+      | true ↦ λ e.
+          let none : aside.prefix ≡ 0 = grind arith in
+          λ i. record { prefix = sym none i; run = sym (groups none) i; early = early i }
+      | false ↦ λ e. refl
+    ] refl
+  where
+    no_batches : (batches : Batches) → length batches ≡ 0 → [] ≡ batches
+    no_batches [] e = refl
+    no_batches (b ∷ batches) e = absurd (omega (arith, e))
+
+    early : (if nat_eq (length aside.early) 0 then [] else with_rows [] aside.early) ≡ aside.early
+    early = elim (nat_eq (length aside.early) 0) as (λ b. nat_eq (length aside.early) 0 ≡ b
+        → (if b then [] else with_rows [] aside.early) ≡ aside.early) [
+          | true ↦ λ e. no_batches aside.early (grind arith)
+          | false ↦ λ e. kept_alone aside.early
+        ] refl
+
+-- the own part, if there is one, becomes what is joined
+stands_aside : (mine : Option Part) (aside : Part) → (aside.prefix ≡ 0 → aside.run ≡ [])
+    → StandsAside mine (Some aside) (settled (unwrap_or mine empty) aside)
+stands_aside None aside groups = ap Some (sym (settled_none aside groups))
+stands_aside (Some mine) aside groups = refl
+
 -- one origin more was joined
 pub joined_more : (honest : Bool) (query : Checked) (own old_parts theirs_all old rest : Parts) (n : ℕ) (p new : Part)
     → IsStrictlySortedBy nat_cmp (numbers ((n, p) ∷ rest))
-    → Joins honest (meaning query) (part_of own n) p new → IsPartOf query new → ¬ (PartsDisagree (part_of own n) p)
+    → Joins honest (meaning query) (part_of own n) p (settled (part_of own n) new) → IsPartOf query (settled (part_of own n) new)
+    → (new.prefix ≡ 0 → new.run ≡ []) → ¬ (PartsDisagree (part_of own n) p)
     → (o : ℕ) → JoinedSoFar honest query (part_of own o) (part_at own o) (part_at theirs_all o) (part_at ((n, p) ∷ rest) o) (part_at old o)
     → JoinedSoFar honest query (part_of own o) (part_at own o) (part_at theirs_all o) (part_at rest o)
     (part_at (insert_entry nat_cmp old n new) o)
-joined_more honest query own old_parts all old rest n p new rising joins is agree o before = go (same_or_other o n)
+joined_more honest query own old_parts all old rest n p new rising joins is groups agree o before = go (same_or_other o n)
   where
     at_one : (all_o : Option Part) → all_o ≡ Some p → JoinedSoFar honest query (part_of own n) (part_at own n) all_o None (Some new)
     at_one None e = absurd (true≢false (sym (ap is_some e)))
     at_one (Some q) e = (
-      new,
-      inl refl,
-      subst (λ (t : Part). Joins honest (meaning query) (part_of own n) t new) new_is joins,
+      settled (part_of own n) new,
+      stands_aside (part_at own n) new groups,
+      subst (λ (t : Part). Joins honest (meaning query) (part_of own n) t (settled (part_of own n) new)) new_is joins,
       is,
       λ d. agree
           (subst (PartsDisagree (part_of own n)) (sym new_is) d),
@@ -125,7 +159,7 @@ stays_more honest query own all old rest n p mine rising own_is is stays o befor
     aside : AsideAt honest query (part_of own n) (part_at own n) (Some p) (Some empty)
     aside = subst (λ (t : Part). AsideAt honest query t (part_at own n) (Some p) (Some empty)) mine_is (
       mine,
-      inr (own_is, refl),
+      ap (filled (Some empty)) own_is,
       stays.joins honest,
       is,
       stays.agree,
@@ -182,8 +216,7 @@ back_at old rest n p new rising put o = go (same_or_other o n)
   where
     drained : (x : Option Part) → filled (filled x (Some p)) None ≡ filled x (Some p)
     drained None = refl
-    drained (Some q) = elim (is_nothing q) as (λ b. filled (if b then Some p else Some q) None ≡ (if b then Some p else Some q))
-        [ true ↦ refl | false ↦ refl ]
+    drained (Some q) = refl
 
     go : (o ≡ n) ⊎ (o ≢ n) → filled (part_at new o) (part_at rest o) ≡ filled (part_at old o) (part_at ((n, p) ∷ rest) o)
     go (inl same) =
@@ -224,14 +257,6 @@ some_joined honest query own theirs new o is held joins =
     let some = some_told query o theirs held in
     some_if_tells new some.0 (joined_tells honest query (meaning query) own theirs new is held.part joins some.0
     ∙ or_right (tells own some.0) (tells theirs some.0) some.2)
-
-not_nothing : (p : Part) → (0 < p.prefix) ⊎ (p.early ≢ []) → is_nothing p ≡ false
-not_nothing p (inl some) = let e : nat_eq p.prefix 0 ≡ false = grind arith in ap (λ b. b && nat_eq (length p.early) 0) e
-not_nothing p (inr some) = and_right (nat_eq p.prefix 0) (nat_eq (length p.early) 0) (of_early p.early some)
-  where
-    of_early : (es : List (ℕ × List (List ℕ))) → es ≢ [] → nat_eq (length es) 0 ≡ false
-    of_early [] some = absurd (some refl)
-    of_early (e ∷ es) some = grind arith
 
 -- what is told after a merge
 merges_tells : (honest : Bool) (query : Checked) (old other new : Parts) → AreHeldParts query old → AreHeldParts query other
@@ -280,14 +305,6 @@ module _ (honest : Bool) (query : Checked) (old other joined new : Parts) (held 
   own_back None = refl
   own_back (Some p) = refl
 
-  kept : (p : Part) (mine : Option Part) → is_nothing p ≡ false → filled (Some p) mine ≡ Some p
-  kept p None e = refl
-  kept p (Some q) e = ap (λ b. if b then Some q else Some p) e
-
-  aside_back : (p : Part) (mine there : Option Part) → is_nothing p ≡ false → StandsAside mine there p → filled there mine ≡ Some p
-  aside_back p mine there some (inl is) = ap (λ x. filled x mine) is ∙ kept p mine some
-  aside_back p mine there some (inr is) = λ i. filled (is.1 i) (is.0 i)
-
   merges_at : (o : ℕ) → JoinsAt honest query (part_of old o) (part_at old o) (part_at other o) (part_at new o)
   merges_at o = go (part_at other o) refl (aside.at o)
     where
@@ -296,9 +313,7 @@ module _ (honest : Bool) (query : Checked) (old other joined new : Parts) (held 
       go None e at = back o ∙ ap (λ x. filled x (part_at old o)) at ∙ own_back (part_at old o)
       go (Some t) e at = (
         at.0,
-        back o ∙ aside_back at.0 (part_at old o) (part_at joined o)
-            (not_nothing at.0 (some_joined honest query (part_of old o) t at.0 o (part_is query old held o)
-            (held_part query other theirs o t e) at.2)) at.1,
+        back o ∙ at.1,
         at.2,
       )
 
@@ -320,8 +335,7 @@ module _ (honest : Bool) (query : Checked) (old other joined new : Parts) (held 
       go o p there (Some t) e at =
           let h : IsHeldPart query (o, t) = held_part query other theirs o t e in
           let some = some_joined honest query (part_of old o) t at.0 o (part_is query old held o) h at.2 in
-          let is : at.0 ≡ p = some_is at.0 p (sym (back o ∙ aside_back at.0 (part_at old o) (part_at joined o) (not_nothing at.0 some) at.1)
-          ∙ there) in
+          let is : at.0 ≡ p = some_is at.0 p (sym (back o ∙ at.1) ∙ there) in
           subst (λ q. IsHeldPart query (o, q)) is (record { within = h.within; part = at.3; some = some })
 
   pub merged_told : IsStrictlySortedBy nat_cmp (numbers new) → told new ≡ union (told old) (told other)

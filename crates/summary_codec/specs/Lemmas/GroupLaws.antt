@@ -1,5 +1,5 @@
 -- How many bytes a row of states has.
-use Rattle.std.proofs.Common.{◌≡◌, refl, ◌-◌, ◌+◌, List, [], ◌∷◌, sym, ap, ◌∙◌}
+use Rattle.std.proofs.Common.{◌≡◌, refl, ◌+◌, List, [], ◌∷◌, sym, ap, ◌∙◌}
 use Rattle.std.proofs.lemmas.List.Sums.{sum_by-cons}
 use Rattle.std.specs.Prelude.{sum_by}
 use Rattle.agg_protocol.specs.States.{shape_of, width_of}

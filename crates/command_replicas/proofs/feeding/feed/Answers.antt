@@ -1,4 +1,4 @@
-use Rattle.std.specs.Prelude.{◌≡◌, ℕ, List, Err, refl}
+use Rattle.std.specs.Prelude.{refl}
 use Rattle.std.proofs.Common.{◌∙◌, ap, inl, inr, sym, subst}
 use Rattle.std.proofs.lemmas.Result.{err_from_is_err_and}
 use Rattle.packed_rows.specs.Columns.{kinds}
@@ -13,7 +13,6 @@ use Rattle.having_filter.specs.Meaning.{meaning}
 use Rattle.replies.specs.RefusalLaws.{batch_reason, batch_undamaged, join_reasons}
 use Rattle.replies.specs.Refusals.{batch_refusal, refusal_reason}
 use Rattle.command_replicas.specs.Commands.{FeedIsCounted}
-use Rattle.command_replicas.specs.Results.{Feeds}
 use Rattle.command_replicas.specs.Lemmas.FileLaws.{read_of_file, packed_of_file, of_batch_file}
 use Rattle.command_replicas.proofs.feeding.feed.Goals as goal
 

@@ -1,5 +1,5 @@
-use Rattle.std.specs.Prelude.{◌≡◌, refl}
-use Rattle.std.proofs.Common.{◌∙◌, ap, inl, inr, sym, subst}
+use Rattle.std.specs.Prelude.{refl}
+use Rattle.std.proofs.Common.{◌∙◌, ap, inl, inr, sym}
 use Rattle.std.proofs.lemmas.Result.{err_from_is_err_and}
 use Rattle.hash_agg.specs.Lemmas.RanLaws.{ran_as, ran_weaker, refused_by, refused_still}
 use Rattle.hash_agg.specs.Ran.{Done, Refused}

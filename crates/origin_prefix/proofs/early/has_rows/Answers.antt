@@ -1,4 +1,4 @@
-use Rattle.std.specs.Prelude.{Some, refl}
+use Rattle.std.specs.Prelude.{Some}
 use Rattle.std.proofs.Common.{◌∙◌, sym, ap}
 use Rattle.std.specs.Option.{option_copied}
 use Rattle.origin_prefix.specs.Lemmas.ByNumber.{some_is}

@@ -10,6 +10,7 @@ use Rattle.aggregation_cost.specs.Space.{Setting}
 use Rattle.hash_agg.specs.Lemmas.RanLaws.{refused_still, refused_later}
 use Rattle.hash_agg.specs.Ran.{Refused}
 use Rattle.origin_prefix.specs.Errors.{join_reason}
+use Rattle.origin_prefix.specs.Joins.{settled}
 use Rattle.spill_partitions.specs.declared.error.SpillError.TheVariants as spill
 use Rattle.origin_prefix.specs.Lemmas.ByNumber.{numbers, rising_rest}
 use Rattle.origin_prefix.specs.Lemmas.IncludedLaws.{included}
@@ -29,8 +30,8 @@ own_included own n p has = go (part_at own n) refl has
     go (Some mine) e has = (mine, e, has)
     go None e has = absurd has
 
-pub join-requires-clause-part : goal.join-requires-clause-part
-join-requires-clause-part g c =
+pub join_aside-requires-clause-part : goal.join_aside-requires-clause-part
+join_aside-requires-clause-part g c =
     let own : Parts = c.args.own.now.entries in
     let own_is = c.part_or-own.ensures ∙ ap (unwrap_or (part_at own c.in-Some.origin.now)) c.empty-nothing.ensures in
     subst (IsPartOf c.args.query.now) (sym own_is) (part_is c.args.query.now own c.requires.own c.in-Some.origin.now)
@@ -100,14 +101,17 @@ loop-origin-preserved g c =
     let rest : Parts = c.next.new.self in
     let front : Parts = c.loop-origin.invariant.front in
     let rising = subst (λ rest. IsStrictlySortedBy nat_cmp (numbers rest)) c.in-Some.ensures.steps c.loop-origin.invariant.rest in
-    let new : Part = c.in-Ok-join.part in
-    let joining = c.in-Ok-join.ensures.joining in
+    let new : Part = c.in-Ok-join_aside.aside in
+    let joining = c.in-Ok-join_aside.ensures.joining in
     let own_is = c.part_or-own.ensures ∙ ap (unwrap_or (part_at own n)) c.empty-nothing.ensures in
-    let joins : Joins (g.D.TapeDisk.honest c.args.disk.now) (meaning c.args.query.now) (part_of own n) c.in-Some.part.now new =
-    subst (λ honest. Joins honest (meaning c.args.query.now) (part_of own n) c.in-Some.part.now new)
+    let joins : Joins (g.D.TapeDisk.honest c.args.disk.now) (meaning c.args.query.now) (part_of own n) c.in-Some.part.now
+    (settled (part_of own n) new) =
+    subst (λ honest. Joins honest (meaning c.args.query.now) (part_of own n) c.in-Some.part.now (settled (part_of own n) new))
     c.loop-origin.invariant.disk.honesty
-    (subst (λ (p : Part). Joins (g.D.TapeDisk.honest c.loop-origin.disk) (meaning c.args.query.now) p c.in-Some.part.now new)
+    (subst (λ (p : Part). Joins (g.D.TapeDisk.honest c.loop-origin.disk) (meaning c.args.query.now) p c.in-Some.part.now (settled p new))
     own_is joining.joins) in
+    let is : IsPartOf c.args.query.now (settled (part_of own n) new) = subst (λ (p : Part). IsPartOf c.args.query.now (settled p new)) own_is
+    joining.part in
     let agree : ¬ (PartsDisagree (part_of own n) c.in-Some.part.now) = subst (λ (p : Part). ¬ (PartsDisagree p c.in-Some.part.now))
     own_is joining.agree in
     record {
@@ -115,15 +119,15 @@ loop-origin-preserved g c =
           subst (λ ps. JoinedSoFar (g.D.TapeDisk.honest c.args.disk.now) c.args.query.now (part_of own o) (part_at own o) (part_at all o)
           (part_at rest o) (part_at ps o)) (sym (when_fine c.insert.result _ c.insert.ensures.entries (sym c.if-is_err.ensures.value)))
           (joined_more (g.D.TapeDisk.honest c.args.disk.now) c.args.query.now own own all old rest n c.in-Some.part.now new rising joins
-          joining.part agree o
+          is joining.groups agree o
           (subst (λ left. JoinedSoFar (g.D.TapeDisk.honest c.args.disk.now) c.args.query.now (part_of own o) (part_at own o) (part_at all o)
           (part_at left o) (part_at old o)) c.in-Some.ensures.steps (c.loop-origin.invariant.at o)));
       rest = rising_rest (n, c.in-Some.part.now) rest rising;
       held = (subst (AllByRecursion (IsHeldPart c.args.query.now)) c.in-Some.ensures.steps c.loop-origin.invariant.held).1;
       rising = c.insert.ensures.ordered;
-      disk = leaves_twice g.D.TapeDisk 0 c.args.disk.now c.loop-origin.disk c.join.new.disk c.loop-origin.invariant.disk
-          c.in-Ok-join.ensures.ran.disk;
-      most = λ low. c.in-Ok-join.ensures.ran.held (c.loop-origin.invariant.most low);
+      disk = leaves_twice g.D.TapeDisk 0 c.args.disk.now c.loop-origin.disk c.join_aside.new.disk c.loop-origin.invariant.disk
+          c.in-Ok-join_aside.ensures.ran.disk;
+      most = λ low. c.in-Ok-join_aside.ensures.ran.held (c.loop-origin.invariant.most low);
       front = front ++ ((n, c.in-Some.part.now) ∷ []);
       parts = c.loop-origin.invariant.parts ∙ ap (λ (left : Parts). front ++ left) c.in-Some.ensures.steps
           ∙ sym (append_assoc front ((n, c.in-Some.part.now) ∷ []) rest);
@@ -131,12 +135,12 @@ loop-origin-preserved g c =
           let q : Query = meaning c.args.query.now in
           let setting : Setting = setting_by g.H.KeyHash.hash_of q c.args.means.now in
           let counted : JoinIsCounted (part_of own n) c.in-Some.part.now q setting c.loop-origin.counted
-          (g.D.TapeDisk.writes c.loop-origin.disk) c.join.new.work (g.D.TapeDisk.writes c.join.new.disk) =
+          (g.D.TapeDisk.writes c.loop-origin.disk) c.join_aside.new.work (g.D.TapeDisk.writes c.join_aside.new.disk) =
           subst (λ (p : Part). JoinIsCounted p c.in-Some.part.now q setting c.loop-origin.counted
-          (g.D.TapeDisk.writes c.loop-origin.disk) c.join.new.work (g.D.TapeDisk.writes c.join.new.disk)) own_is
-          (c.in-Ok-join.ensures.ran.counted (subst IsTrue (sym c.loop-origin.invariant.disk.honesty) so)) in
+          (g.D.TapeDisk.writes c.loop-origin.disk) c.join_aside.new.work (g.D.TapeDisk.writes c.join_aside.new.disk)) own_is
+          (c.in-Ok-join_aside.ensures.ran.counted (subst IsTrue (sym c.loop-origin.invariant.disk.honesty) so)) in
           counted_more own front (n, c.in-Some.part.now) q setting c.args.work.now (g.D.TapeDisk.writes c.args.disk.now)
-          c.loop-origin.counted (g.D.TapeDisk.writes c.loop-origin.disk) c.join.new.work (g.D.TapeDisk.writes c.join.new.disk)
+          c.loop-origin.counted (g.D.TapeDisk.writes c.loop-origin.disk) c.join_aside.new.work (g.D.TapeDisk.writes c.join_aside.new.disk)
           (c.loop-origin.invariant.counted so) counted;
       can = tt;
       finite = tt;
@@ -171,7 +175,7 @@ returns-in-Err-clause-ran g c =
     let ran = c.in-Err.ensures.ran in
     record {
       ran = refused_later g.D.TapeDisk g.H.KeyHash.hash_of c.args.query.now c.args.means.now (MergeIsCounted own c.args.theirs.now.entries)
-          (join_reason c.in-Err.why) c.args.disk.now c.loop-origin.disk c.join.new.disk c.args.work.now c.loop-origin.invariant.disk
+          (join_reason c.in-Err.why) c.args.disk.now c.loop-origin.disk c.join_aside.new.disk c.args.work.now c.loop-origin.invariant.disk
           ran.disk (λ honest same. ran.undamaged honest (ap Refused same));
       order = λ so. record {
         lower = front;
@@ -192,7 +196,7 @@ pub returns-then-is_err-clause-ran : goal.returns-then-is_err-clause-ran
 returns-then-is_err-clause-ran g c = record {
   ran = refused_later g.D.TapeDisk g.H.KeyHash.hash_of c.args.query.now c.args.means.now
       (MergeIsCounted c.args.own.now.entries c.args.theirs.now.entries) (Some spill.NoMemory) c.args.disk.now c.loop-origin.disk
-      c.join.new.disk c.args.work.now c.loop-origin.invariant.disk c.in-Ok-join.ensures.ran.disk (λ honest same. cc);
+      c.join_aside.new.disk c.args.work.now c.loop-origin.invariant.disk c.in-Ok-join_aside.ensures.ran.disk (λ honest same. cc);
   order = λ so. tt;
 }
 

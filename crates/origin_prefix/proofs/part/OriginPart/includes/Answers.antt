@@ -1,4 +1,4 @@
-use Rattle.std.specs.Prelude.{◌≡◌, ◌<◌, ◌≤◌, refl}
+use Rattle.std.specs.Prelude.{◌≡◌}
 use Rattle.std.proofs.Common.{rules, arith}
 use Rattle.origin_prefix.specs.Parts.{Part}
 use Rattle.origin_prefix.proofs.JoinLaws.{includes_seen, includes_not, includes_where}
