@@ -2,7 +2,7 @@
 use Rattle.std.specs.Prelude.{◌≡◌, ◌≢◌, ℕ, Bool, false, List, Option, Some, Result, Ok, Err, IfOk, IfErr, OnOk, IsTrue}
 use Rattle.std.proofs.Common.{◌∙◌, sym, subst}
 use Rattle.std.proofs.lemmas.Result.{IfOk-weaker, IfErr-weaker}
-use Rattle.replica_merge.specs.Lemmas.Words.{Row, InLimits, reply_of, World, IsWorld, knows, learn, kinds, packings, Checked}
+use Rattle.replica_merge.specs.Lemmas.Words.{Row, reply_of, World, IsWorld, knows, learn, kinds, packings}
 use Rattle.replica_merge.specs.Lemmas.Words.{Disagrees, BatchTells, OriginDisagrees, Spill, Held, part_of, told, Fits, AreHeldParts}
 use Rattle.replica_merge.specs.Lemmas.Words.{DeliversAt, RefusesAt}
 use Rattle.grouping_model.specs.declared.delivered.Delivered.{Delivered}

@@ -11,17 +11,15 @@ use Rattle.std.specs.Map.{set_value, remove_entry}
 use Rattle.std.specs.BTreeMap.{BTreeMap, insert_entry, is_at, WritesThrough}
 use Rattle.std.specs.Ordering.{eq_by_cmp, nat_cmp, is_eq, match_ordering}
 use Rattle.std.specs.declared.cmp.Ordering.TheVariants.{Less, Equal, Greater}
-use Rattle.std.proofs.lemmas.Result.{IfOk-weaker, IfErr-weaker}
 use Rattle.replica_merge.specs.Lemmas.Words.{LAST_ORIGIN, Row, InLimits, reply_of, World, IsWorld, knows, learn, prefix, kinds, packings}
 use Rattle.replica_merge.specs.Lemmas.Words.{Checked}
 use Rattle.replica_merge.specs.Lemmas.Words.{meaning, Part, empty, rows_at, tells, IsEarly, IsPartOf, Delivers, Disagrees, BatchTells}
-use Rattle.replica_merge.specs.Lemmas.Words.{OriginDisagrees, Spill, FitsOrigin, Parts, part_at, part_of, told, Held, Fits, IsHeldPart}
+use Rattle.replica_merge.specs.Lemmas.Words.{FitsOrigin, Parts, part_at, part_of, told, Fits, IsHeldPart}
 use Rattle.replica_merge.specs.Lemmas.Words.{AreHeldParts, DeliversAt, RefusesAt, Delivery, IsPlace, taken_back}
 use Rattle.grouping_model.specs.declared.delivered.Delivered.{Delivered}
 use Rattle.grouping_model.specs.declared.delivered.Delivered.TheVariants.{Folded, Early, Known}
 use Rattle.grouping_model.specs.KnowledgeLaws.{same_knowledge, knows_learn}
 use Rattle.batch_reader.specs.declared.batch.Batch.{Batch}
-use Rattle.spill_partitions.specs.declared.error.SpillError.{SpillError}
 use Rattle.origin_prefix.specs.declared.error.RefusedBatch.{RefusedBatch}
 use Rattle.origin_prefix.specs.Lemmas.Lists.{is_itself, is_other, same_or_other}
 use Rattle.origin_prefix.specs.Lemmas.ByNumber.{at, found_holds, all_found, put_same, put_else}

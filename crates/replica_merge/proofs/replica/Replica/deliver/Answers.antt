@@ -1,12 +1,12 @@
-use Rattle.std.specs.Prelude.{◌≡◌, refl, ℕ, Ok, Err, Some, unwrap_or}
+use Rattle.std.specs.Prelude.{◌≡◌, refl, Ok, Err, Some, unwrap_or}
 use Rattle.std.proofs.Common.{◌∙◌, ap, sym, subst}
 use Rattle.hash_agg.specs.Lemmas.RanLaws.{refused_still}
 use Rattle.hash_agg.specs.Ran.{Ran, Done, Refused}
-use Rattle.origin_prefix.specs.Errors.{batch_ended, join_reason}
+use Rattle.origin_prefix.specs.Errors.{join_reason}
 use Rattle.spill_partitions.specs.declared.error.SpillError.TheVariants as spill
 use Rattle.replica_merge.specs.Lemmas.Words.{AreCounted, BatchTells, DeliversBatch, Held, IsPartOf, Part, Parts, aggregations_on}
 use Rattle.replica_merge.specs.Lemmas.Words.{empty, AreHeldParts}
-use Rattle.replica_merge.specs.Lemmas.Words.{part_at, part_of}
+use Rattle.replica_merge.specs.Lemmas.Words.{part_of}
 use Rattle.replica_merge.specs.Lemmas.DeliveredLaws.{delivered_held, none_tells, part_is, placed_delivers, placed_part, placed_refused}
 use Rattle.replica_merge.specs.Lemmas.DeliveredLaws.{placed_there}
 use Rattle.replica_merge.specs.Lemmas.DeliveredLaws.{taken_at}
