@@ -1,5 +1,9 @@
 pub mod Words
 pub mod Slots
+pub mod Rings
+pub mod Near
+pub mod Preorders
+pub mod Walks
 pub mod Clearing
 pub mod TreeLaws
 pub mod Bounds

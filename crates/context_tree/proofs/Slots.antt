@@ -1,6 +1,6 @@
 -- Lists by slots, in which something is put.
-use Rattle.std.proofs.Common.{◌≡◌, ℕ, zero, suc, ◌<◌, ◌≤◌, inl, inr, Bool, true, false, List, [], ◌∷◌, ◌++◌, Option, Some, None, length}
-use Rattle.std.proofs.Common.{get_or, cond, set, take, refl, sym, ap, ◌∙◌, arith}
+use Rattle.std.proofs.Common.{◌≡◌, ℕ, zero, suc, ◌+◌, ◌<◌, ◌≤◌, inl, inr, Bool, true, false, List, [], ◌∷◌, ◌++◌, Option, Some, None}
+use Rattle.std.proofs.Common.{length, get_or, cond, set, take, refl, sym, ap, ◌∙◌, arith}
 use Rattle.std.specs.Prelude.{◌==◌, is_some}
 use Rattle.std.specs.List.{refill}
 use Rattle.std.proofs.lemmas.Bool.{cases_eq, cases_lt, cond-false, ne_eqb, false≢true}
@@ -23,6 +23,11 @@ module _ {X : Type 0} where
   placed-set [] n x low = absurd (omega (arith, low))
   placed-set (y ∷ xs) zero x low = refl
   placed-set (y ∷ xs) (suc n) x low = ap (λ (t : List X). y ∷ t) (placed-set xs n x (omega (arith, low)))
+
+  pub placed-length : (xs : List X) (n : ℕ) (x : X) → n ≤ length xs → (length (placed xs n x) ≤ length xs + 1)
+  placed-length [] n x low = omega arith
+  placed-length (y ∷ xs) zero x low = omega arith
+  placed-length (y ∷ xs) (suc n) x low = omega (arith, placed-length xs n x (omega (arith, low)))
 
   -- two lists that are equally long stay so
   pub length-placed : {Y : Type 0} (xs : List X) (ys : List Y) (n : ℕ) (x : X) (y : Y) → length xs ≡ length ys → length (placed xs n x)

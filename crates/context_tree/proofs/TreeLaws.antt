@@ -15,6 +15,8 @@ use Rattle.context_tree.proofs.Words.{KeepsOthers, place_of, chunks_of, chunk_by
 use Rattle.chunk_layout.specs.declared.place.ChunkName.{ChunkName}
 use Rattle.std.proofs.lemmas.List.{get_or-set_same, get_or-set_other, get_or_default, get_or_read, length-set, set-get_or}
 use Rattle.context_tree.specs.SlotLaws.{placed-here, placed-other}
+use Rattle.context_tree.specs.Preorders.{IsOrdered}
+use Rattle.context_tree.specs.Rings.{RingState}
 use Rattle.context_tree.specs.TreeFields.{tree_of, AreFields}
 use Rattle.context_tree.specs.declared.error.TreeError.{TreeError}
 use Rattle.context_tree.specs.declared.error.TreeError.TheVariants as error
@@ -23,7 +25,7 @@ use Rattle.context_tree.specs.declared.kind.Kind.{Kind}
 use Rattle.context_tree.specs.declared.links.ContextId.{ContextId}
 use Rattle.context_tree.specs.declared.tree.Tree.TheInside.{Inside}
 use Rattle.context_tree.proofs.Bounds.{all-set, all-placed, all-cleared, nothing-held}
-use Rattle.context_tree.proofs.Clearing.{length-cleared, get_or-cleared, is-cleared, low-there}
+use Rattle.context_tree.proofs.Clearing.{length-cleared, get_or-cleared, low-there}
 use Rattle.context_tree.proofs.Slots.{refill-whole, length-placed}
 
 -- no context has a later stamp than the last one
@@ -126,6 +128,7 @@ module _ (x : Inside) (are : AreFields x) (now : TreeState) (view : tree_of x �
       → AreFields (record {
         alloc = x.alloc;
         links = x.links;
+        ring = x.ring;
         contexts = record {
           items = set cs id.slot c;
           capacity = x.contexts.capacity;
@@ -144,6 +147,8 @@ module _ (x : Inside) (are : AreFields x) (now : TreeState) (view : tree_of x �
         empty = empty-written c;
         bounded = omega (arith, same, sum, holds, bounded);
         held = omega (arith, same, sum, holds, held);
+        ordered = are.ordered;
+        room = are.room;
       }
 
   -- what is read of it in one list is what is changed in another
@@ -172,6 +177,7 @@ module _ (x : Inside) (now : TreeState) (id : ContextId) (d : List Context) (is 
       → AreFields (record {
         alloc = x.alloc;
         links = x.links;
+        ring = x.ring;
         contexts = record {
           items = refill (length all) all (set d id.slot c);
           capacity = x.contexts.capacity;
@@ -190,6 +196,8 @@ module _ (x : Inside) (now : TreeState) (id : ContextId) (d : List Context) (is 
         empty = subst (Emptied x.links) (sym put) (empty-written x is.are now is.view id is.there c);
         bounded = subst IsBounded (sym put) (omega (arith, all-held, fits));
         held = all-held ∙ ap held_by_all (sym put);
+        ordered = is.are.ordered;
+        room = is.are.room;
       }
 
   -- what was lent, and what it became, are the contexts before and after; and one that stays as it was changes nothing
@@ -236,6 +244,7 @@ module _ (x : Inside) (now : TreeState) (id : ContextId) (d : List Context) (is 
         → AreFields (record {
           alloc = x.alloc;
           links = x.links;
+          ring = x.ring;
           contexts = record {
             items = refill (length all) all (set d id.slot c);
             capacity = x.contexts.capacity;
@@ -351,15 +360,16 @@ module _ (x : Inside) (gone : ℕ → Bool) (ls : List (Option Link)) (d ds : Li
   long-given = length-cleared gone no_context 0 x.contexts.items ∙ up.are.long
       ∙ sym (ap length up.links ∙ length-cleared gone None 0 x.links)
 
-  pub fields-given : (held : ℕ) → held + given ≡ x.held → AreFields
+  pub fields-given : (ring : RingState) → IsOrdered ls ring.slots → ring.room ≡ x.ring.room → (held : ℕ) → held + given ≡ x.held → AreFields
       (record {
         alloc = x.alloc;
         links = ls;
+        ring = ring;
         contexts = record { items = refill n x.contexts.items ds; capacity = x.contexts.capacity };
         last = x.last;
         held = held;
       })
-  fields-given held left =
+  fields-given ring ordered room held left =
       let sum = up.sum in
       let before = ap held_by_all up.same in
       let after = ap held_by_all all-given in
@@ -372,4 +382,8 @@ module _ (x : Inside) (gone : ℕ → Bool) (ls : List (Option Link)) (d ds : Li
         bounded = subst IsBounded (sym all-given) (let less = all-cleared gone 0 x.contexts.items in let was = up.are.bounded in omega
             (arith, less, was));
         held = omega (arith, left, sum, before, after, kept, was);
+        ordered = ordered;
+        room =
+            let size = ap length up.links ∙ length-cleared gone None 0 x.links in
+            omega (arith, size, up.are.room, room);
       }

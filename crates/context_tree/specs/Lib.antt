@@ -1,6 +1,9 @@
 pub mod Contexts
 pub mod Links
 pub mod LinkFields
+pub mod Rings
+pub mod RingFields
+pub mod Preorders
 pub mod Tree
 pub mod Calls
 pub mod TreeFields

@@ -8,6 +8,7 @@ mod context;
 mod error;
 mod kind;
 mod links;
+mod ring;
 mod tree;
 
 pub use chunk_contexts::{ChunkContext, ChunkName, ContextError};

@@ -1,9 +1,11 @@
 //! Which contexts of a tree there are, and below which other each was made.
-ghost use Rattle.std.specs.Prelude.{◌≡◌, ◌<◌, ◌≤◌, ◌+◌, ◌==◌, ◌||◌, ◌-◌, ◌^◌, ℕ, true, false, Some, None, [], ◌∷◌, IfOk, OnErr, OnOk};
-ghost use Rattle.std.specs.Prelude.{IsTrue, length, get_or, is_some, slice_set, cond, ◌++◌};
+ghost use Rattle.std.specs.Prelude.{◌≡◌, ◌≢◌, ◌<◌, ◌≤◌, ◌+◌, ◌==◌, ◌||◌, ◌-◌, ◌^◌, ℕ, true, false, Some, None, [], ◌∷◌, IfOk, OnErr, OnOk};
+ghost use Rattle.std.specs.Prelude.{IsTrue, MatchBool, length, get_or, is_some, slice_set, cond, ◌++◌};
 ghost use Rattle.context_tree.specs.Links.{parent_of, stamp_of, is_below, is_under, cleared, placed, IsForest, IsFull, IsMadeBelow};
 ghost use Rattle.context_tree.specs.Links.{AreFree};
+ghost use Rattle.context_tree.specs.Preorders.{stamp_in, IsOrdered, IsPast};
 
+use crate::ring::Ring;
 use chunk_layout::BlockMarks;
 use smallvec::SmallVec;
 use std::alloc::{AllocError, Global};
@@ -80,87 +82,60 @@ fn stamp(links: &[Option<Link>], slot: usize) -> u64
     }
 }
 
-/// Whether the context in a slot is the one in another, or a descendant of it.
-///
-/// A context was made before its descendants, so the search ends at the first ancestor that is not younger than it.
-fn is_below(links: &[Option<Link>], slot: u32, above: u32) -> bool
-    requires { IsForest links.now }
-    ensures { result ≡ is_below links.now above slot }
-{
-    let oldest = stamp(links, above as usize);
-    let mut at = slot;
-    while stamp(links, at as usize) > oldest {
-        match parent(links, at as usize) {
-            Some(parent) => at = parent,
-            None => return false,
-        }
-    }
-    at == above
-}
-
-/// Empties a slot that has no child, so that another context can be in it.
-fn empty(links: &mut [Option<Link>], free: &mut BlockMarks, leaf: u32)
-    requires there { leaf < length links.old }
-    requires room { leaf < length free.old }
-    ensures links { links.new ≡ slice_set links.old leaf None }
+/// Empties a slot, so that another context can be in it.
+fn empty(links: &mut [Option<Link>], free: &mut BlockMarks, slot: u32)
+    requires there { slot < length links.old }
+    requires room { slot < length free.old }
+    ensures links { links.new ≡ slice_set links.old slot None }
     ensures long { length free.new ≡ length free.old }
-    ensures marked { (k : ℕ) → get_or free.new k false ≡ cond (k == leaf) true (get_or free.old k false) }
+    ensures marked { (k : ℕ) → get_or free.new k false ≡ cond (k == slot) true (get_or free.old k false) }
 {
-    links[leaf as usize] = None;
-    free.mark(leaf);
+    links[slot as usize] = None;
+    free.mark(slot);
 }
 
-/// Marks the slots of all descendants of a context.
-fn mark_below(links: &[Option<Link>], free: &mut BlockMarks, above: u32)
-    requires forest { IsForest links.now }
-    requires free { AreFree links.now free.old }
-    requires few { length links.now < 2 ^ 32 }
-    ensures long { length free.new ≡ length free.old }
-    ensures marked { (k : ℕ) → get_or free.new k false ≡ (is_under links.now above k || get_or free.old k false) }
+/// Whether a slot is not the root's, and its context has a later stamp than this.
+fn is_later(links: &[Option<Link>], slot: u32, oldest: u64) -> bool
+    ensures { MatchBool result ((slot ≢ 0) × (oldest < stamp_in links.now slot)) (slot ≢ 0 → stamp_in links.now slot ≤ oldest) }
 {
-    for slot in 0..links.len() as u32 {
-        if slot != above && is_below(links, slot, above) {
-            free.mark(slot);
-        }
-    }
+    slot != 0 && stamp(links, slot as usize) > oldest
 }
 
-/// Empties the slots that are marked.
-fn empty_marked(links: &mut [Option<Link>], free: &BlockMarks)
-    requires { length links.old < 2 ^ 32 }
-    ensures { (k : ℕ) → get_or links.new k None ≡ cond (get_or free.now k false) None (get_or links.old k None) }
-{
-    for slot in 0..links.len() {
-        if free.has(slot as u32) {
-            links[slot] = None;
-        }
-    }
-}
-
-/// Empties the slots of all descendants of a context.
-fn prune(links: &mut [Option<Link>], free: &mut BlockMarks, above: u32)
+/// Empties the slots of all descendants of a context, and answers which slot of the ring comes behind them.
+fn prune(links: &mut [Option<Link>], free: &mut BlockMarks, ring: &Ring, above: u32) -> u32
     requires forest { IsForest links.old }
+    requires ordered { IsOrdered links.old ring.now.slots }
     requires free { AreFree links.old free.old }
-    requires few { length links.old < 2 ^ 32 }
+    requires there { IsTrue (is_some (get_or links.old above None)) }
     ensures links { links.new ≡ cleared (is_under links.old above) None 0 links.old }
     ensures free { AreFree links.new free.new }
+    ensures past { IsPast links.old ring.now.slots above result }
 {
-    mark_below(links, free, above);
-    empty_marked(links, free);
+    ring.is_ring();
+    let oldest = stamp(links, above as usize);
+    let mut at = ring.after(above);
+    while is_later(links, at, oldest) {
+        let next = ring.after(at);
+        empty(links, free, at);
+        at = next;
+    }
+    at
 }
 
-/// Empties the slots of a context and of all its descendants.
-fn cut(links: &mut [Option<Link>], free: &mut BlockMarks, slot: u32)
+/// Empties the slots of a context and of all its descendants, and answers which slot of the ring comes behind them.
+fn cut(links: &mut [Option<Link>], free: &mut BlockMarks, ring: &Ring, slot: u32) -> u32
     requires forest { IsForest links.old }
+    requires ordered { IsOrdered links.old ring.now.slots }
     requires free { AreFree links.old free.old }
-    requires few { length links.old < 2 ^ 32 }
     requires there { IsTrue (is_some (get_or links.old slot None)) }
     requires below { 0 < slot }
     ensures links { links.new ≡ cleared (is_below links.old slot) None 0 links.old }
     ensures free { AreFree links.new free.new }
+    ensures past { IsPast links.old ring.now.slots slot result }
 {
-    prune(links, free, slot);
+    let next = prune(links, free, ring, slot);
     empty(links, free, slot);
+    next
 }
 
 impl Links {
@@ -211,18 +186,18 @@ impl Links {
         parent(&self.links, slot as usize)
     }
 
-    /// Whether the context in a slot is the one in another, or a descendant of it.
-    pub fn is_below(&self, slot: u32, above: u32) -> bool
-        ensures { result ≡ is_below self.now above slot }
+    /// The stamp of the context in a slot: 0 where there is none.
+    pub fn stamp(&self, slot: u32) -> u64
+        ensures { result ≡ stamp_in self.now slot }
     {
-        is_below(&self.links, slot, above)
+        stamp(&self.links, slot as usize)
     }
 
-    /// Whether the context in a slot is a descendant of the one in another.
-    pub fn is_under(&self, slot: u32, above: u32) -> bool
-        ensures { result ≡ is_under self.now above slot }
+    /// Whether a slot is not the root's, and its context has a later stamp than this.
+    pub fn is_later(&self, slot: u32, oldest: u64) -> bool
+        ensures { MatchBool result ((slot ≢ 0) × (oldest < stamp_in self.now slot)) (slot ≢ 0 → stamp_in self.now slot ≤ oldest) }
     {
-        self.is_below(slot, above) && slot != above
+        is_later(&self.links, slot, oldest)
     }
 
     /// Puts a link below that in a slot into another slot, which is free, and answers which. A new slot is made only where
@@ -268,19 +243,24 @@ impl Links {
         Ok(slot as u32)
     }
 
-    /// Empties the slots of all descendants of a context.
-    pub fn prune(&mut self, above: u32)
-        ensures { self.new ≡ cleared (is_under self.old above) None 0 self.old }
+    /// Empties the slots of all descendants of a context, and answers which slot of the ring comes behind them.
+    pub fn prune(&mut self, ring: &Ring, above: u32) -> u32
+        requires ordered { IsOrdered self.old ring.now.slots }
+        requires there { IsTrue (is_some (get_or self.old above None)) }
+        ensures links { self.new ≡ cleared (is_under self.old above) None 0 self.old }
+        ensures past { IsPast self.old ring.now.slots above result }
     {
-        prune(&mut self.links, &mut self.free, above);
+        prune(&mut self.links, &mut self.free, ring, above)
     }
 
-    /// Empties the slots of a context and of all its descendants.
-    pub fn cut(&mut self, slot: u32)
+    /// Empties the slots of a context and of all its descendants, and answers which slot of the ring comes behind them.
+    pub fn cut(&mut self, ring: &Ring, slot: u32) -> u32
+        requires ordered { IsOrdered self.old ring.now.slots }
         requires there { IsTrue (is_some (get_or self.old slot None)) }
         requires below { 0 < slot }
-        ensures { self.new ≡ cleared (is_below self.old slot) None 0 self.old }
+        ensures links { self.new ≡ cleared (is_below self.old slot) None 0 self.old }
+        ensures past { IsPast self.old ring.now.slots slot result }
     {
-        cut(&mut self.links, &mut self.free, slot);
+        cut(&mut self.links, &mut self.free, ring, slot)
     }
 }

@@ -9,6 +9,7 @@ ghost use Rattle.chunk_contexts.specs.declared.error.ContextError.TheVariants.{N
 ghost use Rattle.context_tree.specs.Contexts.{chunks_of, blocks_of, growth_of, with_bytes, kind_refusal, no_context, has_chunk};
 ghost use Rattle.context_tree.specs.Contexts.{chunk_bytes, held_by, IsCounted, IsGrownByRule};
 ghost use Rattle.context_tree.specs.Links.{is_below, is_under, cleared, placed, IsFull};
+ghost use Rattle.context_tree.specs.Preorders.{IsOrdered};
 ghost use Rattle.context_tree.specs.Tree.{new_tree, is_there, context_at, parent_id, id_in, with_new, without_slots, deleted};
 ghost use Rattle.context_tree.specs.Tree.{reset, held_below, held_from, held_by_all, IsBounded, IsWhole, IsKept, IsNotMade, TreeState};
 ghost use Rattle.context_tree.specs.declared.error.TreeError.TheVariants as error;
@@ -20,6 +21,7 @@ use crate::context::Context;
 use crate::error::TreeError;
 use crate::kind::Kind;
 use crate::links::{ContextId, Links};
+use crate::ring::Ring;
 use chunk_contexts::{ChunkContext, ChunkName, ContextError};
 use smallvec::SmallVec;
 use std::alloc::Global;
@@ -41,6 +43,8 @@ const BOUND: u64 = 0x8000_0000_0000_0000;
 pub struct Tree {
     alloc: Global,
     links: Links,
+    /// The slots of the contexts in preorder.
+    ring: Ring,
     contexts: SmallVec<Context, 1>,
     last: u64,
     /// The bytes of the blocks of all contexts.
@@ -87,64 +91,81 @@ fn give_up(contexts: &mut [Context], slot: usize, alloc: Global) -> u64
     given
 }
 
-/// Gives up the context in a slot if it is a descendant of another, and answers how many bytes are given up with it.
-fn give_up_under(
+/// Gives up the contexts of all descendants of one, and answers how many bytes their blocks have.
+fn give_up_below(
     contexts: &mut [Context],
     links: &Links,
-    slot: usize,
+    ring: &Ring,
     above: u32,
     alloc: Global,
 ) -> u64
-    requires there { slot < length contexts.old }
-    requires small { slot < 2 ^ 32 }
-    ensures contexts { contexts.new
-        ≡ slice_set contexts.old slot (cond (is_under links.now above slot) no_context (get_or contexts.old slot no_context)) }
-    ensures given { held_by_all contexts.new + result ≡ held_by_all contexts.old }
-{
-    if !links.is_under(slot as u32, above) {
-        return 0;
-    }
-    give_up(contexts, slot, alloc)
-}
-
-/// Gives up the contexts of all descendants of one, and answers how many bytes their blocks have.
-fn give_up_below(contexts: &mut [Context], links: &Links, above: u32, alloc: Global) -> u64
     requires long { length contexts.old ≡ length links.now }
+    requires there { IsTrue (is_some (get_or links.now above None)) }
+    requires ordered { IsOrdered links.now ring.now.slots }
     requires bounded { IsBounded contexts.old }
     ensures contexts { contexts.new ≡ cleared (is_under links.now above) no_context 0 contexts.old }
     ensures given { held_by_all contexts.new + result ≡ held_by_all contexts.old }
 {
+    links.is_forest();
+    ring.is_ring();
+    let oldest = links.stamp(above);
     let mut given = 0;
-    for slot in 0..links.len() {
-        given += give_up_under(contexts, links, slot, above, alloc);
+    let mut at = ring.after(above);
+    while links.is_later(at, oldest) {
+        let next = ring.after(at);
+        given += give_up(contexts, at as usize, alloc);
+        at = next;
     }
     given
 }
 
 /// Gives up a context and the contexts of all its descendants, and answers how many bytes their blocks have.
-fn give_up_with(contexts: &mut [Context], links: &Links, slot: u32, alloc: Global) -> u64
+fn give_up_with(
+    contexts: &mut [Context],
+    links: &Links,
+    ring: &Ring,
+    slot: u32,
+    alloc: Global,
+) -> u64
     requires long { length contexts.old ≡ length links.now }
     requires there { IsTrue (is_some (get_or links.now slot None)) }
+    requires ordered { IsOrdered links.now ring.now.slots }
     requires bounded { IsBounded contexts.old }
     ensures contexts { contexts.new ≡ cleared (is_below links.now slot) no_context 0 contexts.old }
     ensures given { held_by_all contexts.new + result ≡ held_by_all contexts.old }
 {
     links.is_forest();
-    let below = give_up_below(contexts, links, slot, alloc);
+    let below = give_up_below(contexts, links, ring, slot, alloc);
     below + give_up(contexts, slot as usize, alloc)
 }
 
-/// The bytes of the blocks of the context in a slot and of its descendants.
-fn sum_below(links: &Links, contexts: &[Context], above: u32) -> u128
-    requires { length contexts.now ≡ length links.now }
-    ensures value { result ≡ held_from links.now above 0 contexts.now }
-    ensures bound { result < 2 ^ 96 }
+/// The bytes of the blocks of the context in a slot.
+fn held_in(contexts: &[Context], slot: u32) -> u64
+    requires { slot < length contexts.now }
+    ensures { result ≡ held_by (get_or contexts.now slot no_context) }
 {
-    let mut sum = 0;
-    for slot in 0..links.len() {
-        if links.is_below(slot as u32, above) {
-            sum += u128::from(contexts[slot].held());
-        }
+    contexts[slot as usize].held()
+}
+
+/// The bytes of the blocks of the context in a slot and of its descendants.
+fn sum_below(links: &Links, ring: &Ring, contexts: &[Context], above: u32) -> u64
+    requires long { length contexts.now ≡ length links.now }
+    requires there { IsTrue (is_some (get_or links.now above None)) }
+    requires ordered { IsOrdered links.now ring.now.slots }
+    requires bounded { IsBounded contexts.now }
+    ensures { result ≡ held_from links.now above 0 contexts.now }
+{
+    links.is_forest();
+    ring.is_ring();
+    let oldest = links.stamp(above);
+    let own = held_in(contexts, above);
+    let mut sum = own;
+    let mut at = ring.after(above);
+    while links.is_later(at, oldest) {
+        let next = ring.after(at);
+        let more = held_in(contexts, at);
+        sum += more;
+        at = next;
     }
     sum
 }
@@ -195,6 +216,7 @@ impl Tree {
         Tree {
             alloc,
             links: Links::new(alloc, first),
+            ring: Ring::new(alloc),
             contexts,
             last: first,
             held: 0,
@@ -320,8 +342,10 @@ impl Tree {
         }
         let context = Context::new(self.alloc, kind)?;
         self.contexts.reserve(1)?;
+        self.ring.make_room(self.links.len())?;
         let stamp = self.last + 1;
         let slot = self.links.add(parent.slot, stamp)?;
+        self.ring.insert(parent.slot, slot);
         put_context(&mut self.contexts, slot as usize, context);
         self.last = stamp;
         Ok(ContextId { slot, stamp })
@@ -351,8 +375,15 @@ impl Tree {
         ensures gone { self.new ≡ without_slots self.old (is_under self.old.links id.slot) }
     {
         self.links.is_forest();
-        let given = give_up_below(&mut self.contexts, &self.links, id.slot, self.alloc);
-        self.links.prune(id.slot);
+        let given = give_up_below(
+            &mut self.contexts,
+            &self.links,
+            &self.ring,
+            id.slot,
+            self.alloc,
+        );
+        let next = self.links.prune(&self.ring, id.slot);
+        self.ring.skip(id.slot, next);
         self.held -= given;
     }
 
@@ -368,8 +399,18 @@ impl Tree {
         if id.slot == ROOT {
             return Err(TreeError::RootKept);
         }
-        let given_up = give_up_with(&mut self.contexts, &self.links, id.slot, self.alloc);
-        self.links.cut(id.slot);
+        self.links.is_forest();
+        self.ring.is_ring();
+        let given_up = give_up_with(
+            &mut self.contexts,
+            &self.links,
+            &self.ring,
+            id.slot,
+            self.alloc,
+        );
+        let next = self.links.cut(&self.ring, id.slot);
+        let first = self.ring.before(id.slot);
+        self.ring.skip(first, next);
         self.held -= given_up;
         Ok(())
     }
@@ -388,7 +429,8 @@ impl Tree {
         ensures value { Answers id self.now (held_below self.now id) result }
     {
         self.check(id)?;
-        Ok(sum_below(&self.links, &self.contexts, id.slot))
+        let sum = sum_below(&self.links, &self.ring, &self.contexts, id.slot);
+        Ok(u128::from(sum))
     }
 
     /// How many bytes of blocks `alloc` of `n` bytes would take now: 0 where it would be refused for what it asks.

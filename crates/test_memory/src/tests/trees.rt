@@ -395,3 +395,94 @@ fn tell_rounds(tree: &mut Tree, told: &mut Answered) -> Result<(), TreeError> {
 fn slots_stay_few_below_any_slot(rt: HostRuntime) -> Result<(), Fail> {
     expect_told(of_tree(rt.alloc(), 0, tell_rounds), "Ok(3) Ok(2000004) ")
 }
+
+/// How many contexts a large tree has beside its root.
+const MANY: u32 = 10_000;
+
+/// Makes the `n`th context of a large tree. Each hundredth takes a chunk, and so holds a block of 8192 bytes.
+fn grow(tree: &mut Tree, parent: ContextId, n: u32) -> Result<ContextId, TreeError> {
+    let id = tree.create(parent, Kind::Bump)?;
+    if n.is_multiple_of(100) {
+        tree.alloc_zeroed(id, 1)?;
+    }
+    Ok(id)
+}
+
+/// Makes contexts below the root, each below the one before, and answers the one behind the middle.
+fn grow_deep(tree: &mut Tree) -> Result<ContextId, TreeError> {
+    let mut last = tree.root();
+    let mut middle = last;
+    for n in 1..=MANY {
+        last = grow(tree, last, n)?;
+        if n == MANY / 2 + 1 {
+            middle = last;
+        }
+    }
+    Ok(middle)
+}
+
+/// Makes contexts below one, and answers the middle one.
+fn grow_wide(tree: &mut Tree, parent: ContextId) -> Result<ContextId, TreeError> {
+    let mut middle = parent;
+    for n in 1..=MANY {
+        let last = grow(tree, parent, n)?;
+        if n == MANY / 2 {
+            middle = last;
+        }
+    }
+    Ok(middle)
+}
+
+/// Tells what is held below the root and below another context, if that is there.
+fn tell_below(tree: &Tree, id: ContextId, told: &mut Answered) -> Result<(), TreeError> {
+    told.tell(tree.held_below(tree.root()))?;
+    Ok(told.tell(tree.held_below(id))?)
+}
+
+/// Tells what is held below the root, and whether a slot that was free serves the next context.
+fn tell_next(tree: &mut Tree, told: &mut Answered) -> Result<(), TreeError> {
+    let root = tree.root();
+    told.tell(tree.held_below(root))?;
+    Ok(told.tell(tree.create(root, Kind::Bump)?.slot <= MANY)?)
+}
+
+/// Tells what a deep tree holds, when its lower half is reset, when that is deleted, and when the root is reset.
+fn tell_deep(tree: &mut Tree, told: &mut Answered) -> Result<(), TreeError> {
+    let middle = grow_deep(tree)?;
+    tell_below(tree, middle, told)?;
+    tree.reset(middle)?;
+    tell_below(tree, middle, told)?;
+    tree.delete(middle)?;
+    tell_below(tree, middle, told)?;
+    let root = tree.root();
+    tree.reset(root)?;
+    tell_next(tree, told)
+}
+
+#[test]
+fn a_tree_is_ten_thousand_deep(rt: HostRuntime) -> Result<(), Fail> {
+    expect_told(
+        of_tree(rt.alloc(), 0, tell_deep),
+        "Ok(819200) Ok(409600) Ok(409600) Ok(0) Ok(409600) Err(NoSuchContext) Ok(0) true ",
+    )
+}
+
+/// Tells what a wide tree holds, when one context in its middle is deleted, and when that above all of them is reset.
+fn tell_wide(tree: &mut Tree, told: &mut Answered) -> Result<(), TreeError> {
+    let root = tree.root();
+    let pass = tree.create(root, Kind::Bump)?;
+    let middle = grow_wide(tree, pass)?;
+    tell_below(tree, middle, told)?;
+    tree.delete(middle)?;
+    tell_below(tree, pass, told)?;
+    tree.reset(pass)?;
+    tell_next(tree, told)
+}
+
+#[test]
+fn a_tree_is_ten_thousand_wide(rt: HostRuntime) -> Result<(), Fail> {
+    expect_told(
+        of_tree(rt.alloc(), 0, tell_wide),
+        "Ok(819200) Ok(8192) Ok(811008) Ok(811008) Ok(0) true ",
+    )
+}

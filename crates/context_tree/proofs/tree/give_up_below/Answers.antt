@@ -1,45 +1,91 @@
-use Rattle.std.proofs.Common.{◌≡◌, ◌+◌, ◌<◌, ◌≤◌, ℕ, inl, inr, List, length, get_or, cond, set, sym, ap, ◌∙◌, arith}
-use Rattle.std.proofs.lemmas.Bool.{cases_eq, cases_lt}
-use Rattle.std.proofs.lemmas.List.{get_or-set_same, get_or-set_other, get_or_past, length-set}
-use Rattle.context_tree.proofs.Words.{no_context, is_under, Context}
-use Rattle.context_tree.proofs.Clearing.{cond-same, is-cleared}
+use Rattle.std.proofs.Common.{◌≡◌, ◌<◌, ℕ, List, length, set, refl, sym, ap, ◌∙◌, arith}
+use Rattle.std.proofs.lemmas.Bool.{MatchBool-at_true, MatchBool-at_false}
+use Rattle.context_tree.specs.Preorders.{stamp_in}
+use Rattle.context_tree.proofs.Words.{no_context, held_by, held_by_all, is_under, Context}
+use Rattle.context_tree.proofs.Bounds.{all-set}
+use Rattle.context_tree.proofs.Walks.{wiped, wiped-more, wiped-cleared, length-wiped, walk-begun, walk-more, walk-past, nearer, at-low}
+use Rattle.context_tree.proofs.Walks.{done-under}
 use Rattle.context_tree.proofs.tree.give_up_below.Goals as goal
 
-pub overflow_add-given : goal.overflow_add-given
-overflow_add-given c = omega (arith, c.give_up_under-given.ensures.given, c.loop-slot.invariant.given, c.requires.bounded)
+pub loop-alloc-init : goal.loop-alloc-init
+loop-alloc-init c =
+    let begun = walk-begun c.args.links.now c.args.ring.now.slots c.requires.ordered c.args.above c.requires.there c.after-at.result
+    c.after-at.ensures in
+    record { walk = (begun.0, ap (λ (xs : List ℕ). wiped no_context xs c.args.contexts.now) (sym begun.1)); given = omega arith }
 
-pub loop-slot-preserved : goal.loop-slot-preserved
-loop-slot-preserved c =
-    let ls = c.args.links.now in let above = c.args.above in let old = c.args.contexts.now in
-    let cs = c.loop-slot.contexts in let slot = c.loop-slot.slot in let i = c.loop-slot.invariant in
-    let low : slot < length cs = omega (arith, c.loop-slot-test.true, c.len-slot-end.ensures.value, c.requires.long, i.long) in
-    let x : Context = cond (is_under ls above slot) no_context (get_or cs slot no_context) in
-    let put : c.give_up_under-given.new.contexts ≡ set cs slot x = c.give_up_under-given.ensures.contexts in
+pub give_up-given-requires : goal.give_up-given-requires
+give_up-given-requires c =
+    let ls = c.args.links.now in let walk = c.loop-alloc.invariant.walk in
+    let is = MatchBool-at_true _ _ c.loop-alloc-test.true c.is_later.ensures in
+    let low = at-low ls c.args.ring.now.slots c.requires.ordered c.args.above c.loop-alloc.at walk.0 is.0 in
+    omega (arith, low, ap length walk.1, length-wiped no_context walk.0.done c.args.contexts.now, c.requires.long)
+
+pub overflow_add-given : goal.overflow_add-given
+overflow_add-given c =
+    let cs = c.loop-alloc.contexts in let at = c.loop-alloc.at in
+    let ls = c.args.links.now in let walk = c.loop-alloc.invariant.walk in
+    let is = MatchBool-at_true _ _ c.loop-alloc-test.true c.is_later.ensures in
+    let low = at-low ls c.args.ring.now.slots c.requires.ordered c.args.above at walk.0 is.0 in
+    let there : at < length cs = omega (
+      arith,
+      low,
+      ap length walk.1,
+      length-wiped no_context walk.0.done c.args.contexts.now,
+      c.requires.long,
+    ) in
+    let nothing : held_by no_context ≡ 0 = refl in
+    omega (
+      arith,
+      all-set cs at no_context there,
+      c.give_up-given.ensures.given,
+      c.loop-alloc.invariant.given,
+      c.requires.bounded,
+      nothing,
+    )
+
+pub loop-alloc-preserved : goal.loop-alloc-preserved
+loop-alloc-preserved c =
+    let ls = c.args.links.now in let slots = c.args.ring.now.slots in let above = c.args.above in let at = c.loop-alloc.at in
+    let i = c.loop-alloc.invariant in let w = i.walk.0 in let cs = c.loop-alloc.contexts in
+    let is = MatchBool-at_true _ _ c.loop-alloc-test.true c.is_later.ensures in
+    let less : stamp_in ls above < stamp_in ls at = omega (arith, is.1, c.stamp-oldest.ensures) in
+    let there : at < length cs = omega (
+      arith,
+      at-low ls slots c.requires.ordered above at w is.0,
+      ap length i.walk.1,
+      length-wiped no_context w.done c.args.contexts.now,
+      c.requires.long,
+    ) in
+    let nothing : held_by no_context ≡ 0 = refl in
     record {
-      long = ap length put ∙ length-set cs slot x ∙ i.long;
-      done = λ k less. ap (λ (l : List Context). get_or l k no_context) put ∙ elim (cases_eq k slot) [
-        | inl same ↦
-            ap (λ (j : ℕ). get_or (set cs slot x) j no_context) same ∙ get_or-set_same cs slot x no_context low
-            ∙ ap (λ (a : Context). cond (is_under ls above slot) no_context a) (i.rest slot (omega arith))
-            ∙ ap (λ (j : ℕ). cond (is_under ls above j) no_context (get_or old j no_context)) (sym same)
-        | inr ne ↦ get_or-set_other cs slot k x no_context ne ∙ i.done k (omega (arith, less, ne))
-      ];
-      rest = λ k past.
-          ap (λ (l : List Context). get_or l k no_context) put
-          ∙ get_or-set_other cs slot k x no_context (λ (same : k ≡ slot). absurd (omega (arith, past, same)))
-          ∙ i.rest k (omega (arith, past));
-      given = omega (arith, c.give_up_under-given.ensures.given, i.given);
+      walk = (
+        walk-more ls slots c.requires.ordered above at w is.0 less c.after-next.result c.after-next.ensures,
+        c.give_up-given.ensures.contexts ∙ ap (λ (l : List Context). set l at no_context) i.walk.1
+            ∙ sym (wiped-more no_context w.done at c.args.contexts.now),
+      );
+      given = omega (
+        arith,
+        all-set cs at no_context there,
+        ap held_by_all c.give_up-given.ensures.contexts,
+        c.give_up-given.ensures.given,
+        i.given,
+        nothing,
+      );
     }
+
+pub loop-alloc-smaller : goal.loop-alloc-smaller
+loop-alloc-smaller c =
+    let is = MatchBool-at_true _ _ c.loop-alloc-test.true c.is_later.ensures in
+    nearer c.args.links.now c.args.ring.now.slots c.requires.ordered c.args.above c.loop-alloc.at c.loop-alloc.invariant.walk.0 is.0
+    c.after-next.result c.after-next.ensures
 
 pub returns-clause-contexts : goal.returns-clause-contexts
 returns-clause-contexts c =
-    let ls = c.args.links.now in let above = c.args.above in let old = c.args.contexts.now in
-    let i = c.loop-slot.invariant in
-    is-cleared (is_under ls above) no_context old c.loop-slot.contexts i.long (λ k. elim (cases_lt k c.loop-slot.slot) [
-      | inl low ↦ i.done k low
-      | inr past ↦
-          let gone : get_or old k no_context ≡ no_context = get_or_past old k no_context
-          (omega (arith, past, c.loop-slot-test.false, c.len-slot-end.ensures.value, c.requires.long)) in
-          i.rest k past ∙ gone
-          ∙ sym (ap (λ (a : Context). cond (is_under ls above k) no_context a) gone ∙ cond-same (is_under ls above k) no_context)
-    ])
+    let ls = c.args.links.now in let slots = c.args.ring.now.slots in let above = c.args.above in let at = c.loop-alloc.at in
+    let i = c.loop-alloc.invariant in let w = i.walk.0 in
+    let last = MatchBool-at_false _ _ c.loop-alloc-test.false c.is_later.ensures in
+    let ends = walk-past ls slots c.requires.ordered above at w c.is_ring.ensures.root
+    (λ some. let less = last some in omega (arith, less, c.stamp-oldest.ensures)) in
+    i.walk.1
+    ∙ wiped-cleared no_context (is_under ls above) w.done c.args.contexts.now
+    (done-under ls slots c.requires.ordered above c.is_forest.ensures at w ends)

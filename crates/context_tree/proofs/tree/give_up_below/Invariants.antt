@@ -1,12 +1,14 @@
-use Rattle.std.proofs.Common.{◌≡◌, ◌+◌, ◌<◌, ◌≤◌, ℕ, length, get_or, cond}
-use Rattle.context_tree.proofs.Words.{no_context, is_under, held_by_all}
+use Rattle.std.proofs.Common.{◌≡◌, ◌+◌}
+use Rattle.context_tree.specs.Preorders.{Walk}
+use Rattle.context_tree.proofs.Words.{no_context, held_by_all}
+use Rattle.context_tree.proofs.Walks.{wiped, away}
 use Rattle.context_tree.proofs.tree.give_up_below.Given as goal
 
-abbrev pub invariant-loop-slot : goal.invariant-loop-slot
-invariant-loop-slot l = record {
-  long : length l.contexts ≡ length l.fn.contexts;
-  done : (k : ℕ) → k < l.slot → get_or l.contexts k no_context ≡ cond (is_under l.links l.above k) no_context
-      (get_or l.fn.contexts k no_context);
-  rest : (k : ℕ) → l.slot ≤ k → get_or l.contexts k no_context ≡ get_or l.fn.contexts k no_context;
+abbrev pub invariant-loop-alloc : goal.invariant-loop-alloc
+invariant-loop-alloc l = record {
+  walk : (w : Walk l.links l.ring.slots l.above l.at) × (l.contexts ≡ wiped no_context w.done l.fn.contexts);
   given : held_by_all l.contexts + l.given ≡ held_by_all l.fn.contexts;
 }
+
+abbrev pub decreases-loop-alloc : goal.decreases-loop-alloc
+decreases-loop-alloc l = away l.at l.ring.slots

@@ -1,4 +1,4 @@
-use Rattle.std.proofs.Common.{◌≡◌, ◌+◌, ◌<◌, length, get_or, refl, ap, ◌∙◌, arith}
+use Rattle.std.proofs.Common.{◌≡◌, length, refl, ap, ◌∙◌, arith}
 use Rattle.context_tree.proofs.Words.{no_context, held_by, held_by_all, is_under}
 use Rattle.context_tree.proofs.Bounds.{all-set}
 use Rattle.context_tree.proofs.Clearing.{length-cleared, cut-too, low-there}

@@ -1,11 +1,17 @@
 use Rattle.std.proofs.Common.{◌≡◌, ◌+◌, ◌≤◌, true, false, List, Option, Some, None, length, get_or, refl, sym, ap, ◌∙◌, subst, arith}
-use Rattle.std.specs.Prelude.{◌==◌}
+use Rattle.std.specs.Prelude.{◌==◌, is_some}
+use Rattle.context_tree.specs.Preorders.{IsOrdered}
+use Rattle.context_tree.specs.Rings.{is_in}
+use Rattle.context_tree.proofs.Rings.{parted}
+use Rattle.context_tree.proofs.Preorders.{ordered-made}
+use Rattle.context_tree.proofs.Slots.{placed-length}
 use Rattle.std.proofs.lemmas.Bool.{eq-eqb, ne_eqb}
 use Rattle.context_tree.proofs.Words.{always_err, new_context, placed, IsFull, TreeState, Stamped, Emptied, IsBounded, with_new, Context}
 use Rattle.context_tree.proofs.Words.{Link, held_by_all}
 use Rattle.std.proofs.lemmas.Result.{err_from_is_err_and}
 use Rattle.context_tree.specs.declared.error.TreeError.TheVariants.{StampsSpent}
-use Rattle.context_tree.proofs.TreeLaws.{stamp-low, stamps-made, empty-made, bounded-made, held-made, long-made, not-made, refused-made}
+use Rattle.context_tree.proofs.TreeLaws.{slot-some, stamp-low, stamps-made, empty-made, bounded-made, held-made, long-made}
+use Rattle.context_tree.proofs.TreeLaws.{not-made, refused-made}
 use Rattle.context_tree.proofs.tree.Tree.create.Goals.{Else-self}
 use Rattle.context_tree.proofs.tree.Tree.create.Goals as goal
 
@@ -20,6 +26,10 @@ invariant_of-self-2 c =
     let links : c.add.new.self ≡ placed t.links slot (Some link) = was.added in
     let contexts : c.put_context.new.contexts.items ≡ placed t.contexts.items slot it = c.put_context.ensures
     ∙ ap (λ (cs : List Context). placed cs slot it) c.reserve.ensures.items in
+    let p = c.args.parent.slot in
+    let there = slot-some t c.self.invariant c.args.self.now c.self.view_is c.args.parent c.in_ok-check.ensures in
+    let at = parted p t.ring.slots (c.self.invariant.ordered.live p ∙ there) in
+    let slots = c.insert.ensures.slots at.0 at.1 (c.make_room.ensures.same ∙ at.2) in
     record {
       long = ap length contexts ∙ long-made t.links t.contexts.items t.last slot was.low c.self.invariant.long link it
           ∙ sym (ap length links);
@@ -34,7 +44,33 @@ invariant_of-self-2 c =
       held = c.self.invariant.held ∙ sym (ap held_by_all contexts
           ∙ held-made t.links t.contexts.items t.last slot was.low c.self.invariant.long link it c.args.kind c.in_ok-context.ensures.1
           was.fresh c.self.invariant.empty);
+      ordered = subst (λ (ls : List (Option Link)). IsOrdered ls c.insert.new.self.slots) (sym links)
+          (subst (IsOrdered (placed t.links slot (Some link))) (sym slots)
+          (ordered-made t.links t.ring.slots at.0 p at.1 c.self.invariant.ordered at.2 slot (t.last + 1) was.low was.fresh
+          (λ k. let low = stamp-low t.links t.last k c.self.invariant.stamps in omega (arith, low))));
+      room =
+          omega (
+            arith,
+            placed-length t.links slot (Some link) was.low,
+            ap length links,
+            c.insert.ensures.room,
+            c.make_room.ensures.more,
+            c.in_ok-make_room.ensures.room,
+            c.len.ensures.value,
+            c.self.invariant.room,
+          );
     }
+
+pub insert-requires-clause-there : goal.insert-requires-clause-there
+insert-requires-clause-there c =
+    let t = c.self.inside in let p = c.args.parent.slot in
+    ap (is_in p) c.make_room.ensures.same ∙ c.self.invariant.ordered.live p
+    ∙ slot-some t c.self.invariant c.args.self.now c.self.view_is c.args.parent c.in_ok-check.ensures
+
+pub insert-requires-clause-new : goal.insert-requires-clause-new
+insert-requires-clause-new c =
+    let slot = c.in_ok-slot.slot in
+    ap (is_in slot) c.make_room.ensures.same ∙ c.self.invariant.ordered.live slot ∙ ap is_some c.in_ok-slot.ensures.fresh
 
 pub returns-in_err-check-clause-refused : goal.returns-in_err-check-clause-refused
 returns-in_err-check-clause-refused c =
@@ -65,6 +101,16 @@ returns-in_err-reserve-clause-refused c = refused-made {here = true} {none = fal
 pub returns-in_err-reserve-clause-unchanged : goal.returns-in_err-reserve-clause-unchanged
 returns-in_err-reserve-clause-unchanged c =
     always_err c.from_residual-in_err-reserve.result
+    ((λ i. record { links = c.self.inside.links; contexts = c.reserve.ensures.items i; last = c.self.inside.last }) ∙ c.self.view_is)
+
+pub returns-in_err-make_room-clause-refused : goal.returns-in_err-make_room-clause-refused
+returns-in_err-make_room-clause-refused c = refused-made {here = true} {none = false} c.from_residual-in_err-make_room.result
+    c.from_residual-in_err-make_room.ensures.1 c.in_ok-check.ensures (left (goal.at.returns-in_err-make_room-clause-refused c).Else-self)
+    c.in_ok-context.ensures.0
+
+pub returns-in_err-make_room-clause-unchanged : goal.returns-in_err-make_room-clause-unchanged
+returns-in_err-make_room-clause-unchanged c =
+    always_err c.from_residual-in_err-make_room.result
     ((λ i. record { links = c.self.inside.links; contexts = c.reserve.ensures.items i; last = c.self.inside.last }) ∙ c.self.view_is)
 
 pub returns-in_err-slot-clause-refused : goal.returns-in_err-slot-clause-refused

@@ -11,7 +11,8 @@ returns-clause-bound c =
       arith,
       less,
       c.self.invariant.bounded,
-      c.sum_below.ensures.value,
+      c.sum_below-sum.ensures,
+      c.from.ensures,
       ap (λ cs. held_from x.links c.args.id.slot 0 cs)
           c.deref.ensures,
     )
