@@ -1,23 +1,26 @@
 //! What each command does.
 
-use crate::files::{occupant_of_out, read, write_out};
+use crate::files::{front_kind, occupant_of_out, read, try_files, write_out};
 use clap::ArgMatches;
 use command_streams::{
     Diagnostic, OutputStatus, Problem, Streams, open_disk, reason_of, remove_disk, system_seed,
 };
 use command_words::{
-    BATCH, COLUMNS, EXPLAIN, FORMAT, IN, LIMIT, NO_CLOBBER, OUT, PROGRESS, QUERY, Subcommand, value,
+    BATCH, COLUMNS, COMPLETE, EXPLAIN, FORCE, FORMAT, IN, LIMIT, NO_CLOBBER, OUT, PROGRESS, QUERY,
+    Subcommand, value,
 };
 use fault_sentences::Quoted;
 use file_sentences::{
-    Explained, FileKind, PassedOver, Progress, Standing, columns_reason, file_reason, query_reason,
-    saving_reason, summary_reason, text_of,
+    CutShort, Explained, Fate, FileKind, PassedOver, Progress, Standing, WrittenOver,
+    columns_reason, file_reason, limit_reason, query_reason, saving_reason, spill_reason,
+    summary_reason, text_of,
 };
 use hash_agg::{Fnv1a, Means, TapeDisk, Work};
-use holding_sentences::{answer_line, holding_lines};
-use replica_merge::Replica;
+use holding_sentences::{answer_line, holding_lines, waiting_lines};
+use out_files::{Occupant, Place, append_fault};
+use replica_merge::{Delivered, Replica};
 use replies::{ExitKind, Format, Refusal, Reply, origin_lines, put_reply, refusal_ending, table};
-use script_io::{Occupant, put_all, read_limit};
+use script_io::{put_all, read_limit};
 use spill_tapes::{MemDisk, SpillDisk, SystemFile};
 use std::alloc::{AllocError, Global};
 use std::io::Write;
@@ -33,11 +36,14 @@ fn format_named(text: &str) -> Format {
     }
 }
 
-/// The replica that a file is the summary of.
-fn open_replica<'p, R: Files + AllocGlobal>(rt: &R, path: &'p str) -> Result<Replica, Problem<'p>> {
+/// The replica that a file is the summary of, and the bytes of that.
+fn open_replica<'p, R: Files + AllocGlobal>(
+    rt: &R,
+    path: &'p str,
+) -> Result<(Replica, Vec<u8>), Problem<'p>> {
     let file = read(rt, path)?;
     match command_replicas::load(rt.alloc(), &file) {
-        Ok(replica) => Ok(replica),
+        Ok(replica) => Ok((replica, file)),
         Err(why) => {
             let reason = summary_reason(rt.alloc(), &file, why);
             Err(Problem::because(path, why, reason))
@@ -57,20 +63,6 @@ fn new_replica<'p>(alloc: Global, matches: &ArgMatches<'p>) -> Result<Replica, P
         Err(why) => {
             let reason = query_reason(alloc, columns, query, why);
             Err(Problem::because("--query", why, reason))
-        }
-    }
-}
-
-/// The replica that a command begins with.
-fn first_replica<'p, R: Files + AllocGlobal>(
-    rt: &R,
-    subcommand: Subcommand,
-    matches: &ArgMatches<'p>,
-) -> Result<Replica, Problem<'p>> {
-    match subcommand {
-        Subcommand::New => new_replica(rt.alloc(), matches),
-        Subcommand::Feed | Subcommand::Merge | Subcommand::Known | Subcommand::Answer => {
-            open_replica(rt, value(matches, IN))
         }
     }
 }
@@ -116,28 +108,9 @@ fn take<D: TapeDisk>(
     }
 }
 
-/// Takes a file into a replica, and gives the reply.
-fn take_file<'p, R: Files + AllocGlobal, D: TapeDisk>(
-    rt: &R,
-    kind: FileKind,
-    replica: &mut Replica,
-    path: &'p str,
-    means: &Means<Fnv1a>,
-    disk: &mut D,
-    work: &mut Work,
-) -> Result<Reply<'static>, Problem<'p>> {
-    let file = read(rt, path)?;
-    match take(rt.alloc(), kind, replica, &file, means, disk, work) {
-        Ok(reply) => Ok(reply),
-        Err(why) => {
-            let reason = file_reason(rt.alloc(), kind, replica, &file, why);
-            Err(Problem::because(path, why, reason))
-        }
-    }
-}
-
 /// A command that runs: the files that it reaches, its streams, its disk of tapes and whether that lies in a file, what its grouping
-/// took, how many files were taken or passed over, whether OUT is to be a new file, and whether it was written.
+/// took, how many files were taken or passed over, whether OUT is to be a new file, which of the files that are read it is, and the bytes
+/// that were read of it, whether it was written, and whether an answer lacks batches that it was to have.
 #[derive(Drop)]
 pub struct Session<'c, R: Files, W, E> {
     rt: &'c R,
@@ -150,7 +123,10 @@ pub struct Session<'c, R: Files, W, E> {
     files: usize,
     tells_progress: bool,
     is_new: bool,
+    listed: Option<usize>,
+    old: Option<Vec<u8>>,
     is_written: bool,
+    is_short: bool,
 }
 
 impl<'c, R: Files + AllocGlobal + RandomSource, W: Write, E: Write> Session<'c, R, W, E> {
@@ -167,7 +143,10 @@ impl<'c, R: Files + AllocGlobal + RandomSource, W: Write, E: Write> Session<'c, 
             files: 0,
             tells_progress: false,
             is_new: false,
+            listed: None,
+            old: None,
             is_written: false,
+            is_short: false,
         }
     }
 
@@ -218,9 +197,10 @@ impl<'c, R: Files + AllocGlobal + RandomSource, W: Write, E: Write> Session<'c, 
         Ok(())
     }
 
-    /// Goes on behind a file that was refused. One that could not be read ends the command.
-    fn pass_over<'p>(&mut self, problem: Problem<'p>) -> Result<(), Problem<'p>> {
-        if problem.is_fault() {
+    /// Goes on behind the file of a place that was refused. One that could not be read ends the command, and so does one that is OUT, which
+    /// stays, and a disk of tapes that failed.
+    fn pass_over<'p>(&mut self, problem: Problem<'p>, place: usize) -> Result<(), Problem<'p>> {
+        if problem.is_fault() || problem.why == Refusal::TapeFault || self.listed == Some(place) {
             return Err(problem);
         }
         self.passed = self.passed.saturating_add(1);
@@ -247,25 +227,87 @@ impl<'c, R: Files + AllocGlobal + RandomSource, W: Write, E: Write> Session<'c, 
                 return Err(Problem::because(path, why, reason));
             }
         };
-        write_out(self.rt, path, &file, self.is_new)?;
+        write_out(self.rt, path, &file, self.is_new, self.old.as_deref())?;
         self.is_written = true;
         self.reply(&Reply::Saved(file.bytes().len()))
     }
 
-    /// Takes files into a replica, each with its reply.
+    /// Keeps the bytes that were read of the file of a place, where it is OUT.
+    fn keep_old(&mut self, place: usize, file: Vec<u8>) {
+        if self.listed == Some(place) {
+            self.old = Some(file);
+        }
+    }
+
+    /// Says why a file is refused: of its bytes, or of the file of tapes.
+    fn refused<'p>(
+        &self,
+        kind: FileKind,
+        replica: &Replica,
+        path: &'p str,
+        file: &[u8],
+        why: Refusal,
+        spill: Option<&str>,
+    ) -> Problem<'p> {
+        let alloc = self.rt.alloc();
+        let reason = match (why, spill) {
+            (Refusal::TapeFault, Some(spill)) => {
+                spill_reason(alloc, spill, append_fault(self.rt, spill))
+            }
+            _ => file_reason(alloc, kind, replica, file, why),
+        };
+        Problem::because(path, why, reason)
+    }
+
+    /// Says that the last line of a batch file has no end, where it was taken.
+    fn tell_cut(&mut self, path: &str, file: &[u8], reply: &Reply<'_>) {
+        let is_taken = match reply {
+            Reply::Delivered(Delivered::Known) => false,
+            Reply::Delivered(_) => true,
+            _ => false,
+        };
+        if is_taken && !matches!(file.last(), Some(b'\n' | b'\r')) {
+            self.streams.say(&CutShort { path });
+        }
+    }
+
+    /// Takes the file of a place into a replica, and gives the reply.
+    fn take_file<'p>(
+        &mut self,
+        kind: FileKind,
+        replica: &mut Replica,
+        path: &'p str,
+        place: usize,
+        means: &Means<Fnv1a>,
+        spill: Option<&str>,
+    ) -> Result<Reply<'static>, Problem<'p>> {
+        let file = read(self.rt, path)?;
+        let (disk, work) = (&mut self.disk, &mut self.work);
+        match take(self.rt.alloc(), kind, replica, &file, means, disk, work) {
+            Ok(reply) => {
+                self.tell_cut(path, &file, &reply);
+                self.keep_old(place, file);
+                Ok(reply)
+            }
+            Err(why) => Err(self.refused(kind, replica, path, &file, why, spill)),
+        }
+    }
+
+    /// Takes files into a replica, those behind the first that is read, each with its reply.
     fn take_files<'p>(
         &mut self,
         kind: FileKind,
         replica: &mut Replica,
         paths: &[&'p str],
         means: &Means<Fnv1a>,
+        spill: Option<&str>,
     ) -> Result<(), Problem<'p>> {
         self.files = paths.len();
-        for path in paths {
-            let (disk, work) = (&mut self.disk, &mut self.work);
-            match take_file(self.rt, kind, replica, *path, means, disk, work) {
+        for (before, path) in paths.iter().enumerate() {
+            let place = before.saturating_add(1);
+            match self.take_file(kind, replica, *path, place, means, spill) {
                 Ok(reply) => self.reply_to(*path, &reply)?,
-                Err(problem) => self.pass_over(problem)?,
+                Err(problem) => self.pass_over(problem, place)?,
             }
         }
         Ok(())
@@ -303,9 +345,36 @@ impl<'c, R: Files + AllocGlobal + RandomSource, W: Write, E: Write> Session<'c, 
     ) -> Result<(), Problem<'p>> {
         let format = format_named(value(matches, FORMAT));
         match table(self.rt.alloc(), replica, format) {
-            Ok((_, table)) => self.print(&table),
+            Ok((_, table)) => self.print(&table)?,
+            Err(_) => return Err(Problem::refused(value(matches, IN), Refusal::NoMemory)),
+        }
+        match waiting_lines(self.rt.alloc(), replica) {
+            Ok(lines) => self.tell_waiting(&lines, format, matches),
             Err(_) => Err(Problem::refused(value(matches, IN), Refusal::NoMemory)),
         }
+    }
+
+    /// Tells which batches an answer does not count, since they wait for others: on standard error, and at the foot of an aligned table.
+    /// Where both go to a terminal, it is told once.
+    fn tell_waiting<'p>(
+        &mut self,
+        lines: &[String],
+        format: Format,
+        matches: &ArgMatches<'p>,
+    ) -> Result<(), Problem<'p>> {
+        let has_foot = matches!(format, Format::Aligned);
+        let is_seen = has_foot && self.streams.terminals.output && self.streams.terminals.errors;
+        for line in lines {
+            if has_foot {
+                self.print(line.as_bytes())?;
+                self.print(b"\n")?;
+            }
+            if !is_seen {
+                self.streams.say(line);
+            }
+        }
+        self.is_short = !lines.is_empty() && Subcommand::Answer.is_told(matches, COMPLETE);
+        Ok(())
     }
 
     /// Does what a command asks of its replica.
@@ -333,19 +402,49 @@ impl<'c, R: Files + AllocGlobal + RandomSource, W: Write, E: Write> Session<'c, 
             }
             Subcommand::Feed => {
                 let paths = matches.get_strs(BATCH).unwrap_or_default();
-                self.take_files(FileKind::Batch, replica, paths, means)?;
+                self.take_files(
+                    FileKind::Batch,
+                    replica,
+                    paths,
+                    means,
+                    subcommand.spill(matches),
+                )?;
             }
             Subcommand::Merge => {
                 // The replica is that of the first.
                 let paths = matches.get_strs(IN).unwrap_or_default();
                 let others = paths.get(1..).unwrap_or_default();
-                self.take_files(FileKind::Summary, replica, others, means)?;
+                self.take_files(
+                    FileKind::Summary,
+                    replica,
+                    others,
+                    means,
+                    subcommand.spill(matches),
+                )?;
             }
             Subcommand::New => {}
         }
         // OUT may have the path of the file for what is spilled, which is no longer wanted.
         self.remove_spill(subcommand, matches);
         self.save(replica, value(matches, OUT))
+    }
+
+    /// The replica that a command begins with.
+    fn first_replica<'p>(
+        &mut self,
+        subcommand: Subcommand,
+        matches: &ArgMatches<'p>,
+    ) -> Result<Replica, Problem<'p>> {
+        if matches!(subcommand, Subcommand::New) {
+            let replica = new_replica(self.rt.alloc(), matches)?;
+            return match self.try_first(subcommand, matches) {
+                Ok(()) => Ok(replica),
+                Err(problem) => Err(problem),
+            };
+        }
+        let (replica, file) = open_replica(self.rt, value(matches, IN))?;
+        self.keep_old(0, file);
+        Ok(replica)
     }
 
     /// Runs a command on files: each begins with one replica.
@@ -355,7 +454,7 @@ impl<'c, R: Files + AllocGlobal + RandomSource, W: Write, E: Write> Session<'c, 
         matches: &ArgMatches<'p>,
         means: &Means<Fnv1a>,
     ) -> Result<(), Problem<'p>> {
-        let mut replica = first_replica(self.rt, subcommand, matches)?;
+        let mut replica = self.first_replica(subcommand, matches)?;
         let done = self.perform(&mut replica, subcommand, matches, means);
         drop(replica);
         done
@@ -387,10 +486,11 @@ impl<'c, R: Files + AllocGlobal + RandomSource, W: Write, E: Write> Session<'c, 
         }
     }
 
-    /// Ends a command that stopped.
+    /// Ends a command that stopped. Where the disk of tapes failed, so did a file.
     fn stop(&mut self, problem: Problem<'_>, output: Option<OutputStatus<'_>>) -> ExitKind {
         self.complain(&problem, output);
         match self.reply(&Reply::Refused(problem.why)) {
+            Ok(()) if problem.why == Refusal::TapeFault => ExitKind::Fault,
             Ok(()) => refusal_ending(problem.why),
             Err(_) => ExitKind::Fault,
         }
@@ -400,7 +500,7 @@ impl<'c, R: Files + AllocGlobal + RandomSource, W: Write, E: Write> Session<'c, 
     fn limit_reason(&self, matches: &ArgMatches<'_>, why: Refusal) -> Result<String, AllocError> {
         let given = Quoted(matches.get_str(LIMIT).unwrap_or("").as_bytes());
         if matches!(why, Refusal::BadCommand) {
-            format!(in self.streams.alloc; "{given}: a number of bytes has 1 to 19 digits")
+            limit_reason(self.streams.alloc, matches.get_str(LIMIT).unwrap_or(""))
         } else {
             format!(in self.streams.alloc;
                 "{given} is out of range, which is 65,536 to 1,099,511,627,776 bytes"
@@ -428,26 +528,70 @@ impl<'c, R: Files + AllocGlobal + RandomSource, W: Write, E: Write> Session<'c, 
         self.stop(problem, output)
     }
 
-    /// OUT, where a file is there which is none of those that are read. Where that can't be found out, it is a problem only to one that
+    /// What becomes of a file in the place of OUT by its first bytes: of one that is none of the files read, or of one that is.
+    fn fate_by_front<'p>(
+        &self,
+        subcommand: Subcommand,
+        matches: &ArgMatches<'p>,
+        out: &'p str,
+        is_listed: bool,
+    ) -> Result<Option<Fate>, Problem<'p>> {
+        let is_forced = subcommand.is_told(matches, FORCE);
+        match front_kind(self.rt, out) {
+            Ok(kind) if kind.is_foreign() && is_forced => Ok(Some(Fate::Forced)),
+            Ok(kind) if kind.is_foreign() => Ok(Some(Fate::Spared(kind))),
+            Err(problem) if !is_forced => Err(problem),
+            _ if is_listed => Ok(None),
+            _ => Ok(Some(Fate::Replaced)),
+        }
+    }
+
+    /// What becomes of what is there in the place of OUT, where that is to be told.
+    fn fate_of<'p>(
+        &mut self,
+        subcommand: Subcommand,
+        matches: &ArgMatches<'p>,
+        out: &'p str,
+        occupant: Occupant,
+    ) -> Result<Option<Fate>, Problem<'p>> {
+        let keeps = subcommand.is_told(matches, NO_CLOBBER);
+        match occupant {
+            Occupant::Nothing => {
+                self.is_new = keeps;
+                Ok(None)
+            }
+            Occupant::Special => Ok(None),
+            Occupant::Listed(place) => {
+                self.listed = Some(place);
+                // Where the first is no summary, nothing is written.
+                if place == 0 {
+                    return Ok(None);
+                }
+                self.fate_by_front(subcommand, matches, out, true)
+            }
+            Occupant::Another if keeps => Ok(Some(Fate::Kept)),
+            Occupant::Another => self.fate_by_front(subcommand, matches, out, false),
+        }
+    }
+
+    /// What is to be told of a file in the place of OUT. Where it can't be found out what is there, it is a problem only to a command that
     /// keeps such a file.
     fn standing<'p>(
         &mut self,
         subcommand: Subcommand,
         matches: &ArgMatches<'p>,
-    ) -> Result<Option<&'p str>, Problem<'p>> {
+    ) -> Result<Option<Standing<'p>>, Problem<'p>> {
         let Some(out) = subcommand.out(matches) else {
             return Ok(None);
         };
-        let keeps = subcommand.is_told(matches, NO_CLOBBER);
-        match occupant_of_out(self.rt, subcommand, matches, out) {
-            Ok(Occupant::Another) => Ok(Some(out)),
-            Ok(Occupant::Listed) => Ok(None),
-            Ok(Occupant::Nothing) => {
-                self.is_new = keeps;
-                Ok(None)
-            }
-            Err(problem) if keeps => Err(problem),
-            Err(_) => Ok(None),
+        let occupant = match occupant_of_out(self.rt, subcommand, matches, out) {
+            Ok(occupant) => occupant,
+            Err(problem) if subcommand.is_told(matches, NO_CLOBBER) => return Err(problem),
+            Err(_) => return Ok(None),
+        };
+        match self.fate_of(subcommand, matches, out, occupant)? {
+            Some(fate) => Ok(Some(Standing { out, fate })),
+            None => Ok(None),
         }
     }
 
@@ -470,7 +614,7 @@ impl<'c, R: Files + AllocGlobal + RandomSource, W: Write, E: Write> Session<'c, 
         &mut self,
         subcommand: Subcommand,
         matches: &ArgMatches<'_>,
-        standing: Option<&str>,
+        standing: Option<Standing<'_>>,
     ) -> ExitKind {
         match means_of(subcommand, matches) {
             Ok(means) => self.run_with(subcommand, matches, means, standing),
@@ -481,8 +625,8 @@ impl<'c, R: Files + AllocGlobal + RandomSource, W: Write, E: Write> Session<'c, 
     /// Runs a command on files, and tells how it ended.
     pub fn run(mut self, subcommand: Subcommand, matches: &ArgMatches<'_>) -> ExitKind {
         let exit = match self.standing(subcommand, matches) {
-            Ok(Some(out)) if subcommand.is_told(matches, NO_CLOBBER) => {
-                self.streams.say(&Standing { out, is_kept: true });
+            Ok(Some(standing)) if standing.fate.stops() => {
+                self.streams.say(&standing);
                 return ExitKind::BadUsage;
             }
             Ok(standing) => self.run_beside(subcommand, matches, standing),
@@ -508,16 +652,40 @@ impl<'c, R: Files + AllocGlobal + RandomSource, W: Write, E: Write> Session<'c, 
         Ok(means.with_seed(seed))
     }
 
+    /// Tries whether the files of a command that writes OUT can be read and written: before the work, which `new` has none of. It is told
+    /// where OUT is to be written over.
+    fn try_first<'p>(
+        &mut self,
+        subcommand: Subcommand,
+        matches: &ArgMatches<'p>,
+    ) -> Result<(), Problem<'p>> {
+        let Some(out) = subcommand.out(matches) else {
+            return Ok(());
+        };
+        if try_files(self.rt, subcommand, matches, out)? == Place::Over {
+            self.streams.say(&WrittenOver { out });
+        }
+        Ok(())
+    }
+
     /// Runs a command on files by means, with the disk of tapes that it tells, and tells how it ended.
     fn run_with(
         &mut self,
         subcommand: Subcommand,
         matches: &ArgMatches<'_>,
         means: Means<Fnv1a>,
-        standing: Option<&str>,
+        standing: Option<Standing<'_>>,
     ) -> ExitKind {
+        let terminals = self.streams.terminals;
+        // Replies on the same terminal tell as much.
         self.tells_progress = subcommand.is_told(matches, PROGRESS)
-            || self.streams.terminals.errors;
+            || (terminals.errors && !terminals.output);
+        if subcommand.aggregates() {
+            if let Err(problem) = self.try_first(subcommand, matches) {
+                let output = self.output_status(subcommand, matches);
+                return self.stop(problem, output);
+            }
+        }
         let spill = subcommand.spill(matches);
         match open_disk(self.rt, spill) {
             Ok(disk) => self.disk = disk,
@@ -527,11 +695,8 @@ impl<'c, R: Files + AllocGlobal + RandomSource, W: Write, E: Write> Session<'c, 
             }
         }
         self.in_file = spill.is_some();
-        if let Some(out) = standing {
-            self.streams.say(&Standing {
-                out,
-                is_kept: false,
-            });
+        if let Some(standing) = standing {
+            self.streams.say(&standing);
         }
         let exit = match self.seeded(subcommand, means) {
             Ok(means) => self.run_by(subcommand, matches, &means),
@@ -571,6 +736,7 @@ impl<'c, R: Files + AllocGlobal + RandomSource, W: Write, E: Write> Session<'c, 
                 self.tell_passed(subcommand, matches);
                 ExitKind::Refused
             }
+            Ok(()) if self.is_short => ExitKind::Refused,
             Ok(()) => ExitKind::Done,
             Err(problem) => {
                 let output = self.output_status(subcommand, matches);
