@@ -5,9 +5,7 @@ use command_streams::{
     Problem, Streams, is_closed, open_disk, reason_of, remove_disk, say, system_seed,
 };
 use csv::ByteRecord;
-use fault_sentences::{
-    Reason, ScriptPlace, say_columns, say_disagreement, say_limit, say_no_name, say_taken,
-};
+use fault_sentences::{Reason, ScriptPlace, say_columns, say_disagreement, say_limit, say_taken};
 use hash_agg::{Seed, TapeDisk};
 use replies::{ExitKind, Refusal, Reply, RunError, put_reply, refusal_ending, run_ending};
 use script_io::Fused;
@@ -58,7 +56,7 @@ impl<E: Write> Complaints<'_, E> {
         let (place, alloc) = (&self.place, self.alloc);
         let said = match why {
             Refusal::BadCommand => place.say_command(alloc, head)?,
-            Refusal::NoSuchName => say_no_name(alloc, head)?,
+            Refusal::NoSuchName => place.say_no_name(alloc, head)?,
             Refusal::NameTaken => say_taken(alloc, head)?,
             Refusal::Limit(_) => say_limit(alloc, head)?,
             Refusal::OriginDisagrees { origin, number } => {
