@@ -1,5 +1,8 @@
 //! The files that a command reads and writes.
 
+ghost use Rattle.std.specs.Prelude.{IfErr};
+ghost use Rattle.command_files.specs.Taking.{IsUnread};
+
 use clap::ArgMatches;
 use command_replicas::SummaryFile;
 use command_streams::Problem;
@@ -19,7 +22,9 @@ use std::rt::Files;
 pub(crate) fn read<'p, R: Files + AllocGlobal>(
     rt: &R,
     path: &'p str,
-) -> Result<Vec<u8>, Problem<'p>> {
+) -> Result<Vec<u8>, Problem<'p>>
+    ensures { IfErr result (λ problem. IsUnread problem.why) }
+{
     match read_file(rt, path) {
         Ok(bytes) => Ok(bytes),
         Err(Unread::NoMemory) => Err(Problem::refused(path, Refusal::NoMemory)),
@@ -101,21 +106,24 @@ fn unwritten<'p, R: AllocGlobal>(rt: &R, path: &'p str, why: Unwritten) -> Probl
 /// Writes OUT, which nothing else does: a summary file. One that is there is replaced at once, or, where it is a device or a pipe, written
 /// to; where it is one of the files that were read, by its old bytes, and other bytes stand there by now, or OUT is to be a new file and
 /// one is there by now, that stays, and `WriteFault` is told. Where there is no memory for the name of the new file that takes its place,
-/// or the system says that it has none, `NoMemory` is told, and for any other failure `WriteFault`.
+/// or the system says that it has none, `NoMemory` is told, and for any other failure `WriteFault`. The answer is how it was written.
 pub(crate) fn write_out<'p, R: Files + AllocGlobal>(
     rt: &R,
     path: &'p str,
     file: &SummaryFile,
     is_new: bool,
     old: Option<&[u8]>,
-) -> Result<(), Problem<'p>> {
+) -> Result<Place, Problem<'p>> {
     let written = if is_new {
-        write_new_file(rt, path, file.bytes())
+        match write_new_file(rt, path, file.bytes()) {
+            Ok(()) => Ok(Place::Beside),
+            Err(why) => Err(why),
+        }
     } else {
         write_file(rt, path, file.bytes(), old)
     };
     match written {
-        Ok(()) => Ok(()),
+        Ok(place) => Ok(place),
         Err(why) => Err(unwritten(rt, path, why)),
     }
 }

@@ -1,28 +1,29 @@
 //! What each command does.
 
-use crate::files::{front_kind, occupant_of_out, read, try_files, write_out};
+ghost use Rattle.std.specs.Prelude.{◌≡◌, ◌×◌, Bool, ℕ, List, Option, length, OnOk};
+ghost use Rattle.command_streams.specs.Stopping.{EndsRefused};
+ghost use Rattle.command_files.specs.Taking.{TakesFile, TakesAll, taken};
+
+use crate::files::read;
+use crate::limit::{means_of, said_of_limit};
+use crate::replicas::{new_replica, open_replica, summary_of, take};
+use crate::target::Target;
 use clap::ArgMatches;
 use command_streams::{
-    Diagnostic, OutputStatus, Problem, Streams, open_disk, reason_of, remove_disk, system_seed,
+    Diagnostic, OutputStatus, Problem, Streams, open_disk, reason_of, remove_disk, reply_refused,
+    system_seed, tape_reason,
 };
-use command_words::{
-    BATCH, COLUMNS, COMPLETE, EXPLAIN, FORCE, FORMAT, IN, LIMIT, NO_CLOBBER, OUT, PROGRESS, QUERY,
-    Subcommand, value,
-};
-use fault_sentences::Quoted;
+use command_words::{BATCH, COMPLETE, EXPLAIN, FORMAT, IN, OUT, PROGRESS, Subcommand, value};
 use file_sentences::{
-    CutShort, Explained, Fate, FileKind, PassedOver, Progress, Standing, WrittenOver,
-    columns_reason, file_reason, limit_reason, query_reason, saving_reason, spill_reason,
-    summary_reason, text_of,
+    CutShort, Explained, FileKind, PassedOver, Progress, Standing, WrittenOver, file_reason,
+    text_of,
 };
-use hash_agg::{Fnv1a, Means, TapeDisk, Work};
+use hash_agg::{Fnv1a, Means, Work};
 use holding_sentences::{answer_line, holding_lines, waiting_lines};
-use out_files::{Occupant, Place, append_fault};
 use replica_merge::{Delivered, Replica};
-use replies::{ExitKind, Format, Refusal, Reply, origin_lines, put_reply, refusal_ending, table};
-use script_io::{put_all, read_limit};
+use replies::{ExitKind, Format, Refusal, Reply, origin_lines, put_reply, table};
+use script_io::put_all;
 use spill_tapes::{MemDisk, SpillDisk, SystemFile};
-use std::alloc::{AllocError, Global};
 use std::io::Write;
 use std::random::RandomSource;
 use std::rt::Files;
@@ -36,81 +37,19 @@ fn format_named(text: &str) -> Format {
     }
 }
 
-/// The replica that a file is the summary of, and the bytes of that.
-fn open_replica<'p, R: Files + AllocGlobal>(
-    rt: &R,
-    path: &'p str,
-) -> Result<(Replica, Vec<u8>), Problem<'p>> {
-    let file = read(rt, path)?;
-    match command_replicas::load(rt.alloc(), &file) {
-        Ok(replica) => Ok((replica, file)),
-        Err(why) => {
-            let reason = summary_reason(rt.alloc(), &file, why);
-            Err(Problem::because(path, why, reason))
-        }
-    }
-}
-
-/// The replica of the texts of a command line, which knows nothing.
-fn new_replica<'p>(alloc: Global, matches: &ArgMatches<'p>) -> Result<Replica, Problem<'p>> {
-    let (columns, query) = (value(matches, COLUMNS), value(matches, QUERY));
-    match command_replicas::create(alloc, columns, query) {
-        Ok(replica) => Ok(replica),
-        Err(Refusal::BadSchema) => {
-            let reason = columns_reason(alloc, columns);
-            Err(Problem::because("--columns", Refusal::BadSchema, reason))
-        }
-        Err(why) => {
-            let reason = query_reason(alloc, columns, query, why);
-            Err(Problem::because("--query", why, reason))
-        }
-    }
-}
-
-/// The means of a limit that a text tells.
-fn means_of_limit(text: &str) -> Result<Means<Fnv1a>, Refusal> {
-    match read_limit(text.as_bytes()) {
-        Some(limit) => Ok(Means::new(limit, Fnv1a)?),
-        None => Err(Refusal::BadCommand),
-    }
-}
-
-/// The means that a command tells, or the usual ones.
-fn means_of(subcommand: Subcommand, matches: &ArgMatches<'_>) -> Result<Means<Fnv1a>, Refusal> {
-    if !subcommand.takes_limit() {
-        return Ok(Means::usual(Fnv1a));
-    }
-    match matches.get_str(LIMIT) {
-        Some(text) => means_of_limit(text),
-        None => Ok(Means::usual(Fnv1a)),
-    }
-}
-
-/// Takes the bytes of a file into a replica, and gives the reply: its batch is fed, or the replica of its summary is merged.
-fn take<D: TapeDisk>(
-    alloc: Global,
-    kind: FileKind,
-    replica: &mut Replica,
-    file: &[u8],
-    means: &Means<Fnv1a>,
-    disk: &mut D,
-    work: &mut Work,
-) -> Result<Reply<'static>, Refusal> {
-    match kind {
-        FileKind::Batch => {
-            let delivered = command_replicas::feed(alloc, replica, file, means, disk, work)?;
-            Ok(Reply::Delivered(delivered))
-        }
-        FileKind::Summary => {
-            command_replicas::merge(alloc, replica, file, means, disk, work)?;
-            Ok(Reply::Merged)
-        }
-    }
+/// Whether the last line of a batch file has no end, where a reply tells that it was taken.
+fn is_cut(file: &[u8], reply: &Reply<'_>) -> bool {
+    let is_taken = match reply {
+        Reply::Delivered(Delivered::Known) => false,
+        Reply::Delivered(_) => true,
+        _ => false,
+    };
+    is_taken && !matches!(file.last(), Some(b'\n' | b'\r'))
 }
 
 /// A command that runs: the files that it reaches, its streams, its disk of tapes and whether that lies in a file, what its grouping
-/// took, how many files were taken or passed over, whether OUT is to be a new file, which of the files that are read it is, and the bytes
-/// that were read of it, whether it was written, and whether an answer lacks batches that it was to have.
+/// took, how many files were taken or passed over, what OUT is to it and whether that was written, and whether an answer lacks batches
+/// that it was to have.
 #[derive(Drop)]
 pub struct Session<'c, R: Files, W, E> {
     rt: &'c R,
@@ -122,9 +61,7 @@ pub struct Session<'c, R: Files, W, E> {
     passed: usize,
     files: usize,
     tells_progress: bool,
-    is_new: bool,
-    listed: Option<usize>,
-    old: Option<Vec<u8>>,
+    target: Target,
     is_written: bool,
     is_short: bool,
 }
@@ -142,9 +79,7 @@ impl<'c, R: Files + AllocGlobal + RandomSource, W: Write, E: Write> Session<'c, 
             passed: 0,
             files: 0,
             tells_progress: false,
-            is_new: false,
-            listed: None,
-            old: None,
+            target: Target::new(),
             is_written: false,
             is_short: false,
         }
@@ -197,10 +132,9 @@ impl<'c, R: Files + AllocGlobal + RandomSource, W: Write, E: Write> Session<'c, 
         Ok(())
     }
 
-    /// Goes on behind the file of a place that was refused. One that could not be read ends the command, and so does one that is OUT, which
-    /// stays, and a disk of tapes that failed.
+    /// Goes on behind the file of a place that was refused. A file that failed ends the command, and so does one that is OUT, which stays.
     fn pass_over<'p>(&mut self, problem: Problem<'p>, place: usize) -> Result<(), Problem<'p>> {
-        if problem.is_fault() || problem.why == Refusal::TapeFault || self.listed == Some(place) {
+        if problem.is_fault() || self.target.is_at(place) {
             return Err(problem);
         }
         self.passed = self.passed.saturating_add(1);
@@ -220,23 +154,12 @@ impl<'c, R: Files + AllocGlobal + RandomSource, W: Write, E: Write> Session<'c, 
 
     /// Writes the summary file of a replica.
     fn save<'p>(&mut self, replica: &Replica, path: &'p str) -> Result<(), Problem<'p>> {
-        let file = match command_replicas::save(replica) {
-            Ok(file) => file,
-            Err(why) => {
-                let reason = saving_reason(self.rt.alloc(), replica, why);
-                return Err(Problem::because(path, why, reason));
-            }
-        };
-        write_out(self.rt, path, &file, self.is_new, self.old.as_deref())?;
+        let file = summary_of(self.rt.alloc(), replica, path)?;
+        if self.target.write(self.rt, path, &file)? {
+            self.streams.say(&WrittenOver { out: path });
+        }
         self.is_written = true;
         self.reply(&Reply::Saved(file.bytes().len()))
-    }
-
-    /// Keeps the bytes that were read of the file of a place, where it is OUT.
-    fn keep_old(&mut self, place: usize, file: Vec<u8>) {
-        if self.listed == Some(place) {
-            self.old = Some(file);
-        }
     }
 
     /// Says why a file is refused: of its bytes, or of the file of tapes.
@@ -248,27 +171,14 @@ impl<'c, R: Files + AllocGlobal + RandomSource, W: Write, E: Write> Session<'c, 
         file: &[u8],
         why: Refusal,
         spill: Option<&str>,
-    ) -> Problem<'p> {
-        let alloc = self.rt.alloc();
+    ) -> Problem<'p>
+        ensures { result.why ≡ why }
+    {
         let reason = match (why, spill) {
-            (Refusal::TapeFault, Some(spill)) => {
-                spill_reason(alloc, spill, append_fault(self.rt, spill))
-            }
-            _ => file_reason(alloc, kind, replica, file, why),
+            (Refusal::TapeFault, Some(spill)) => tape_reason(self.rt, spill),
+            _ => file_reason(self.rt.alloc(), kind, replica, file, why),
         };
         Problem::because(path, why, reason)
-    }
-
-    /// Says that the last line of a batch file has no end, where it was taken.
-    fn tell_cut(&mut self, path: &str, file: &[u8], reply: &Reply<'_>) {
-        let is_taken = match reply {
-            Reply::Delivered(Delivered::Known) => false,
-            Reply::Delivered(_) => true,
-            _ => false,
-        };
-        if is_taken && !matches!(file.last(), Some(b'\n' | b'\r')) {
-            self.streams.say(&CutShort { path });
-        }
     }
 
     /// Takes the file of a place into a replica, and gives the reply.
@@ -280,13 +190,17 @@ impl<'c, R: Files + AllocGlobal + RandomSource, W: Write, E: Write> Session<'c, 
         place: usize,
         means: &Means<Fnv1a>,
         spill: Option<&str>,
-    ) -> Result<Reply<'static>, Problem<'p>> {
+    ) -> Result<Reply<'static>, Problem<'p>>
+        ensures { (honest : Bool) × (file : Option (List ℕ)) × TakesFile kind honest file replica.old replica.new (taken result) }
+    {
         let file = read(self.rt, path)?;
         let (disk, work) = (&mut self.disk, &mut self.work);
         match take(self.rt.alloc(), kind, replica, &file, means, disk, work) {
             Ok(reply) => {
-                self.tell_cut(path, &file, &reply);
-                self.keep_old(place, file);
+                if is_cut(&file, &reply) {
+                    self.streams.say(&CutShort { path });
+                }
+                self.target.keep_old(place, file);
                 Ok(reply)
             }
             Err(why) => Err(self.refused(kind, replica, path, &file, why, spill)),
@@ -301,12 +215,16 @@ impl<'c, R: Files + AllocGlobal + RandomSource, W: Write, E: Write> Session<'c, 
         paths: &[&'p str],
         means: &Means<Fnv1a>,
         spill: Option<&str>,
-    ) -> Result<(), Problem<'p>> {
+    ) -> Result<(), Problem<'p>>
+        ensures { OnOk result ((files : List (Option (List ℕ))) × (length files ≡ length paths.now)
+            × TakesAll kind files replica.old replica.new) }
+    {
         self.files = paths.len();
-        for (before, path) in paths.iter().enumerate() {
-            let place = before.saturating_add(1);
-            match self.take_file(kind, replica, *path, place, means, spill) {
-                Ok(reply) => self.reply_to(*path, &reply)?,
+        let mut place: usize = 0;
+        for path in paths {
+            place = place.saturating_add(1);
+            match self.take_file(kind, replica, path, place, means, spill) {
+                Ok(reply) => self.reply_to(path, &reply)?,
                 Err(problem) => self.pass_over(problem, place)?,
             }
         }
@@ -343,14 +261,14 @@ impl<'c, R: Files + AllocGlobal + RandomSource, W: Write, E: Write> Session<'c, 
         replica: &Replica,
         matches: &ArgMatches<'p>,
     ) -> Result<(), Problem<'p>> {
-        let format = format_named(value(matches, FORMAT));
-        match table(self.rt.alloc(), replica, format) {
-            Ok((_, table)) => self.print(&table)?,
-            Err(_) => return Err(Problem::refused(value(matches, IN), Refusal::NoMemory)),
-        }
-        match waiting_lines(self.rt.alloc(), replica) {
-            Ok(lines) => self.tell_waiting(&lines, format, matches),
-            Err(_) => Err(Problem::refused(value(matches, IN), Refusal::NoMemory)),
+        let (alloc, format) = (self.rt.alloc(), format_named(value(matches, FORMAT)));
+        // Nothing is printed before there was memory for all.
+        match (waiting_lines(alloc, replica), table(alloc, replica, format)) {
+            (Ok(lines), Ok((_, table))) => {
+                self.print(&table)?;
+                self.tell_waiting(&lines, format, matches)
+            }
+            _ => Err(Problem::refused(value(matches, IN), Refusal::NoMemory)),
         }
     }
 
@@ -385,6 +303,7 @@ impl<'c, R: Files + AllocGlobal + RandomSource, W: Write, E: Write> Session<'c, 
         matches: &ArgMatches<'p>,
         means: &Means<Fnv1a>,
     ) -> Result<(), Problem<'p>> {
+        let spill = subcommand.spill(matches);
         match subcommand {
             Subcommand::Known => {
                 self.list(replica, value(matches, IN))?;
@@ -402,25 +321,13 @@ impl<'c, R: Files + AllocGlobal + RandomSource, W: Write, E: Write> Session<'c, 
             }
             Subcommand::Feed => {
                 let paths = matches.get_strs(BATCH).unwrap_or_default();
-                self.take_files(
-                    FileKind::Batch,
-                    replica,
-                    paths,
-                    means,
-                    subcommand.spill(matches),
-                )?;
+                self.take_files(FileKind::Batch, replica, paths, means, spill)?;
             }
             Subcommand::Merge => {
                 // The replica is that of the first.
                 let paths = matches.get_strs(IN).unwrap_or_default();
                 let others = paths.get(1..).unwrap_or_default();
-                self.take_files(
-                    FileKind::Summary,
-                    replica,
-                    others,
-                    means,
-                    subcommand.spill(matches),
-                )?;
+                self.take_files(FileKind::Summary, replica, others, means, spill)?;
             }
             Subcommand::New => {}
         }
@@ -443,7 +350,7 @@ impl<'c, R: Files + AllocGlobal + RandomSource, W: Write, E: Write> Session<'c, 
             };
         }
         let (replica, file) = open_replica(self.rt, value(matches, IN))?;
-        self.keep_old(0, file);
+        self.target.keep_old(0, file);
         Ok(replica)
     }
 
@@ -486,26 +393,12 @@ impl<'c, R: Files + AllocGlobal + RandomSource, W: Write, E: Write> Session<'c, 
         }
     }
 
-    /// Ends a command that stopped. Where the disk of tapes failed, so did a file.
-    fn stop(&mut self, problem: Problem<'_>, output: Option<OutputStatus<'_>>) -> ExitKind {
+    /// Ends a command that stopped.
+    fn stop(&mut self, problem: Problem<'_>, output: Option<OutputStatus<'_>>) -> ExitKind
+        ensures { EndsRefused problem.why result }
+    {
         self.complain(&problem, output);
-        match self.reply(&Reply::Refused(problem.why)) {
-            Ok(()) if problem.why == Refusal::TapeFault => ExitKind::Fault,
-            Ok(()) => refusal_ending(problem.why),
-            Err(_) => ExitKind::Fault,
-        }
-    }
-
-    /// Says why a limit is none.
-    fn limit_reason(&self, matches: &ArgMatches<'_>, why: Refusal) -> Result<String, AllocError> {
-        let given = Quoted(matches.get_str(LIMIT).unwrap_or("").as_bytes());
-        if matches!(why, Refusal::BadCommand) {
-            limit_reason(self.streams.alloc, matches.get_str(LIMIT).unwrap_or(""))
-        } else {
-            format!(in self.streams.alloc;
-                "{given} is out of range, which is 65,536 to 1,099,511,627,776 bytes"
-            )
-        }
+        reply_refused(self.streams.writer, problem.why)
     }
 
     /// Ends a command whose limit was refused. A text that is no number of bytes is no command line.
@@ -515,7 +408,7 @@ impl<'c, R: Files + AllocGlobal + RandomSource, W: Write, E: Write> Session<'c, 
         matches: &ArgMatches<'_>,
         why: Refusal,
     ) -> ExitKind {
-        let reason = match self.limit_reason(matches, why) {
+        let reason = match said_of_limit(self.streams.alloc, matches, why) {
             Ok(said) => Ok(reason_of(self.streams.alloc, Some(said))),
             Err(error) => Err(error),
         };
@@ -526,73 +419,6 @@ impl<'c, R: Files + AllocGlobal + RandomSource, W: Write, E: Write> Session<'c, 
             return ExitKind::BadUsage;
         }
         self.stop(problem, output)
-    }
-
-    /// What becomes of a file in the place of OUT by its first bytes: of one that is none of the files read, or of one that is.
-    fn fate_by_front<'p>(
-        &self,
-        subcommand: Subcommand,
-        matches: &ArgMatches<'p>,
-        out: &'p str,
-        is_listed: bool,
-    ) -> Result<Option<Fate>, Problem<'p>> {
-        let is_forced = subcommand.is_told(matches, FORCE);
-        match front_kind(self.rt, out) {
-            Ok(kind) if kind.is_foreign() && is_forced => Ok(Some(Fate::Forced)),
-            Ok(kind) if kind.is_foreign() => Ok(Some(Fate::Spared(kind))),
-            Err(problem) if !is_forced => Err(problem),
-            _ if is_listed => Ok(None),
-            _ => Ok(Some(Fate::Replaced)),
-        }
-    }
-
-    /// What becomes of what is there in the place of OUT, where that is to be told.
-    fn fate_of<'p>(
-        &mut self,
-        subcommand: Subcommand,
-        matches: &ArgMatches<'p>,
-        out: &'p str,
-        occupant: Occupant,
-    ) -> Result<Option<Fate>, Problem<'p>> {
-        let keeps = subcommand.is_told(matches, NO_CLOBBER);
-        match occupant {
-            Occupant::Nothing => {
-                self.is_new = keeps;
-                Ok(None)
-            }
-            Occupant::Special => Ok(None),
-            Occupant::Listed(place) => {
-                self.listed = Some(place);
-                // Where the first is no summary, nothing is written.
-                if place == 0 {
-                    return Ok(None);
-                }
-                self.fate_by_front(subcommand, matches, out, true)
-            }
-            Occupant::Another if keeps => Ok(Some(Fate::Kept)),
-            Occupant::Another => self.fate_by_front(subcommand, matches, out, false),
-        }
-    }
-
-    /// What is to be told of a file in the place of OUT. Where it can't be found out what is there, it is a problem only to a command that
-    /// keeps such a file.
-    fn standing<'p>(
-        &mut self,
-        subcommand: Subcommand,
-        matches: &ArgMatches<'p>,
-    ) -> Result<Option<Standing<'p>>, Problem<'p>> {
-        let Some(out) = subcommand.out(matches) else {
-            return Ok(None);
-        };
-        let occupant = match occupant_of_out(self.rt, subcommand, matches, out) {
-            Ok(occupant) => occupant,
-            Err(problem) if subcommand.is_told(matches, NO_CLOBBER) => return Err(problem),
-            Err(_) => return Ok(None),
-        };
-        match self.fate_of(subcommand, matches, out, occupant)? {
-            Some(fate) => Ok(Some(Standing { out, fate })),
-            None => Ok(None),
-        }
     }
 
     /// Sends out what was gathered, and tells how the command ended.
@@ -624,7 +450,7 @@ impl<'c, R: Files + AllocGlobal + RandomSource, W: Write, E: Write> Session<'c, 
 
     /// Runs a command on files, and tells how it ended.
     pub fn run(mut self, subcommand: Subcommand, matches: &ArgMatches<'_>) -> ExitKind {
-        let exit = match self.standing(subcommand, matches) {
+        let exit = match self.target.look(self.rt, subcommand, matches) {
             Ok(Some(standing)) if standing.fate.stops() => {
                 self.streams.say(&standing);
                 return ExitKind::BadUsage;
@@ -662,7 +488,7 @@ impl<'c, R: Files + AllocGlobal + RandomSource, W: Write, E: Write> Session<'c, 
         let Some(out) = subcommand.out(matches) else {
             return Ok(());
         };
-        if try_files(self.rt, subcommand, matches, out)? == Place::Over {
+        if self.target.try_first(self.rt, subcommand, matches, out)? {
             self.streams.say(&WrittenOver { out });
         }
         Ok(())

@@ -9,5 +9,5 @@ pub use out::{CutShort, FRONT_BYTES, Fate, FrontKind, Standing, WrittenOver};
 pub use progress::{Explained, PassedOver, Progress, text_of};
 pub use reasons::{
     FileKind, columns_reason, file_reason, length_reason, limit_reason, query_reason,
-    replaced_reason, saving_reason, spill_reason, summary_reason,
+    replaced_reason, saving_reason, summary_reason,
 };

@@ -6,6 +6,9 @@ use std::fmt;
 /// What summary files begin with, by their version.
 const OPENINGS: [&[u8]; 2] = [b"AGGSUM01", b"AGGSUM02"];
 
+/// What those of all versions begin with.
+const OPENING: &[u8] = b"AGGSUM";
+
 /// How many bytes of a file tell whether it begins as a summary does.
 pub const FRONT_BYTES: usize = 8;
 
@@ -29,6 +32,8 @@ pub enum FrontKind {
     Empty,
     /// It begins as a summary does.
     Summary,
+    /// It begins as a summary of another version does.
+    OtherVersion,
     /// It begins as a batch file does.
     Batch,
     /// It is something else.
@@ -42,6 +47,8 @@ impl FrontKind {
             FrontKind::Empty
         } else if begins_by(front, OPENINGS.as_slice()) {
             FrontKind::Summary
+        } else if front.len() >= FRONT_BYTES && front.starts_with(OPENING) {
+            FrontKind::OtherVersion
         } else if begins_by(front, BATCHES.as_slice()) {
             FrontKind::Batch
         } else {
@@ -49,9 +56,9 @@ impl FrontKind {
         }
     }
 
-    /// Whether a file has bytes, and is no summary.
+    /// Whether a file has bytes, and is no summary that is read.
     pub fn is_foreign(self) -> bool {
-        matches!(self, FrontKind::Batch | FrontKind::Other)
+        !matches!(self, FrontKind::Empty | FrontKind::Summary)
     }
 }
 
@@ -98,6 +105,10 @@ impl fmt::Display for Standing<'_> {
                 f,
                 "{out} exists, and is no summary, but a batch file: OUT comes first, and nothing is read or written (--force replaces it)"
             ),
+            Fate::Spared(FrontKind::OtherVersion) => write!(
+                f,
+                "{out} exists, and is a summary file of another version: nothing is read or written (--force replaces it)"
+            ),
             Fate::Spared(_) => write!(
                 f,
                 "{out} exists, and is no summary: nothing is read or written (--force replaces it)"
@@ -121,7 +132,7 @@ impl fmt::Display for WrittenOver<'_> {
         let out = Plain(self.out);
         write!(
             f,
-            "{out}: its folder takes no new file, so it is written over where it stands, and a crash meanwhile may lose it"
+            "{out}: no new file can take its place, so it is written over where it stands: a crash or a full disk meanwhile may lose it"
         )
     }
 }

@@ -7,7 +7,6 @@ use packed_rows::Schema;
 use replica_merge::{Replica, SummaryError};
 use replies::{Refusal, RunError};
 use std::alloc::{AllocError, Global};
-use std::io;
 
 /// Says why a text is no schema.
 pub fn columns_reason(alloc: Global, text: &str) -> Result<Option<Reason>, AllocError> {
@@ -217,22 +216,6 @@ pub fn replaced_reason(alloc: Global, out: &str) -> Result<Option<Reason>, Alloc
     let said = format!(in alloc;
         "{out} was replaced by another command meanwhile: run this one again"
     )?;
-    Ok(Some(Reason::whole(alloc, said)))
-}
-
-/// Says that the file for what is spilled failed, and what the system says of it, where that was found out.
-pub fn spill_reason(
-    alloc: Global,
-    path: &str,
-    cause: Option<io::Error>,
-) -> Result<Option<Reason>, AllocError> {
-    let path = Plain(path);
-    let said = match cause {
-        Some(cause) => format!(in alloc;
-            "{path}, the file of --spill, can't be written ({cause})"
-        )?,
-        None => format!(in alloc; "{path}, the file of --spill, could not be read or written")?,
-    };
     Ok(Some(Reason::whole(alloc, said)))
 }
 

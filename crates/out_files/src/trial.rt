@@ -9,12 +9,12 @@ use std::{fs, io};
 /// Linux's number of the error that a path leads to a folder.
 const EISDIR: i32 = 21;
 
-/// How a file can be written.
+/// How a file is written.
 #[derive(Clone, Copy, PartialEq, Eq)]
 pub enum Place {
     /// A new file takes its place at once.
     Beside,
-    /// Its folder takes no new file: it is written over, and a crash meanwhile may lose it.
+    /// No new file can take its place: it is written over, and a crash or a full disk meanwhile may lose it.
     Over,
     /// It is a device or a pipe, and is written to.
     Device,

@@ -2,7 +2,7 @@
 
 use crate::beside::create_beside;
 use crate::reading::has_bytes;
-use crate::trial::open_over;
+use crate::trial::{Place, open_over};
 use std::fs::{File, OpenFile, OpenOptions};
 use std::io::{ErrorKind, Write};
 use std::rt::Files;
@@ -37,7 +37,17 @@ fn keep_others<R: Files>(rt: &R, path: &str, old: Option<&[u8]>) -> Result<(), U
     }
 }
 
-/// Puts a new file in the place of the one of a path, or of none.
+/// Whether the system does not let a file take a place, though it may let the one be written over that stands there: it is another user's
+/// in a folder where each may move his own alone, or a file system is mounted on it.
+fn is_unmovable(error: io::Error) -> bool {
+    matches!(
+        error.kind(),
+        ErrorKind::PermissionDenied | ErrorKind::ResourceBusy
+    )
+}
+
+/// Fills a new file for the place of the one of a path, or of none, and gives it that place. The answer is whether it took it: where the
+/// system does not let it, the path has what it had.
 fn put_in_place<R: Files>(
     rt: &R,
     file: &mut R::File,
@@ -45,40 +55,44 @@ fn put_in_place<R: Files>(
     path: &str,
     bytes: &[u8],
     old: Option<&[u8]>,
-) -> Result<(), Unwritten> {
+) -> Result<bool, Unwritten> {
     if let Ok(found) = fs::metadata(rt, path) {
         file.set_permissions(found.permissions())?;
     }
     fill(file, bytes)?;
     // It is looked at last, so that little time is left in which another command could replace it.
     keep_others(rt, path, old)?;
-    fs::rename(rt, beside, path)?;
-    Ok(())
+    match fs::rename(rt, beside, path) {
+        Ok(()) => Ok(true),
+        Err(error) if is_unmovable(error) => Ok(false),
+        Err(error) => Err(Unwritten::Failed(error)),
+    }
 }
 
-/// Writes a file over, where its folder takes no new one. What a crash leaves may be neither the old bytes nor the new ones.
+/// Writes a file over, where no new one can take its place. What a crash or a full disk leaves may be neither the old bytes nor the new
+/// ones.
 fn write_over<R: Files>(
     rt: &R,
     path: &str,
     bytes: &[u8],
     old: Option<&[u8]>,
-) -> Result<(), Unwritten> {
+) -> Result<Place, Unwritten> {
     let mut file = open_over(rt, path)?;
     keep_others(rt, path, old)?;
     file.write_all(bytes)?;
     file.set_len(bytes.len() as u64)?;
     file.sync_all()?;
-    Ok(())
+    Ok(Place::Over)
 }
 
 /// Replaces a file at once: whoever reads it, or comes after a crash, finds the old bytes or the new ones. Only where its folder takes no
-/// new file, and it is there, it is written over.
+/// new file, or does not let it take the place of one that is there, that is written over.
 fn replace<R: Files + AllocGlobal>(
     rt: &R,
     path: &str,
     bytes: &[u8],
     old: Option<&[u8]>,
-) -> Result<(), Unwritten> {
+) -> Result<Place, Unwritten> {
     let (beside, mut file) = match create_beside(rt, path) {
         Ok(made) => made,
         Err(error) if error.kind() == ErrorKind::PermissionDenied => {
@@ -86,12 +100,14 @@ fn replace<R: Files + AllocGlobal>(
         }
         Err(error) => return Err(Unwritten::Failed(error)),
     };
-    match put_in_place(rt, &mut file, &beside, path, bytes, old) {
-        Ok(()) => Ok(()),
-        Err(error) => {
-            let _ = fs::remove_file(rt, beside.as_str());
-            Err(error)
-        }
+    let put = put_in_place(rt, &mut file, &beside, path, bytes, old);
+    if let Ok(true) = put {
+        return Ok(Place::Beside);
+    }
+    let _ = fs::remove_file(rt, beside.as_str());
+    match put {
+        Ok(_) => write_over(rt, path, bytes, old),
+        Err(why) => Err(why),
     }
 }
 
@@ -128,17 +144,29 @@ fn make<R: Files + AllocGlobal>(rt: &R, path: &str, bytes: &[u8]) -> io::Result<
     made
 }
 
+/// Writes to a device or a pipe.
+fn write_to<R: Files>(rt: &R, path: &str, bytes: &[u8]) -> Result<Place, Unwritten> {
+    fs::write(rt, path, bytes)?;
+    Ok(Place::Device)
+}
+
 /// Writes the file of a path that is no link: a regular file is replaced at once, or made, and a device or a pipe written to.
 fn write_at<R: Files + AllocGlobal>(
     rt: &R,
     path: &str,
     bytes: &[u8],
     old: Option<&[u8]>,
-) -> Result<(), Unwritten> {
+) -> Result<Place, Unwritten> {
     match fs::metadata(rt, path) {
-        Ok(found) if !found.is_file() => Ok(fs::write(rt, path, bytes)?),
+        Ok(found) if !found.is_file() => write_to(rt, path, bytes),
         _ => replace(rt, path, bytes, old),
     }
+}
+
+/// Makes the file that a link leads to, and that is not there yet.
+fn write_new<R: Files>(rt: &R, link: &str, bytes: &[u8]) -> Result<Place, Unwritten> {
+    fs::write(rt, link, bytes)?;
+    Ok(Place::Beside)
 }
 
 /// Writes the file that a link leads to. Where its path can't be found out, the link is refused, and never written through: so the file is
@@ -148,23 +176,23 @@ fn write_through<R: Files + AllocGlobal>(
     link: &str,
     bytes: &[u8],
     old: Option<&[u8]>,
-) -> Result<(), Unwritten> {
+) -> Result<Place, Unwritten> {
     match fs::canonicalize(rt, link) {
         Ok(target) => write_at(rt, target.as_str(), bytes, old),
-        // It leads to no file yet.
-        Err(error) if error.kind() == ErrorKind::NotFound => Ok(fs::write(rt, link, bytes)?),
+        Err(error) if error.kind() == ErrorKind::NotFound => write_new(rt, link, bytes),
         Err(error) => Err(Unwritten::Failed(error)),
     }
 }
 
 /// Writes a file. One that is there is replaced at once, or, where it is a device or a pipe, written to; where it is a link, so is the file
-/// that it leads to. Where the old bytes of the file are told, and others stand there by now, or none, these stay.
+/// that it leads to. Where the old bytes of the file are told, and others stand there by now, or none, these stay. The answer is how it was
+/// written: it is written over only where no new file can take its place.
 pub fn write_file<R: Files + AllocGlobal>(
     rt: &R,
     path: &str,
     bytes: &[u8],
     old: Option<&[u8]>,
-) -> Result<(), Unwritten> {
+) -> Result<Place, Unwritten> {
     match fs::symlink_metadata(rt, path) {
         Ok(found) if found.is_symlink() => write_through(rt, path, bytes, old),
         _ => write_at(rt, path, bytes, old),
@@ -196,12 +224,18 @@ pub fn write_new_file<R: Files + AllocGlobal>(
 /// How many bytes are tried to be written behind a file.
 const PAGE_BYTES: usize = 8192;
 
-/// Why a page can't be written behind a file, where it can't.
-pub fn append_fault<R: Files>(rt: &R, path: &str) -> Option<io::Error> {
+/// Writes a page behind a file, and takes it away again.
+fn append_page<R: Files>(rt: &R, path: &str) -> io::Result<()> {
+    let length = fs::metadata(rt, path)?.len();
     let mut options = OpenOptions::new();
     options.append(true);
-    match options.open(rt, path) {
-        Ok(mut file) => fill(&mut file, &[0u8; PAGE_BYTES]).err(),
-        Err(cause) => Some(cause),
-    }
+    let mut file = options.open(rt, path)?;
+    let written = fill(&mut file, &[0u8; PAGE_BYTES]);
+    file.set_len(length)?;
+    written
+}
+
+/// Why a page can't be written behind a file, where it can't. The file has what it had.
+pub fn append_fault<R: Files>(rt: &R, path: &str) -> Option<io::Error> {
+    append_page(rt, path).err()
 }
