@@ -18,7 +18,7 @@ const FRACTIONS: &str = "there are no fractions: keep cents, in a bigint";
 const DAYS: &str = "take text: dates sort as text, as 2024-02-29";
 
 /// Other words for kinds, and what serves for each.
-const OTHER_KINDS: [(&str, &str); 24] = [
+const OTHER_KINDS: [(&str, &str); 27] = [
     ("int", "take bigint"),
     ("int2", "take bigint"),
     ("int4", "take bigint"),
@@ -41,7 +41,10 @@ const OTHER_KINDS: [(&str, &str); 24] = [
     ("string", "take text"),
     ("uuid", "take text"),
     ("date", DAYS),
+    ("time", DAYS),
     ("timestamp", DAYS),
+    ("timestamptz", DAYS),
+    ("datetime", DAYS),
     ("logical", "take boolean"),
 ];
 
