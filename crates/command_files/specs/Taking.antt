@@ -1,5 +1,5 @@
 -- What a command makes of the files that it takes. All of this is our own.
-use Rattle.std.specs.Prelude.{◌≡◌, ◌×◌, Bool, ℕ, List, [], ◌∷◌, Option, Some, None, Result, Ok, Err, IsErrAnd}
+use Rattle.std.specs.Prelude.{◌≡◌, Bool, ℕ, List, [], ◌∷◌, Option, Some, None, Result, Ok, Err, IsErrAnd}
 use Rattle.grouping_model.specs.declared.delivered.Delivered.{Delivered}
 use Rattle.batch_reader.specs.File.{read_file}
 use Rattle.replica_merge.specs.Replicas.{Held}

@@ -1,6 +1,6 @@
 //! What each command does.
 
-ghost use Rattle.std.specs.Prelude.{◌≡◌, ◌×◌, Bool, ℕ, List, Option, length, OnOk};
+ghost use Rattle.std.specs.Prelude.{◌≡◌, Bool, ℕ, List, Option, length, OnOk};
 ghost use Rattle.command_streams.specs.Stopping.{EndsRefused};
 ghost use Rattle.command_files.specs.Taking.{TakesFile, TakesAll, taken};
 

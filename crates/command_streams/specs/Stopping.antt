@@ -1,5 +1,5 @@
 -- How a command ends that stops. All of this is our own.
-use Rattle.std.specs.Prelude.{◌≡◌, ℕ, ◌×◌, ◌⊎◌, List, Option}
+use Rattle.std.specs.Prelude.{◌≡◌, ℕ, ◌⊎◌, List, Option}
 use Rattle.std.specs.Io.KnownBytes.{Appends}
 use Rattle.script_io.specs.Output.{StopsShort}
 use Rattle.replies.specs.Status.{refusal_ending}
