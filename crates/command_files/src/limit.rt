@@ -1,8 +1,7 @@
 //! The limit of a table of groups that a command tells.
 
-ghost use Rattle.std.specs.Prelude.{◌≡◌, ◌⊎◌, ℕ, List, Some, IfOk};
-ghost use Rattle.hash_agg.specs.declared.means.TheConstants.{DEFAULT_LIMIT};
-ghost use Rattle.script_io.specs.Digits.{limit_told};
+ghost use Rattle.std.specs.Prelude.{◌≡◌, Some, IfOk, IfErr, option_copied};
+ghost use Rattle.command_files.specs.Limits.{limit_of, IsNoLimit};
 
 use clap::ArgMatches;
 use command_words::{LIMIT, Subcommand};
@@ -13,31 +12,33 @@ use replies::Refusal;
 use script_io::read_limit;
 use std::alloc::{AllocError, Global};
 
-/// The means of a limit that a text tells.
-fn means_of_limit(text: &str) -> Result<Means<Fnv1a>, Refusal>
-    ensures { IfOk result (λ means. limit_told text.now ≡ Some means.limit) }
+/// The means of the limit that an option tells, or the usual ones where it is not told.
+fn means_told(told: Option<&str>) -> Result<Means<Fnv1a>, Refusal>
+    ensures limit { IfOk result (λ means. limit_of (option_copied told.entry) ≡ Some means.limit) }
+    ensures why { IfErr result (IsNoLimit (limit_of (option_copied told.entry))) }
 {
-    match read_limit(text.as_bytes()) {
-        Some(limit) => Ok(Means::new(limit, Fnv1a)?),
-        None => Err(Refusal::BadCommand),
+    let Some(text) = told else {
+        return Ok(Means::usual(Fnv1a));
+    };
+    let Some(limit) = read_limit(text.as_bytes()) else {
+        return Err(Refusal::BadCommand);
+    };
+    match Means::new(limit, Fnv1a) {
+        Ok(means) => Ok(means),
+        Err(error) => Err(Refusal::from(error)),
     }
 }
 
-/// The means that a command tells, or the usual ones.
+/// The means of a command: of the limit that it tells, if it takes one.
 pub(crate) fn means_of(
     subcommand: Subcommand,
     matches: &ArgMatches<'_>,
-) -> Result<Means<Fnv1a>, Refusal>
-    ensures { IfOk result (λ means. (means.limit ≡ DEFAULT_LIMIT)
-        ⊎ ((text : List ℕ) × (limit_told text ≡ Some means.limit))) }
-{
-    if !subcommand.takes_limit() {
-        return Ok(Means::usual(Fnv1a));
-    }
-    match matches.get_str(LIMIT) {
-        Some(text) => means_of_limit(text),
-        None => Ok(Means::usual(Fnv1a)),
-    }
+) -> Result<Means<Fnv1a>, Refusal> {
+    means_told(if subcommand.takes_limit() {
+        matches.get_str(LIMIT)
+    } else {
+        None
+    })
 }
 
 /// Says why the limit that a command tells is none.

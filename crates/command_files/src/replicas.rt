@@ -65,12 +65,16 @@ pub(crate) fn take<D: TapeDisk>(
 {
     match kind {
         FileKind::Batch => {
-            let delivered = command_replicas::feed(alloc, replica, file, means, disk, work)?;
-            Ok(Reply::Delivered(delivered))
+            match command_replicas::feed(alloc, replica, file, means, disk, work) {
+                Ok(delivered) => Ok(Reply::Delivered(delivered)),
+                Err(why) => Err(why),
+            }
         }
         FileKind::Summary => {
-            command_replicas::merge(alloc, replica, file, means, disk, work)?;
-            Ok(Reply::Merged)
+            match command_replicas::merge(alloc, replica, file, means, disk, work) {
+                Ok(()) => Ok(Reply::Merged),
+                Err(why) => Err(why),
+            }
         }
     }
 }

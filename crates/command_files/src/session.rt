@@ -39,11 +39,10 @@ fn format_named(text: &str) -> Format {
 
 /// Whether the last line of a batch file has no end, where a reply tells that it was taken.
 fn is_cut(file: &[u8], reply: &Reply<'_>) -> bool {
-    let is_taken = match reply {
-        Reply::Delivered(Delivered::Known) => false,
-        Reply::Delivered(_) => true,
-        _ => false,
-    };
+    let is_taken = matches!(
+        reply,
+        Reply::Delivered(Delivered::Folded { .. } | Delivered::Early)
+    );
     is_taken && !matches!(file.last(), Some(b'\n' | b'\r'))
 }
 
@@ -193,7 +192,10 @@ impl<'c, R: Files + AllocGlobal + RandomSource, W: Write, E: Write> Session<'c, 
     ) -> Result<Reply<'static>, Problem<'p>>
         ensures { (honest : Bool) × (file : Option (List ℕ)) × TakesFile kind honest file replica.old replica.new (taken result) }
     {
-        let file = read(self.rt, path)?;
+        let file = match read(self.rt, path) {
+            Ok(file) => file,
+            Err(problem) => return Err(problem),
+        };
         let (disk, work) = (&mut self.disk, &mut self.work);
         match take(self.rt.alloc(), kind, replica, &file, means, disk, work) {
             Ok(reply) => {
@@ -395,7 +397,7 @@ impl<'c, R: Files + AllocGlobal + RandomSource, W: Write, E: Write> Session<'c, 
 
     /// Ends a command that stopped.
     fn stop(&mut self, problem: Problem<'_>, output: Option<OutputStatus<'_>>) -> ExitKind
-        ensures { EndsRefused problem.why result }
+        ensures { EndsRefused problem.entry.why result }
     {
         self.complain(&problem, output);
         reply_refused(self.streams.writer, problem.why)
@@ -450,7 +452,8 @@ impl<'c, R: Files + AllocGlobal + RandomSource, W: Write, E: Write> Session<'c, 
 
     /// Runs a command on files, and tells how it ended.
     pub fn run(mut self, subcommand: Subcommand, matches: &ArgMatches<'_>) -> ExitKind {
-        let exit = match self.target.look(self.rt, subcommand, matches) {
+        let rt = self.rt;
+        let exit = match self.target.look(rt, subcommand, matches) {
             Ok(Some(standing)) if standing.fate.stops() => {
                 self.streams.say(&standing);
                 return ExitKind::BadUsage;

@@ -1,8 +1,6 @@
 //! The command of scripts, with a sentence for each refused command.
 #![tactic(auto)]
 
-ghost use Rattle.script_io.specs.Fused.{unread, written};
-ghost use Rattle.script_machine.specs.Output.{disk_over};
 ghost use Rattle.command_streams.specs.Stopping.{EndsRefused};
 ghost use Rattle.command_scripts.specs.Runs.{RunEnds};
 
@@ -13,7 +11,7 @@ use command_streams::{
 use csv::ByteRecord;
 use fault_sentences::{Reason, ScriptPlace, say_columns, say_disagreement, say_limit, say_taken};
 use hash_agg::{Seed, TapeDisk};
-use replies::{ExitKind, Refusal, RunError, refusal_ending, run_ending};
+use replies::{ExitKind, Outcome, Refusal, RunError, refusal_ending, run_ending};
 use script_io::Fused;
 use script_machine::{Observer, run_observed};
 use std::alloc::{AllocError, Global};
@@ -124,15 +122,18 @@ impl fmt::Display for Stopped {
     }
 }
 
-/// Says what stopped a script, given what the system said of its reader and of its writer. Nothing is said where nobody reads its replies
-/// any more.
-fn say_stopped<E: Write>(
+/// Says what stopped a script, if something did, given what the system said of its reader and of its writer. Nothing is said where nobody
+/// reads its replies any more.
+fn say_end<E: Write>(
     alloc: Global,
-    error: RunError,
+    run: &Result<Outcome, RunError>,
     read: Option<io::Error>,
     written: Option<io::Error>,
     errors: &mut E,
 ) {
+    let Err(error) = *run else {
+        return;
+    };
     let cause = match error {
         RunError::ReadFault => read,
         RunError::WriteFault => written,
@@ -154,8 +155,7 @@ fn run_over<R: Files + AllocGlobal, I: Read, W: Write, E: Write, D: TapeDisk>(
     disk: &mut D,
     seed: Seed,
 ) -> ExitKind
-    ensures { RunEnds (disk_over D.TapeDisk disk.old disk.new) (unread I.remaining script.old) (written W.contents writer.old)
-        (written W.contents writer.new) result }
+    ensures { RunEnds D.TapeDisk I.remaining W.contents script.old script.new writer.old writer.new disk.old disk.new result }
 {
     let alloc = rt.alloc();
     let mut complaints = Complaints {
@@ -166,15 +166,13 @@ fn run_over<R: Files + AllocGlobal, I: Read, W: Write, E: Write, D: TapeDisk>(
     };
     let run = run_observed(alloc, script, writer, &mut complaints, disk, seed);
     drop(complaints);
-    if let Err(error) = run {
-        say_stopped(alloc, error, script.fault(), writer.fault(), errors);
-    }
+    say_end(alloc, &run, script.fault(), writer.fault(), errors);
     run_ending(&run)
 }
 
 /// Ends a script whose file for what is spilled was not made. Nothing was read.
 fn stop<W: Write, E: Write>(problem: Problem<'_>, streams: &mut Streams<'_, W, E>) -> ExitKind
-    ensures { EndsRefused problem.why result }
+    ensures { EndsRefused problem.entry.why result }
 {
     streams.say(&problem);
     reply_refused(streams.writer, problem.why)

@@ -1,0 +1,14 @@
+use Rattle.command_scripts.proofs.run_over.Goals as goal
+
+pub returns : goal.returns
+returns g c =
+    let told = c.run_observed-run.ensures in
+    record {
+      run = c.run_observed-run.result;
+      ended = c.run_ending.ensures;
+      reads = told.reads;
+      headline = told.headline;
+      any_disk = told.any_disk;
+      fault = told.fault;
+      write_fault = told.write_fault;
+    }
