@@ -73,9 +73,9 @@ enum {
  * was made on a slot, close it, whatever that call returned. The caller never reads or writes the fields, and never copies a slot: a copy
  * of one that is closed, or used, is memory that was freed. A slot may be moved while no call uses it.
  *
- * Threads. Calls on different slots may run at the same time. A slot is given to one call at a time, of any thread: whoever shares one
- * takes a lock of his own, for calls that only ask, too, since each call takes the summary out of its slot and puts it back; for agg_merge
- * for both slots, always in one order. No call waits, can be interrupted, takes a lock, starts a thread, or touches a file. None may be
+ * Threads. A slot may go from thread to thread, and is given to one call at a time: whoever shares one takes a lock of his own, for calls
+ * that only ask, too, since each call takes the summary out of its slot and puts it back; for agg_merge for both slots, always in one order.
+ * So one thread's call ends before another's begins, in the sense of C11. Calls on different slots may run at the same time. No call waits, can be interrupted, takes a lock, starts a thread, or touches a file. None may be
  * made from a signal handler, or in the child of a fork of a process with threads.
  *
  * Pointers. No pointer is null, also where there are no bytes. But for the two slots of agg_merge, what a call writes overlaps nothing else
@@ -178,9 +178,11 @@ typedef struct {
 } agg_place;
 
 /*
- * A sentence of the last call on the slot that was refused by a status from 10 on, which is for people: a short one in this version, of the
- * status and its place alone; no bytes where none was refused. Ask for it behind such a status, before other calls on the slot. It works on
- * a slot without a summary, too, behind a refusal of agg_new or agg_load.
+ * The sentence of the last call on the slot that ended with AGG_NO_MEMORY or a status from 10 on, and its place; no bytes where none did.
+ * It is for people, and is what agg_tool says on standard error: one line, and behind that of columns or of a query two more, the text and
+ * a caret under the place. Lines of a batch are counted as in its file, of which the head is line 1, those of agg_feed_rows, too. Where
+ * there was no memory for it, it is a short one. Its words may change. Ask for it before other calls on the slot. It works on a slot
+ * without a summary, too, behind a refusal of agg_new or agg_load. AGG_NOT_OPEN of an empty slot.
  */
 uint32_t agg_reason(agg_slot *slot, agg_place *place, size_t *wanted);
 

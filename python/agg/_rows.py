@@ -152,12 +152,13 @@ def _first_bad(columns: Sequence[Column], values: List[List[Any]]) -> Optional[B
 
 
 def with_value(columns: Sequence[Column], values: Sequence[Sequence[Any]], why: BadField) -> BadField:
-    """A refusal of the library, with the value of which it was said."""
+    """A refusal of the library, said of the row and the value that it was given here, in the place of a line and a field."""
     row, number = why.place.row, why.place.column
     if row is None or number is None:
         return why
     column, value = columns[number], values[number][row]
-    return BadField(f"{why.sentence}: {column.name} {column.kind}: {_shown(value)}", why.place)
+    reason = why.sentence.rpartition(": ")[2]
+    return BadField(f"row {row}, column {column.name} {column.kind}: {_shown(value)}: {reason}", why.place)
 
 
 def as_csv(columns: Sequence[Column], rows: Any) -> Tuple[List[List[Any]], bytes]:

@@ -1,5 +1,5 @@
--- The status of a refusal has its name.
-use Rattle.std.specs.Prelude.{◌≡◌, refl}
+-- The status of a refusal has its name, and a number of its own.
+use Rattle.std.specs.Prelude.{◌≡◌, refl, Some}
 use Rattle.query_checks.specs.Names.{query_name}
 use Rattle.query_checks.specs.declared.error.QueryError.{QueryError}
 use Rattle.query_checks.specs.declared.error.QueryError.TheVariants as query
@@ -17,7 +17,9 @@ use Rattle.replies.specs.declared.error.RunError.{RunError}
 use Rattle.replies.specs.declared.error.RunError.TheVariants as stop
 use Rattle.replies.specs.declared.refusal.Refusal.{Refusal}
 use Rattle.replies.specs.declared.refusal.Refusal.TheVariants as refuse
-use Rattle.engine.specs.Statuses.{status_name, status_of, query_status, parse_status, batch_status, summary_status, run_status}
+use Rattle.engine.specs.declared.status.Status.{Status}
+use Rattle.engine.specs.declared.status.Status.TheVariants as says
+use Rattle.engine.specs.Statuses.{status_number, status_at, status_name, status_of, query_status, parse_status, batch_status, summary_status, run_status}
 
 query_name_is : (e : QueryError) → status_name (query_status e) ≡ query_name e
 query_name_is query.NoMemory = refl
@@ -75,3 +77,44 @@ name_is (refuse.Run error) = run_name_is error
 name_is refuse.BadCommand = refl
 name_is refuse.NoSuchName = refl
 name_is refuse.NameTaken = refl
+
+-- each status has a number of its own
+pub number_is : (s : Status) → status_at (status_number s) ≡ Some s
+number_is says.Done = refl
+number_is says.NoMemory = refl
+number_is says.TooShort = refl
+number_is says.NotOpen = refl
+number_is says.AlreadyOpen = refl
+number_is says.BadCommand = refl
+number_is says.NoSuchName = refl
+number_is says.NameTaken = refl
+number_is says.LimitOutOfRange = refl
+number_is says.BadSchema = refl
+number_is says.Syntax = refl
+number_is says.NumberTooLarge = refl
+number_is says.NoSuchColumn = refl
+number_is says.NotGrouped = refl
+number_is says.TypeMismatch = refl
+number_is says.AggregateHere = refl
+number_is says.TooMany = refl
+number_is says.TooDeep = refl
+number_is says.AmbiguousOrder = refl
+number_is says.BadBatchHead = refl
+number_is says.TooManyRows = refl
+number_is says.RowCount = refl
+number_is says.WrongWidth = refl
+number_is says.BadField = refl
+number_is says.NotASummary = refl
+number_is says.Truncated = refl
+number_is says.Trailing = refl
+number_is says.NotCanonical = refl
+number_is says.OutOfRange = refl
+number_is says.BadPacked = refl
+number_is says.BadState = refl
+number_is says.DifferentQuery = refl
+number_is says.OriginDisagrees = refl
+number_is says.TapeFault = refl
+number_is says.TapeDamaged = refl
+number_is says.InputTooLong = refl
+number_is says.ReadFault = refl
+number_is says.WriteFault = refl

@@ -3,24 +3,32 @@ use Rattle.std.specs.Prelude.{◌≡◌, ◌≢◌, ◌<◌, ◌≤◌, ◌⊎�
 use Rattle.std.specs.Prelude.{IsUtf8}
 use Rattle.grouping_model.specs.Aggregates.{Outcome}
 use Rattle.grouping_model.specs.Answer.{answer}
+use Rattle.grouping_model.specs.Replies.{known_list}
 use Rattle.grouping_model.specs.World.{World, IsWorld}
-use Rattle.grouping_model.specs.declared.delivered.Delivered.{Delivered}
+pub use Rattle.grouping_model.specs.declared.delivered.Delivered.{Delivered}
+pub use Rattle.grouping_model.specs.declared.delivered.Delivered.TheVariants.{Folded, Early, Known}
 use Rattle.grouping_model.specs.declared.limits.TheConstants.{MAX_INPUT_LEN}
-use Rattle.batch_reader.specs.File.{BatchFile}
+use Rattle.batch_reader.specs.File.{BatchFile, read_file}
+use Rattle.having_filter.specs.Kept.{by_names}
 use Rattle.having_filter.specs.Meaning.{meaning}
-use Rattle.packed_rows.specs.Columns.{kinds}
+use Rattle.packed_rows.specs.Columns.{kinds, printed}
+use Rattle.query_checks.specs.Spelling.{spelling}
 use Rattle.hash_agg.specs.declared.means.TheConstants.{MIN_LIMIT, MAX_LIMIT}
 use Rattle.summary_codec.specs.Reading.{IsSaved}
 use Rattle.summary_codec.specs.WorldFile.{world_file}
 use Rattle.script_io.specs.Records as csv
-use Rattle.replica_merge.specs.Replicas.{Held, told, Fits}
+use Rattle.replica_merge.specs.Replicas.{told, Fits}
+pub use Rattle.replica_merge.specs.Replicas.{Held}
 use Rattle.replica_merge.specs.Results.{MergesHeld}
 use Rattle.replies.specs.Refusals.{limit_out_of_range, IsApart}
-use Rattle.replies.specs.Text.{text_of}
-use Rattle.replies.specs.declared.refusal.Refusal.{Refusal}
-use Rattle.replies.specs.declared.refusal.Refusal.TheVariants.{NoMemory, BadCommand}
-use Rattle.replies.specs.declared.showing.Format.{Format}
-use Rattle.command_replicas.specs.Commands.{IsNew, IsNotNew, IsTooLong}
+use Rattle.replies.specs.Text.{text_of, origins_text}
+use Rattle.replies.specs.declared.refusal.Refusal.TheVariants.{BadCommand}
+pub use Rattle.replies.specs.declared.refusal.Refusal.{Refusal}
+pub use Rattle.replies.specs.declared.refusal.Refusal.TheVariants.{NoMemory}
+pub use Rattle.replies.specs.declared.showing.Format.{Format}
+pub use Rattle.replies.specs.declared.showing.Format.TheVariants.{Csv, Aligned}
+use Rattle.command_replicas.specs.Commands.{IsNew, IsNotNew}
+pub use Rattle.command_replicas.specs.Commands.{IsTooLong}
 use Rattle.command_replicas.specs.Results.{Feeds, LoadsFile, MergesFile}
 use Rattle.engine.specs.Sessions.{SessionState}
 
@@ -58,6 +66,14 @@ pub record FeedsSession (file : Option BatchFile) (old new : SessionState) (resu
   pub feeds : Feeds true file old.held new.held result
   pub limit : new.limit ≡ old.limit
 
+-- the bytes of a batch file are fed
+abbrev pub FeedsFile : (bytes : List ℕ) → (old new : SessionState) → Result Delivered Refusal → Type 0
+FeedsFile bytes old new result = FeedsSession (read_file bytes) old new result
+
+-- rows are fed, so many records in CSV, as the batch of an origin and a number
+abbrev pub FeedsRows : (origin number count : ℕ) → (rows : List ℕ) → (old new : SessionState) → Result Delivered Refusal → Type 0
+FeedsRows origin number count rows old new result = FeedsSession (batch_of origin number count rows) old new result
+
 -- a replica is merged as `merge` merges it, over honest tapes, or it is refused and nothing changes
 abbrev pub MergesReplica : {T : Type 0} → (old other new : Held) → Result T Refusal → Type 0
 MergesReplica old other new (Ok done) = MergesHeld true old other new
@@ -84,3 +100,14 @@ pub record IsTableOf (format : Format) (held : Held) (rows : ℕ) (text : List �
       → (rows ≡ length (answer (meaning held.query) world (told held.parts)))
       × (text ≡ text_of format held.query (answer (meaning held.query) world (told held.parts)))
   pub shown : (shown : List (List Outcome)) × ((rows ≡ length shown) × (text ≡ text_of format held.query shown))
+
+-- a text tells what is known, a line for each origin
+abbrev pub IsKnownText : Held → List ℕ → Type 0
+IsKnownText held text = text ≡ origins_text (known_list (told held.parts))
+
+-- a text is the canonical one of the query, or of the columns
+abbrev pub IsQueryText : Held → List ℕ → Type 0
+IsQueryText held text = text ≡ spelling (by_names held.query)
+
+abbrev pub IsColumnsText : Held → List ℕ → Type 0
+IsColumnsText held text = text ≡ printed held.query.columns

@@ -1,6 +1,6 @@
 -- The statuses by which a caller from outside is answered: which stands for a refusal, its number, which never changes, and its name, which
 -- is the refusal's. All of this is our own.
-use Rattle.std.specs.Prelude.{ℕ, List, codes, Result, Ok, Err}
+use Rattle.std.specs.Prelude.{ℕ, ◌==◌, List, [], ◌∷◌, codes, find, Option, Result, Ok, Err}
 use Rattle.query_checks.specs.declared.error.QueryError.{QueryError}
 use Rattle.query_checks.specs.declared.error.QueryError.TheVariants as query
 use Rattle.group_parser.specs.declared.error.ParseError.{ParseError}
@@ -55,6 +55,20 @@ status_number says.TapeDamaged = 61
 status_number says.InputTooLong = 70
 status_number says.ReadFault = 71
 status_number says.WriteFault = 72
+
+-- all statuses, by rising number
+abbrev pub all_statuses : List Status
+all_statuses =
+    says.Done ∷ says.NoMemory ∷ says.TooShort ∷ says.NotOpen ∷ says.AlreadyOpen ∷ says.BadCommand ∷ says.NoSuchName ∷
+    says.NameTaken ∷ says.LimitOutOfRange ∷ says.BadSchema ∷ says.Syntax ∷ says.NumberTooLarge ∷ says.NoSuchColumn ∷
+    says.NotGrouped ∷ says.TypeMismatch ∷ says.AggregateHere ∷ says.TooMany ∷ says.TooDeep ∷ says.AmbiguousOrder ∷
+    says.BadBatchHead ∷ says.TooManyRows ∷ says.RowCount ∷ says.WrongWidth ∷ says.BadField ∷ says.NotASummary ∷ says.Truncated ∷
+    says.Trailing ∷ says.NotCanonical ∷ says.OutOfRange ∷ says.BadPacked ∷ says.BadState ∷ says.DifferentQuery ∷
+    says.OriginDisagrees ∷ says.TapeFault ∷ says.TapeDamaged ∷ says.InputTooLong ∷ says.ReadFault ∷ says.WriteFault ∷ []
+
+-- the status of a number, if there is one
+abbrev pub status_at : ℕ → Option Status
+status_at number = find (λ s. status_number s == number) all_statuses
 
 abbrev pub status_name : Status → List ℕ
 status_name says.Done = codes "Done"

@@ -2,9 +2,14 @@
 //! answered.
 #![tactic(auto)]
 
+mod place;
 mod rows;
 mod session;
 mod status;
 
+pub use hash_agg::Seed;
+pub use place::Place;
+pub use replica_merge::{Delivered, Replica};
+pub use replies::{Format, Refusal};
 pub use session::Session;
-pub use status::{Status, names_agree};
+pub use status::{Status, names_agree, numbers_differ};

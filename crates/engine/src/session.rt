@@ -1,16 +1,9 @@
 //! A session: a replica with its executor.
 
 ghost use Rattle.std.specs.Prelude.{◌≡◌, ◌≢◌, IfOk, IfErr, OnErr, string_bytes};
-ghost use Rattle.grouping_model.specs.Replies.{known_list};
-ghost use Rattle.batch_reader.specs.File.{read_file};
-ghost use Rattle.having_filter.specs.Kept.{by_names};
-ghost use Rattle.packed_rows.specs.Columns.{printed};
-ghost use Rattle.query_checks.specs.Spelling.{spelling};
-ghost use Rattle.replica_merge.specs.Replicas.{told};
-ghost use Rattle.replies.specs.Text.{origins_text};
 ghost use Rattle.command_replicas.specs.Commands.{IsTooLong};
-ghost use Rattle.engine.specs.Calls.{IsNoLimit, Creates, Loads, FeedsSession, batch_of, MergesSession, MergesFileSession, IsFileOf};
-ghost use Rattle.engine.specs.Calls.{IsTableOf};
+ghost use Rattle.engine.specs.Calls.{IsNoLimit, Creates, Loads, FeedsFile, FeedsRows, MergesSession, MergesFileSession, IsFileOf};
+ghost use Rattle.engine.specs.Calls.{IsTableOf, IsKnownText, IsQueryText, IsColumnsText};
 
 use crate::rows::read_numbered;
 use grouping_model::limits::MAX_INPUT_LEN;
@@ -118,7 +111,7 @@ impl Session {
     ///
     /// Those of [`command_replicas::feed`]. Nothing changes then.
     pub fn feed(&mut self, file: &[u8]) -> Result<Delivered, Refusal>
-        ensures feeds { FeedsSession (read_file file.now) self.old self.new result }
+        ensures feeds { FeedsFile file.now self.old self.new result }
         ensures same { OnErr result (self.new ≡ self.old) }
     {
         let mut disk = MemDisk::new(self.alloc);
@@ -144,7 +137,7 @@ impl Session {
         count: u32,
         rows: &[u8],
     ) -> Result<Delivered, Refusal>
-        ensures feeds { FeedsSession (batch_of origin number count rows.now) self.old self.new result }
+        ensures feeds { FeedsRows origin number count rows.now self.old self.new result }
         ensures same { OnErr result (self.new ≡ self.old) }
     {
         let mut disk = MemDisk::new(self.alloc);
@@ -226,21 +219,21 @@ impl Session {
 
     /// What is known, a line for each origin, as `known` lists it on files. The only error is a failed allocation.
     pub fn known(&self) -> Result<Vec<u8>, AllocError>
-        ensures { IfOk result (λ lines. lines.items ≡ origins_text (known_list (told self.now.held.parts))) }
+        ensures { IfOk result (λ lines. IsKnownText self.now.held lines.items) }
     {
         origin_lines(self.alloc, &self.replica)
     }
 
     /// The canonical text of the query.
     pub fn query(&self) -> &str
-        ensures { result.now ≡ spelling (by_names self.now.held.query) }
+        ensures { IsQueryText self.now.held result.now }
     {
         self.replica.query().spelling()
     }
 
     /// The canonical text of the columns. The only error is a failed allocation.
     pub fn columns(&self) -> Result<String, AllocError>
-        ensures { IfOk result (λ text. string_bytes text ≡ printed self.now.held.query.columns) }
+        ensures { IfOk result (λ text. IsColumnsText self.now.held (string_bytes text)) }
     {
         self.replica.query().schema().print()
     }

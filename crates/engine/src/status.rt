@@ -1,10 +1,11 @@
 //! Statuses, by which a caller from outside is answered.
 
-ghost use Rattle.std.specs.Prelude.{◌≡◌, IfSome};
-ghost use Rattle.engine.specs.Statuses.{status_number, status_name, status_of, query_status, parse_status, batch_status, summary_status};
-ghost use Rattle.engine.specs.Statuses.{run_status};
+ghost use Rattle.std.specs.Prelude.{◌≡◌, Some};
+ghost use Rattle.engine.specs.Statuses.{status_number, status_at, status_name, status_of, query_status, parse_status, batch_status};
+ghost use Rattle.engine.specs.Statuses.{summary_status, run_status};
 ghost use Rattle.replies.specs.Text.{refusal_name};
 ghost use Rattle.replies.specs.declared.refusal.Refusal.{Refusal};
+ghost use Rattle.engine.specs.declared.status.Status.{Status};
 
 use batch_reader::BatchError;
 use group_parser::ParseError;
@@ -243,53 +244,48 @@ impl Status {
 
     /// The status of a number, if there is one.
     pub fn numbered(number: u32) -> Option<Status>
-        ensures { IfSome result (λ status. status_number status ≡ number) }
+        ensures { result ≡ status_at number }
     {
-        let found = match number {
-            0 => Status::Done,
-            1 => Status::NoMemory,
-            2 => Status::TooShort,
-            3 => Status::NotOpen,
-            4 => Status::AlreadyOpen,
-            10 => Status::BadCommand,
-            11 => Status::NoSuchName,
-            12 => Status::NameTaken,
-            13 => Status::LimitOutOfRange,
-            14 => Status::BadSchema,
-            20 => Status::Syntax,
-            21 => Status::NumberTooLarge,
-            22 => Status::NoSuchColumn,
-            23 => Status::NotGrouped,
-            24 => Status::TypeMismatch,
-            25 => Status::AggregateHere,
-            26 => Status::TooMany,
-            27 => Status::TooDeep,
-            28 => Status::AmbiguousOrder,
-            30 => Status::BadBatchHead,
-            31 => Status::TooManyRows,
-            32 => Status::RowCount,
-            33 => Status::WrongWidth,
-            34 => Status::BadField,
-            40 => Status::NotASummary,
-            41 => Status::Truncated,
-            42 => Status::Trailing,
-            43 => Status::NotCanonical,
-            44 => Status::OutOfRange,
-            45 => Status::BadPacked,
-            46 => Status::BadState,
-            50 => Status::DifferentQuery,
-            51 => Status::OriginDisagrees,
-            60 => Status::TapeFault,
-            61 => Status::TapeDamaged,
-            70 => Status::InputTooLong,
-            71 => Status::ReadFault,
-            72 => Status::WriteFault,
-            _ => return None,
-        };
-        if found.number() == number {
-            Some(found)
-        } else {
-            None
+        match number {
+            0 => Some(Status::Done),
+            1 => Some(Status::NoMemory),
+            2 => Some(Status::TooShort),
+            3 => Some(Status::NotOpen),
+            4 => Some(Status::AlreadyOpen),
+            10 => Some(Status::BadCommand),
+            11 => Some(Status::NoSuchName),
+            12 => Some(Status::NameTaken),
+            13 => Some(Status::LimitOutOfRange),
+            14 => Some(Status::BadSchema),
+            20 => Some(Status::Syntax),
+            21 => Some(Status::NumberTooLarge),
+            22 => Some(Status::NoSuchColumn),
+            23 => Some(Status::NotGrouped),
+            24 => Some(Status::TypeMismatch),
+            25 => Some(Status::AggregateHere),
+            26 => Some(Status::TooMany),
+            27 => Some(Status::TooDeep),
+            28 => Some(Status::AmbiguousOrder),
+            30 => Some(Status::BadBatchHead),
+            31 => Some(Status::TooManyRows),
+            32 => Some(Status::RowCount),
+            33 => Some(Status::WrongWidth),
+            34 => Some(Status::BadField),
+            40 => Some(Status::NotASummary),
+            41 => Some(Status::Truncated),
+            42 => Some(Status::Trailing),
+            43 => Some(Status::NotCanonical),
+            44 => Some(Status::OutOfRange),
+            45 => Some(Status::BadPacked),
+            46 => Some(Status::BadState),
+            50 => Some(Status::DifferentQuery),
+            51 => Some(Status::OriginDisagrees),
+            60 => Some(Status::TapeFault),
+            61 => Some(Status::TapeDamaged),
+            70 => Some(Status::InputTooLong),
+            71 => Some(Status::ReadFault),
+            72 => Some(Status::WriteFault),
+            _ => None,
         }
     }
 }
@@ -298,4 +294,10 @@ impl Status {
 #[tactic(auto, using(crate::proofs::StatusLaws::name_is))]
 pub fn names_agree()
     ensures { (why : Refusal) → status_name (status_of why) ≡ refusal_name why }
+{}
+
+/// Each status has a number of its own.
+#[tactic(auto, using(crate::proofs::StatusLaws::number_is))]
+pub fn numbers_differ()
+    ensures { (status : Status) → status_at (status_number status) ≡ Some status }
 {}

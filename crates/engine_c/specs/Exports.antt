@@ -1,16 +1,13 @@
 -- What the exports do to slots, by what the calls of a session do. All of this is our own.
-use Rattle.std.specs.Prelude.{◌≡◌, ℕ, Bool, true, false, List, length, Option, Some, None, Result, IfOk, OnOk, OnErr}
-use Rattle.grouping_model.specs.declared.delivered.Delivered.{Delivered}
-use Rattle.grouping_model.specs.declared.delivered.Delivered.TheVariants.{Folded, Early, Known}
-use Rattle.replica_merge.specs.Replicas.{Held}
-use Rattle.replies.specs.declared.refusal.Refusal.{Refusal}
-use Rattle.replies.specs.declared.showing.Format.{Format}
-use Rattle.replies.specs.declared.showing.Format.TheVariants.{Csv, Aligned}
+use Rattle.std.specs.Prelude.{◌≡◌, ◌<◌, ◌≤◌, ◌++◌, ℕ, Bool, true, false, List, length, drop}
+use Rattle.std.specs.Prelude.{Option, Some, None, Result, IfOk, OnOk, OnErr}
+use Rattle.engine.specs.Calls.{Held, Refusal, Delivered, Folded, Early, Known, Format, Csv, Aligned}
 use Rattle.engine_calls.specs.Calls.{OnSession, Asks}
 use Rattle.engine.specs.Sessions.{SessionState}
 use Rattle.engine_calls.specs.Keeping.{KeptState, nothing}
-use Rattle.engine.specs.Statuses.{number_told}
+use Rattle.engine.specs.Statuses.{status_number, status_name, number_told}
 use Rattle.engine.specs.declared.status.Status.{Status}
+use Rattle.engine.specs.declared.status.Status.TheVariants.{Done, TooShort, NotOpen, NoSuchName}
 use Rattle.engine_c.specs.declared.delivery.Delivery.{Delivery}
 
 -- what a slot keeps: nothing where it is empty
@@ -28,6 +25,27 @@ delivery_of Known = record { kind = 2; upto = 0 }
 abbrev pub format_by : Bool → Format
 format_by true = Aligned
 format_by false = Csv
+
+-- a call gives nothing beside its status
+abbrev pub GivesNothing : Unit {0} → Type 0
+GivesNothing done = Unit {0}
+
+-- bytes are handed out: where the room has space for them they stand at its front, and where not nothing is written; how long they are is
+-- told in any case
+pub record HandsOut (bytes old new : List ℕ) (wanted status : ℕ) : Type 0 where
+  pub long : wanted ≡ length bytes
+  pub fits : length bytes ≤ length old → (status ≡ status_number Done) × (new ≡ bytes ++ drop (length bytes) old)
+  pub short : length old < length bytes → (status ≡ status_number TooShort) × (new ≡ old)
+
+-- what a slot's session told last is handed out; of an empty slot nothing is
+abbrev pub Fetches : Option KeptState → (old new : List ℕ) (wanted status : ℕ) → Type 0
+Fetches None old new wanted status = (status ≡ status_number NotOpen) × (wanted ≡ 0) × (new ≡ old)
+Fetches (Some kept) old new wanted status = HandsOut kept.told old new wanted status
+
+-- the name of a status is handed out; where there is none, nothing is
+abbrev pub Names : Option Status → (old new : List ℕ) (wanted status : ℕ) → Type 0
+Names None old new wanted status = (status ≡ status_number NoSuchName) × (wanted ≡ 0) × (new ≡ old)
+Names (Some named) old new wanted status = HandsOut (status_name named) old new wanted status
 
 -- a call on a slot does so, and its number tells how it ended. What it gives is given where all was done, and where not, nothing changed
 pub record CallsSlot {T : Type 0} (does : (old new : Option SessionState) → Result T Status → Type 0) (gives : T → Type 0)
@@ -47,5 +65,5 @@ pub record AsksSlot {T : Type 0} (tells : Held → List ℕ → T → Type 0) (r
   pub asks : OnSession (Asks tells refuses (kept_by new).told) (kept_by old).session (kept_by new).session outcome
   pub ended : status ≡ number_told outcome
   pub given : IfOk outcome gives
-  pub wanted : OnOk outcome (wanted ≡ length (kept_by new).told)
+  pub long : OnOk outcome (wanted ≡ length (kept_by new).told)
   pub same : OnErr outcome (kept_by new ≡ kept_by old)

@@ -1,6 +1,5 @@
 -- What a handle owns: nothing, or what a box of what is kept owns.
 use base.Fml.{Fml, ftrue}
-use base.Stored.{Coded}
 use denote.RawPtr.{Ptr}
 use Rattle.std.specs.declared.option.Option.{Option}
 use Rattle.std.specs.declared.option.Option.TheVariants.{None, Some}
@@ -15,6 +14,3 @@ Content = the_row.Denot
 unfoldable pub handle_owns : Global → Ptr → Option Content → Fml
 handle_owns alloc at None = ftrue
 handle_owns alloc at (Some kept) = box_owns (ghosts.dealloc_token alloc) the_row at kept
-
-abbrev pub content_coded : Coded Content
-content_coded = the_row.coded

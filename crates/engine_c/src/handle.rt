@@ -1,8 +1,10 @@
 //! Handles: nothing, or a box of what is kept, of which C sees the pointer.
 
 ghost use Rattle.std.specs.Prelude.{◌≡◌, Option, None, Some, IsSome};
+ghost use Rattle.std.specs.Coded.{coded_option};
+ghost use Rattle.engine_calls.specs.Coding.{coded_kept};
 ghost use Rattle.engine_calls.specs.Keeping.{KeptState};
-ghost use Rattle.engine_c.specs.Handles.{handle_owns, content_coded};
+ghost use Rattle.engine_c.specs.Handles.{handle_owns};
 
 use crate::parts::Parts;
 use engine_calls::Kept;
@@ -22,7 +24,7 @@ pub struct Opaque {
 pub struct Handle {
     at: *mut Opaque,
     alloc: Global,
-    pub ghost kept: { Option KeptState },
+    pub ghost kept: { Option KeptState } by { coded_option coded_kept },
 }
 
 impl Model for Handle {

@@ -1,20 +1,13 @@
 //! The library for C: a summary inside another program, behind a slot that C holds.
 #![tactic(auto)]
 
-ghost use Rattle.std.specs.Prelude.{◌≡◌, ◌≢◌, ◌<◌, ◌≤◌, ◌×◌, None, IsSome, List, codes, length, take};
-ghost use Rattle.grouping_model.specs.Replies.{known_list};
-ghost use Rattle.batch_reader.specs.File.{read_file};
-ghost use Rattle.having_filter.specs.Kept.{by_names};
-ghost use Rattle.packed_rows.specs.Columns.{printed};
-ghost use Rattle.query_checks.specs.Spelling.{spelling};
-ghost use Rattle.replica_merge.specs.Replicas.{told};
-ghost use Rattle.replies.specs.Text.{origins_text};
-ghost use Rattle.command_replicas.specs.Commands.{IsTooLong};
-ghost use Rattle.engine.specs.Calls.{Creates, Loads, FeedsSession, batch_of, MergesFileSession, IsFileOf, IsTableOf};
+ghost use Rattle.std.specs.Prelude.{◌≡◌, ◌≢◌, None, IsSome, codes, length};
+ghost use Rattle.engine.specs.Calls.{Creates, Loads, FeedsFile, FeedsRows, MergesFileSession, IsFileOf, IsTooLong, IsTableOf};
+ghost use Rattle.engine.specs.Calls.{IsKnownText, IsQueryText, IsColumnsText};
+ghost use Rattle.engine.specs.Statuses.{status_number, status_at};
+ghost use Rattle.engine.specs.declared.status.Status.TheVariants.{Done, NotOpen};
 ghost use Rattle.engine_calls.specs.Calls.{OnSession, OpensBy, ForMemory, MergesWith};
-ghost use Rattle.engine.specs.Statuses.{status_name, status_number};
-ghost use Rattle.engine.specs.declared.status.Status.{Status};
-ghost use Rattle.engine_c.specs.Exports.{kept_by, delivery_of, format_by, CallsSlot, AsksSlot};
+ghost use Rattle.engine_c.specs.Exports.{kept_by, delivery_of, format_by, CallsSlot, AsksSlot, GivesNothing, HandsOut, Fetches, Names};
 
 mod delivery;
 mod handle;
@@ -23,9 +16,7 @@ mod parts;
 mod slot;
 
 use delivery::Delivery;
-use engine::Status;
-use engine_calls::Place;
-use hash_agg::Seed;
+use engine::{Place, Seed, Status};
 use outcomes::{delivery, format_by, hand_out, number_of};
 use slot::{Slot, filled, taken, taken_or_new};
 use std::alloc::Global;
@@ -41,7 +32,7 @@ pub extern "C" fn agg_new(
     seed_low: u64,
     seed_high: u64,
 ) -> u32
-    ensures { CallsSlot (OpensBy (Creates columns.now query.now limit)) (λ _. Unit {0}) slot.old.handle.kept slot.new.handle.kept result }
+    ensures { CallsSlot (OpensBy (Creates columns.now query.now limit)) GivesNothing slot.old.handle.kept slot.new.handle.kept result }
 {
     let Ok(mut kept) = taken_or_new(alloc, slot) else {
         return Status::NoMemory.number();
@@ -65,7 +56,7 @@ pub extern "C" fn agg_load(
     seed_low: u64,
     seed_high: u64,
 ) -> u32
-    ensures { CallsSlot (OpensBy (Loads file.now limit)) (λ _. Unit {0}) slot.old.handle.kept slot.new.handle.kept result }
+    ensures { CallsSlot (OpensBy (Loads file.now limit)) GivesNothing slot.old.handle.kept slot.new.handle.kept result }
 {
     let Ok(mut kept) = taken_or_new(alloc, slot) else {
         return Status::NoMemory.number();
@@ -87,7 +78,7 @@ pub extern "C" fn agg_feed(
     batch: &[u8],
     delivered: &mut Delivery,
 ) -> u32
-    ensures { CallsSlot (OnSession (FeedsSession (read_file batch.now))) (λ told. delivered.new ≡ delivery_of told) slot.old.handle.kept
+    ensures { CallsSlot (OnSession (FeedsFile batch.now)) (λ told. delivered.new ≡ delivery_of told) slot.old.handle.kept
         slot.new.handle.kept result }
 {
     let Some(mut kept) = taken(alloc, slot) else {
@@ -114,7 +105,7 @@ pub extern "C" fn agg_feed_rows(
     rows: &[u8],
     delivered: &mut Delivery,
 ) -> u32
-    ensures { CallsSlot (OnSession (FeedsSession (batch_of origin number count rows.now))) (λ told. delivered.new ≡ delivery_of told)
+    ensures { CallsSlot (OnSession (FeedsRows origin number count rows.now)) (λ told. delivered.new ≡ delivery_of told)
         slot.old.handle.kept slot.new.handle.kept result }
 {
     let Some(mut kept) = taken(alloc, slot) else {
@@ -133,7 +124,7 @@ pub extern "C" fn agg_feed_rows(
 /// Merges what the session of another slot knows.
 #[unsafe(no_mangle)]
 pub extern "C" fn agg_merge(alloc: Global, into: &mut Slot, from: &mut Slot) -> u32
-    ensures merges { CallsSlot (MergesWith (kept_by from.old.handle.kept).session) (λ _. Unit {0}) into.old.handle.kept
+    ensures merges { CallsSlot (MergesWith (kept_by from.old.handle.kept).session) GivesNothing into.old.handle.kept
         into.new.handle.kept result }
     ensures from { from.new.handle.kept ≡ from.old.handle.kept }
 {
@@ -154,7 +145,7 @@ pub extern "C" fn agg_merge(alloc: Global, into: &mut Slot, from: &mut Slot) -> 
 /// Merges what a summary file knows.
 #[unsafe(no_mangle)]
 pub extern "C" fn agg_merge_bytes(alloc: Global, slot: &mut Slot, file: &[u8]) -> u32
-    ensures { CallsSlot (OnSession (MergesFileSession file.now)) (λ _. Unit {0}) slot.old.handle.kept slot.new.handle.kept result }
+    ensures { CallsSlot (OnSession (MergesFileSession file.now)) GivesNothing slot.old.handle.kept slot.new.handle.kept result }
 {
     let Some(mut kept) = taken(alloc, slot) else {
         return Status::NotOpen.number();
@@ -167,7 +158,7 @@ pub extern "C" fn agg_merge_bytes(alloc: Global, slot: &mut Slot, file: &[u8]) -
 /// Tells the summary file: it is fetched by `agg_fetch`.
 #[unsafe(no_mangle)]
 pub extern "C" fn agg_save(alloc: Global, slot: &mut Slot, wanted: &mut usize) -> u32
-    ensures { AsksSlot (λ held file _. IsFileOf held file) IsTooLong (λ _. Unit {0}) slot.old.handle.kept slot.new.handle.kept wanted.new
+    ensures { AsksSlot (λ held file _. IsFileOf held file) IsTooLong GivesNothing slot.old.handle.kept slot.new.handle.kept wanted.new
         result }
 {
     let Some(mut kept) = taken(alloc, slot) else {
@@ -182,7 +173,7 @@ pub extern "C" fn agg_save(alloc: Global, slot: &mut Slot, wanted: &mut usize) -
 /// Tells what is known, a line for each origin: it is fetched by `agg_fetch`.
 #[unsafe(no_mangle)]
 pub extern "C" fn agg_known(alloc: Global, slot: &mut Slot, wanted: &mut usize) -> u32
-    ensures { AsksSlot (λ held text _. text ≡ origins_text (known_list (told held.parts))) ForMemory (λ _. Unit {0}) slot.old.handle.kept
+    ensures { AsksSlot (λ held text _. IsKnownText held text) ForMemory GivesNothing slot.old.handle.kept
         slot.new.handle.kept wanted.new result }
 {
     let Some(mut kept) = taken(alloc, slot) else {
@@ -197,7 +188,7 @@ pub extern "C" fn agg_known(alloc: Global, slot: &mut Slot, wanted: &mut usize) 
 /// Tells the canonical text of the query: it is fetched by `agg_fetch`.
 #[unsafe(no_mangle)]
 pub extern "C" fn agg_query(alloc: Global, slot: &mut Slot, wanted: &mut usize) -> u32
-    ensures { AsksSlot (λ held text _. text ≡ spelling (by_names held.query)) ForMemory (λ _. Unit {0}) slot.old.handle.kept
+    ensures { AsksSlot (λ held text _. IsQueryText held text) ForMemory GivesNothing slot.old.handle.kept
         slot.new.handle.kept wanted.new result }
 {
     let Some(mut kept) = taken(alloc, slot) else {
@@ -212,7 +203,7 @@ pub extern "C" fn agg_query(alloc: Global, slot: &mut Slot, wanted: &mut usize) 
 /// Tells the canonical text of the columns: it is fetched by `agg_fetch`.
 #[unsafe(no_mangle)]
 pub extern "C" fn agg_columns(alloc: Global, slot: &mut Slot, wanted: &mut usize) -> u32
-    ensures { AsksSlot (λ held text _. text ≡ printed held.query.columns) ForMemory (λ _. Unit {0}) slot.old.handle.kept
+    ensures { AsksSlot (λ held text _. IsColumnsText held text) ForMemory GivesNothing slot.old.handle.kept
         slot.new.handle.kept wanted.new result }
 {
     let Some(mut kept) = taken(alloc, slot) else {
@@ -259,8 +250,9 @@ pub extern "C" fn agg_reason(
     wanted: &mut usize,
 ) -> u32
     ensures session { (kept_by slot.new.handle.kept).session ≡ (kept_by slot.old.handle.kept).session }
-    ensures wanted { result ≡ 0 → wanted.new ≡ length (kept_by slot.new.handle.kept).told }
-    ensures same { result ≢ 0 → kept_by slot.new.handle.kept ≡ kept_by slot.old.handle.kept }
+    ensures wanted { result ≡ status_number Done → wanted.new ≡ length (kept_by slot.new.handle.kept).told }
+    ensures same { result ≢ status_number Done → kept_by slot.new.handle.kept ≡ kept_by slot.old.handle.kept }
+    ensures empty { slot.old.handle.kept ≡ None → result ≡ status_number NotOpen }
 {
     let Some(mut kept) = taken(alloc, slot) else {
         return Status::NotOpen.number();
@@ -284,9 +276,7 @@ pub extern "C" fn agg_fetch(
     out: &mut [u8],
     wanted: &mut usize,
 ) -> u32
-    ensures wanted { wanted.new ≡ length (kept_by slot.old.handle.kept).told }
-    ensures done { result ≡ 0 → take wanted.new out.new ≡ (kept_by slot.old.handle.kept).told }
-    ensures untouched { result ≢ 0 → out.new ≡ out.old }
+    ensures fetches { Fetches slot.old.handle.kept out.old out.new wanted.new result }
     ensures same { slot.new.handle.kept ≡ slot.old.handle.kept }
 {
     let Some(kept) = taken(alloc, slot) else {
@@ -302,8 +292,8 @@ pub extern "C" fn agg_fetch(
 #[unsafe(no_mangle)]
 pub extern "C" fn agg_close(alloc: Global, slot: &mut Slot) -> u32
     ensures emptied { slot.new.handle.kept ≡ None }
-    ensures done { IsSome slot.old.handle.kept → result ≡ 0 }
-    ensures empty { slot.old.handle.kept ≡ None → result ≡ 3 }
+    ensures done { IsSome slot.old.handle.kept → result ≡ status_number Done }
+    ensures empty { slot.old.handle.kept ≡ None → result ≡ status_number NotOpen }
 {
     let Some(kept) = taken(alloc, slot) else {
         return Status::NotOpen.number();
@@ -315,8 +305,7 @@ pub extern "C" fn agg_close(alloc: Global, slot: &mut Slot) -> u32
 /// Copies the name of a status to the bytes at `out`, if it fits there, and tells how long it is.
 #[unsafe(no_mangle)]
 pub extern "C" fn agg_status_name(status: u32, out: &mut [u8], wanted: &mut usize) -> u32
-    ensures name { result ≡ 0 → (named : Status) × (status_number named ≡ status) × (take wanted.new out.new ≡ status_name named) }
-    ensures untouched { result ≢ 0 → out.new ≡ out.old }
+    ensures { Names (status_at status) out.old out.new wanted.new result }
 {
     let Some(named) = Status::numbered(status) else {
         *wanted = 0;
@@ -328,9 +317,7 @@ pub extern "C" fn agg_status_name(status: u32, out: &mut [u8], wanted: &mut usiz
 /// Copies the version of the library to the bytes at `out`, if it fits there, and tells how long it is.
 #[unsafe(no_mangle)]
 pub extern "C" fn agg_version(out: &mut [u8], wanted: &mut usize) -> u32
-    ensures wanted { wanted.new ≡ 5 }
-    ensures done { result ≡ 0 → take 5 out.new ≡ codes "0.1.0" }
-    ensures untouched { result ≢ 0 → out.new ≡ out.old }
+    ensures { HandsOut (codes "0.1.0") out.old out.new wanted.new result }
 {
     hand_out(b"0.1.0", out, wanted)
 }

@@ -1,13 +1,11 @@
 //! How calls end, and what they hand out.
 
-ghost use Rattle.std.specs.Prelude.{◌≡◌, ◌≢◌, ◌<◌, length, take};
+ghost use Rattle.std.specs.Prelude.{◌≡◌};
 ghost use Rattle.engine.specs.Statuses.{number_told};
-ghost use Rattle.engine_c.specs.Exports.{delivery_of, format_by};
+ghost use Rattle.engine_c.specs.Exports.{delivery_of, format_by, HandsOut};
 
 use crate::delivery::Delivery;
-use engine::Status;
-use replica_merge::Delivered;
-use replies::Format;
+use engine::{Delivered, Format, Status};
 
 /// What became of a batch, as C has it.
 pub(crate) fn delivery(delivered: Delivered) -> Delivery
@@ -43,10 +41,7 @@ pub(crate) fn number_of(outcome: Result<(), Status>) -> u32
 
 /// Copies a result to where C wants it, if it fits there, and tells how long it is.
 pub(crate) fn hand_out(bytes: &[u8], out: &mut [u8], wanted: &mut usize) -> u32
-    ensures wanted { wanted.new ≡ length bytes.now }
-    ensures done { result ≡ 0 → take (length bytes.now) out.new ≡ bytes.now }
-    ensures same { result ≢ 0 → out.new ≡ out.old }
-    ensures short { result ≢ 0 → length out.old < length bytes.now }
+    ensures { HandsOut bytes.now out.old out.new wanted.new result }
 {
     *wanted = bytes.len();
     if out.len() < bytes.len() {

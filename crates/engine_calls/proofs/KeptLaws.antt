@@ -1,9 +1,7 @@
 -- What a call of a caller from outside does, by what it does to the session.
 use Rattle.std.specs.Prelude.{◌≡◌, ℕ, List, Option, Some, None, Result, Ok, Err, IsOk, refl}
 use Rattle.std.proofs.Common.{ap, subst, sym, ◌∙◌}
-use Rattle.replica_merge.specs.Replicas.{Held}
-use Rattle.replies.specs.declared.refusal.Refusal.{Refusal}
-use Rattle.engine.specs.Calls.{MergesSession}
+use Rattle.engine.specs.Calls.{Held, Refusal, MergesSession}
 use Rattle.engine.specs.Sessions.{SessionState}
 use Rattle.engine.specs.Statuses.{status_of, told_by}
 use Rattle.engine.specs.declared.status.Status.{Status}
@@ -51,8 +49,8 @@ module _ {T : Type 0} (tells : Held → List ℕ → T → Type 0) (refuses : He
       called (Asks tells refuses told) s s now inside (Ok answered) (Ok answered) (sym same ∙ there) there (refl, t) refl
 
   -- it was refused, and stayed
-  pub refused : (told : List ℕ) (new : Option SessionState) (why : Refusal) (status : Status) → new ≡ inside → refuses s.held why
+  pub refused : (told : List ℕ) (new : Option SessionState) (why : Refusal) (status : Status) → new ≡ now → refuses s.held why
       → status ≡ status_of why → OnSession (Asks tells refuses told) now new (Err status)
   refused told new why status stays r named =
-      called (Asks tells refuses told) s s now new (Err why) (Err status) (sym same ∙ there) (stays ∙ there) (refl, r)
+      called (Asks tells refuses told) s s now new (Err why) (Err status) (sym same ∙ there) (stays ∙ (sym same ∙ there)) (refl, r)
       (ap (λ (e : Status). Err e) named)

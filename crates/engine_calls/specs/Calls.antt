@@ -1,9 +1,6 @@
 -- What the calls of a caller from outside do, by what those of a session do. All of this is our own.
 use Rattle.std.specs.Prelude.{◌≡◌, ℕ, List, Option, Some, None, Result, Ok, Err, IsOk}
-use Rattle.replica_merge.specs.Replicas.{Held}
-use Rattle.replies.specs.declared.refusal.Refusal.{Refusal}
-use Rattle.replies.specs.declared.refusal.Refusal.TheVariants.{NoMemory}
-use Rattle.engine.specs.Calls.{MergesSession}
+use Rattle.engine.specs.Calls.{Held, Refusal, NoMemory, MergesSession}
 use Rattle.engine.specs.Sessions.{SessionState}
 use Rattle.engine.specs.Statuses.{status_of, told_by}
 use Rattle.engine.specs.declared.status.Status.{Status}

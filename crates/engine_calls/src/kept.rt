@@ -1,34 +1,28 @@
 //! What is kept between the calls of a caller from outside.
 
 ghost use Rattle.std.specs.Prelude.{◌≡◌, IfOk, OnErr};
-ghost use Rattle.grouping_model.specs.Replies.{known_list};
-ghost use Rattle.batch_reader.specs.File.{read_file};
-ghost use Rattle.having_filter.specs.Kept.{by_names};
-ghost use Rattle.packed_rows.specs.Columns.{printed};
-ghost use Rattle.query_checks.specs.Spelling.{spelling};
-ghost use Rattle.replica_merge.specs.Replicas.{told};
-ghost use Rattle.replies.specs.Text.{origins_text};
-ghost use Rattle.command_replicas.specs.Commands.{IsTooLong};
-ghost use Rattle.engine_calls.specs.Keeping.{nothing};
+ghost use Rattle.engine.specs.Calls.{Creates, Loads, FeedsFile, FeedsRows, MergesFileSession, IsFileOf, IsTooLong, IsTableOf};
+ghost use Rattle.engine.specs.Calls.{IsKnownText, IsQueryText, IsColumnsText, NoMemory};
 ghost use Rattle.engine.specs.Statuses.{status_of};
-ghost use Rattle.engine.specs.Calls.{Creates, Loads, FeedsSession, batch_of, MergesFileSession, IsFileOf, IsTableOf};
 ghost use Rattle.engine_calls.specs.Calls.{OnSession, OpensBy, Asks, ForMemory, MergesWith};
+ghost use Rattle.engine_calls.specs.Keeping.{nothing};
 
-use crate::place::Place;
-use engine::{Session, Status};
-use hash_agg::Seed;
-use replica_merge::Delivered;
-use replies::{Format, Refusal};
+use crate::reasons::{merging_reason, opening_reason, rows_reason, sentence};
+use engine::{Delivered, Format, Place, Refusal, Seed, Session, Status};
+use fault_sentences::Reason;
+use file_sentences::{FileKind, file_reason, saving_reason, summary_reason};
 use std::alloc::{AllocError, Global};
 use std::marker::Model;
 
-/// What a caller from outside keeps between its calls: a session, if one is open, what was told last, and why a call was refused last.
+/// What a caller from outside keeps between its calls: a session, if one is open, what was told last, why a call was refused last, and
+/// what is said of that beside.
 #[derive(Drop)]
 pub struct Kept {
     alloc: Global,
     session: Option<Session>,
     told: Vec<u8>,
     why: Option<Refusal>,
+    reason: Option<Reason>,
 }
 
 impl Model for Kept {
@@ -59,16 +53,26 @@ impl Kept {
             session: None,
             told: Vec::new(alloc),
             why: None,
+            reason: None,
         }
     }
 
-    /// Keeps why a call was refused.
-    fn refuse(&mut self, why: Refusal) -> Status
+    /// Keeps why a call was refused, and what is said of that, if there was memory for it.
+    fn refuse(&mut self, why: Refusal, reason: Result<Option<Reason>, AllocError>) -> Status
         ensures status { result ≡ status_of why }
         ensures same { self.new ≡ self.old }
     {
         self.why = Some(why);
+        self.reason = reason.unwrap_or(None);
         Status::from(why)
+    }
+
+    /// Keeps that there was no memory.
+    fn refuse_for_memory(&mut self) -> Status
+        ensures status { result ≡ status_of NoMemory }
+        ensures same { self.new ≡ self.old }
+    {
+        self.refuse(Refusal::NoMemory, Ok(None))
     }
 
     /// Opens a session that knows nothing, as [`Session::create`] makes it.
@@ -92,7 +96,10 @@ impl Kept {
         }
         let session = match Session::create(self.alloc, columns, query, limit, seed) {
             Ok(session) => session,
-            Err(why) => return Err(self.refuse(why)),
+            Err(why) => {
+                let reason = opening_reason(self.alloc, columns, query, why);
+                return Err(self.refuse(why, reason));
+            }
         };
         self.session = Some(session);
         Ok(())
@@ -113,7 +120,10 @@ impl Kept {
         }
         let session = match Session::load(self.alloc, file, limit, seed) {
             Ok(session) => session,
-            Err(why) => return Err(self.refuse(why)),
+            Err(why) => {
+                let reason = summary_reason(self.alloc, file, why);
+                return Err(self.refuse(why, reason));
+            }
         };
         self.session = Some(session);
         Ok(())
@@ -125,7 +135,7 @@ impl Kept {
     ///
     /// `NotOpen`, and then those of [`Session::feed`]. Nothing changes then.
     pub fn feed(&mut self, file: &[u8]) -> Result<Delivered, Status>
-        ensures feeds { OnSession (FeedsSession (read_file file.now)) self.old.session self.new.session result }
+        ensures feeds { OnSession (FeedsFile file.now) self.old.session self.new.session result }
         ensures told { self.new.told ≡ self.old.told }
         ensures same { OnErr result (self.new ≡ self.old) }
     {
@@ -136,7 +146,8 @@ impl Kept {
             Ok(delivered) => return Ok(delivered),
             Err(why) => why,
         };
-        Err(self.refuse(why))
+        let reason = file_reason(self.alloc, FileKind::Batch, session.replica(), file, why);
+        Err(self.refuse(why, reason))
     }
 
     /// Feeds the batch of an origin and a number whose rows are records in CSV, as many as are told.
@@ -151,7 +162,7 @@ impl Kept {
         count: u32,
         rows: &[u8],
     ) -> Result<Delivered, Status>
-        ensures feeds { OnSession (FeedsSession (batch_of origin number count rows.now)) self.old.session self.new.session result }
+        ensures feeds { OnSession (FeedsRows origin number count rows.now) self.old.session self.new.session result }
         ensures told { self.new.told ≡ self.old.told }
         ensures same { OnErr result (self.new ≡ self.old) }
     {
@@ -162,7 +173,9 @@ impl Kept {
             Ok(delivered) => return Ok(delivered),
             Err(why) => why,
         };
-        Err(self.refuse(why))
+        let replica = session.replica();
+        let reason = rows_reason(self.alloc, replica, origin, number, count, rows, why);
+        Err(self.refuse(why, reason))
     }
 
     /// Merges the replica of another session.
@@ -185,7 +198,8 @@ impl Kept {
             Ok(()) => return Ok(()),
             Err(why) => why,
         };
-        Err(self.refuse(why))
+        let reason = merging_reason(self.alloc, session.replica(), &[], why);
+        Err(self.refuse(why, reason))
     }
 
     /// Merges the replica that a summary file is of.
@@ -205,7 +219,8 @@ impl Kept {
             Ok(()) => return Ok(()),
             Err(why) => why,
         };
-        Err(self.refuse(why))
+        let reason = merging_reason(self.alloc, session.replica(), file, why);
+        Err(self.refuse(why, reason))
     }
 
     /// Tells the summary file.
@@ -223,7 +238,10 @@ impl Kept {
         };
         let file = match session.save() {
             Ok(file) => file,
-            Err(why) => return Err(self.refuse(why)),
+            Err(why) => {
+                let reason = saving_reason(self.alloc, session.replica(), why);
+                return Err(self.refuse(why, reason));
+            }
         };
         self.told = file;
         Ok(())
@@ -244,7 +262,7 @@ impl Kept {
         };
         let (rows, table) = match session.answer(format) {
             Ok(found) => found,
-            Err(_) => return Err(self.refuse(Refusal::NoMemory)),
+            Err(_) => return Err(self.refuse_for_memory()),
         };
         self.told = table;
         Ok(rows)
@@ -256,7 +274,7 @@ impl Kept {
     ///
     /// `NotOpen`, and want of memory. Nothing changes then.
     pub fn known(&mut self) -> Result<(), Status>
-        ensures asks { OnSession (Asks (λ held text _. text ≡ origins_text (known_list (told held.parts))) ForMemory self.new.told)
+        ensures asks { OnSession (Asks (λ held text _. IsKnownText held text) ForMemory self.new.told)
             self.old.session self.new.session result }
         ensures same { OnErr result (self.new ≡ self.old) }
     {
@@ -265,7 +283,7 @@ impl Kept {
         };
         let lines = match session.known() {
             Ok(lines) => lines,
-            Err(_) => return Err(self.refuse(Refusal::NoMemory)),
+            Err(_) => return Err(self.refuse_for_memory()),
         };
         self.told = lines;
         Ok(())
@@ -277,7 +295,7 @@ impl Kept {
     ///
     /// `NotOpen`, and want of memory. Nothing changes then.
     pub fn query(&mut self) -> Result<(), Status>
-        ensures asks { OnSession (Asks (λ held text _. text ≡ spelling (by_names held.query)) ForMemory self.new.told)
+        ensures asks { OnSession (Asks (λ held text _. IsQueryText held text) ForMemory self.new.told)
             self.old.session self.new.session result }
         ensures same { OnErr result (self.new ≡ self.old) }
     {
@@ -286,7 +304,7 @@ impl Kept {
         };
         let text = match bytes_of(self.alloc, session.query()) {
             Ok(text) => text,
-            Err(_) => return Err(self.refuse(Refusal::NoMemory)),
+            Err(_) => return Err(self.refuse_for_memory()),
         };
         self.told = text;
         Ok(())
@@ -298,7 +316,7 @@ impl Kept {
     ///
     /// `NotOpen`, and want of memory. Nothing changes then.
     pub fn columns(&mut self) -> Result<(), Status>
-        ensures asks { OnSession (Asks (λ held text _. text ≡ printed held.query.columns) ForMemory self.new.told)
+        ensures asks { OnSession (Asks (λ held text _. IsColumnsText held text) ForMemory self.new.told)
             self.old.session self.new.session result }
         ensures same { OnErr result (self.new ≡ self.old) }
     {
@@ -307,7 +325,7 @@ impl Kept {
         };
         let text = match session.columns() {
             Ok(text) => text,
-            Err(_) => return Err(self.refuse(Refusal::NoMemory)),
+            Err(_) => return Err(self.refuse_for_memory()),
         };
         self.told = text.into_bytes();
         Ok(())
@@ -323,7 +341,7 @@ impl Kept {
             self.told.clear();
             return Ok(Place::NONE);
         };
-        match format!(in self.alloc; "{why}") {
+        match sentence(self.alloc, why, &self.reason) {
             Ok(text) => {
                 self.told = text.into_bytes();
                 Ok(Place::of(why))

@@ -2,7 +2,6 @@
 #![tactic(auto)]
 
 mod kept;
-mod place;
+mod reasons;
 
 pub use kept::Kept;
-pub use place::Place;

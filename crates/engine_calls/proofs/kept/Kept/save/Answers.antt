@@ -1,7 +1,6 @@
 use Rattle.std.specs.Prelude.{◌≡◌, refl}
 use Rattle.std.proofs.Common.{ap}
-use Rattle.command_replicas.specs.Commands.{IsTooLong}
-use Rattle.engine.specs.Calls.{IsFileOf}
+use Rattle.engine.specs.Calls.{IsFileOf, IsTooLong}
 use Rattle.engine_calls.specs.Keeping.{KeptState}
 use Rattle.engine_calls.proofs.KeptLaws.{asked, refused}
 use Rattle.engine_calls.proofs.kept.Kept.save.Goals as goal

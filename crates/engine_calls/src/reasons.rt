@@ -1,0 +1,74 @@
+//! What is said of a refusal: what the program says on standard error, where it is one of the program's.
+
+use engine::{Refusal, Replica};
+use fault_sentences::Reason;
+use file_sentences::{FileKind, columns_reason, file_reason, query_reason};
+use std::alloc::{AllocError, Global};
+use std::str::from_utf8;
+
+/// Says why no session is opened of the texts of columns and a query.
+pub(crate) fn opening_reason(
+    alloc: Global,
+    columns: &[u8],
+    query: &[u8],
+    why: Refusal,
+) -> Result<Option<Reason>, AllocError> {
+    match (why, from_utf8(columns), from_utf8(query)) {
+        (Refusal::BadCommand, Ok(_), _) => {
+            let said = String::from_str(alloc, "the text of the query is no UTF-8")?;
+            Ok(Some(Reason::whole(alloc, said)))
+        }
+        (Refusal::BadCommand, Err(_), _) => {
+            let said = String::from_str(alloc, "the text of the columns is no UTF-8")?;
+            Ok(Some(Reason::whole(alloc, said)))
+        }
+        (Refusal::BadSchema, Ok(columns), _) => columns_reason(alloc, columns),
+        (_, Ok(columns), Ok(query)) => query_reason(alloc, columns, query, why),
+        _ => Ok(None),
+    }
+}
+
+/// Says why rows are no batch for a replica: of the batch file of these, whose first line is its head.
+pub(crate) fn rows_reason(
+    alloc: Global,
+    replica: &Replica,
+    origin: u32,
+    number: u32,
+    count: u32,
+    rows: &[u8],
+    why: Refusal,
+) -> Result<Option<Reason>, AllocError> {
+    let head = format!(in alloc; "batch,{origin},{number},{count}\n")?;
+    let mut file = head.into_bytes();
+    file.extend_from_slice(rows)?;
+    file_reason(alloc, FileKind::Batch, replica, &file, why)
+}
+
+/// Says why a summary file is not merged into a replica, or another replica, which is no file.
+pub(crate) fn merging_reason(
+    alloc: Global,
+    replica: &Replica,
+    file: &[u8],
+    why: Refusal,
+) -> Result<Option<Reason>, AllocError> {
+    match why {
+        // The program tells the first of its files from another one there.
+        Refusal::DifferentQuery => Ok(None),
+        why => file_reason(alloc, FileKind::Summary, replica, file, why),
+    }
+}
+
+/// The sentence of a refusal: what is said of it, or else that of the refusal alone.
+pub(crate) fn sentence(
+    alloc: Global,
+    why: Refusal,
+    reason: &Option<Reason>,
+) -> Result<String, AllocError> {
+    match reason {
+        Some(reason) => {
+            let (said, picture) = (&reason.said, &reason.picture);
+            format!(in alloc; "{said}{picture}")
+        }
+        None => format!(in alloc; "{why}"),
+    }
+}
