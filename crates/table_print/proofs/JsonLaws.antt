@@ -83,7 +83,8 @@ whole_object names row n start line new all is ends =
     ∙ append_assoc start (codes "{" ++ members) (codes "}\n")
 
 -- the bytes of a name
-pub name_at : (names : List (Vec ℕ Global)) (n : ℕ) (d : Vec ℕ Global) → n < length names → get_or (bytes_of names) n [] ≡ (get_or names n d).items
+pub name_at : (names : List (Vec ℕ Global)) (n : ℕ) (d : Vec ℕ Global) → n < length names → get_or (bytes_of names) n []
+    ≡ (get_or names n d).items
 name_at names n d within = get_or-map (λ (v : Vec ℕ Global). v.items) names n d [] within
 
 pub length-bytes_of : (names : List (Vec ℕ Global)) → length (bytes_of names) ≡ length names

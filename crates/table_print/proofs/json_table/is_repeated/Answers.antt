@@ -10,8 +10,8 @@ returns-then-eq c =
     let names = headers c.args.query.now in
     let name = slice_index_or names c.args.item [] in
     let earlier = c.header-in-loop-earlier.result.now in
-    let same : bytes_eq name earlier ≡ c.eq.result = ap (λ x. bytes_eq x earlier) (get_or_from_slice_get names c.args.item c.header.result.now []
-    c.header.ensures) ∙ sym c.eq.ensures in
+    let same : bytes_eq name earlier ≡ c.eq.result = ap (λ x. bytes_eq x earlier) (get_or_from_slice_get names c.args.item
+    c.header.result.now [] c.header.ensures) ∙ sym c.eq.ensures in
     sym (any_at (bytes_eq name) names c.args.item c.loop-earlier.earlier earlier c.header-in-loop-earlier.ensures c.loop-earlier-test.true
     (same ∙ c.if-eq.true))
 
@@ -20,7 +20,7 @@ loop-earlier-preserved c =
     let names = headers c.args.query.now in
     let name = slice_index_or names c.args.item [] in
     let earlier = c.header-in-loop-earlier.result.now in
-    let same : bytes_eq name earlier ≡ c.eq.result = ap (λ x. bytes_eq x earlier) (get_or_from_slice_get names c.args.item c.header.result.now []
-    c.header.ensures) ∙ sym c.eq.ensures in
+    let same : bytes_eq name earlier ≡ c.eq.result = ap (λ x. bytes_eq x earlier) (get_or_from_slice_get names c.args.item
+    c.header.result.now [] c.header.ensures) ∙ sym c.eq.ensures in
     none_more (bytes_eq name) names c.loop-earlier.earlier earlier c.header-in-loop-earlier.ensures c.loop-earlier.invariant (same
     ∙ c.if-eq.false)

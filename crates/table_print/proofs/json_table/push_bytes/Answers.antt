@@ -18,4 +18,5 @@ loop-byte-preserved c =
 pub returns : goal.returns
 returns c =
     c.loop-byte.invariant
-    ∙ ap (λ bytes. c.args.out.now.items ++ flat_map json_byte bytes) (take_all c.loop-byte.byte-index c.args.text.now c.loop-byte-test.false)
+    ∙ ap (λ bytes. c.args.out.now.items ++ flat_map json_byte bytes) (take_all c.loop-byte.byte-index c.args.text.now
+    c.loop-byte-test.false)

@@ -30,4 +30,5 @@ returns c =
     let names = c.args.names.now in
     let long = length-bytes_of names in
     let all : length (bytes_of names) ≤ c.loop-item.item = omega (arith, long, c.loop-item-test.false) in
-    whole_object (bytes_of names) row c.loop-item.item c.args.out.now.items _ _ all c.loop-item.invariant c.in_ok-extend_from_slice.ensures.items
+    whole_object (bytes_of names) row c.loop-item.item c.args.out.now.items _ _ all c.loop-item.invariant
+    c.in_ok-extend_from_slice.ensures.items

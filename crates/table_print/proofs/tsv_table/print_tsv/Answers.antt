@@ -18,4 +18,5 @@ returns c =
     let answer = c.args.answer.now in
     let all : length answer ≤ c.loop-row.row = subst (λ (m : ℕ). m ≤ c.loop-row.row) c.len-row-end.ensures c.loop-row-test.false in
     c.loop-row.invariant
-    ∙ ap (λ (rows : List (List Outcome)). tsv_header (headers c.args.query.now) ++ flat_map tsv_row rows) (take_all c.loop-row.row answer all)
+    ∙ ap (λ (rows : List (List Outcome)). tsv_header (headers c.args.query.now) ++ flat_map tsv_row rows) (take_all
+    c.loop-row.row answer all)
