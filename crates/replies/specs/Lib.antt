@@ -1,5 +1,6 @@
 pub mod Refusals
 pub mod Text
+pub mod KnownTables
 pub mod Status
 pub mod Batches
 pub mod QueryLaws

@@ -11,7 +11,9 @@ use Rattle.group_parser.specs.Names.{parse_name}
 use Rattle.batch_reader.specs.Names.{batch_name}
 use Rattle.summary_codec.specs.Names.{summary_name}
 use Rattle.table_print.specs.Aligned.{aligned_text, sides}
+use Rattle.table_print.specs.Json.{json_text}
 use Rattle.table_print.specs.Table.{table_text}
+use Rattle.table_print.specs.Tsv.{tsv_text}
 use Rattle.replies.specs.Refusals.{tells_fault}
 use Rattle.replies.specs.declared.refusal.Refusal.{Refusal}
 use Rattle.replies.specs.declared.refusal.Refusal.TheVariants.{NoMemory, BadSchema, Limit, Query, Batch, Summary, DifferentQuery}
@@ -22,7 +24,7 @@ use Rattle.replies.specs.declared.error.RunError.TheVariants as stop
 use Rattle.replies.specs.declared.reply.Reply.{Reply}
 use Rattle.replies.specs.declared.reply.Reply.TheVariants as says
 use Rattle.replies.specs.declared.showing.Format.{Format}
-use Rattle.replies.specs.declared.showing.Format.TheVariants.{Csv, Aligned}
+use Rattle.replies.specs.declared.showing.Format.TheVariants.{Csv, Tsv, Json, Aligned}
 
 -- the names of refusals, and of what stops a run. What a lower crate refuses has its name there
 abbrev pub run_name : RunError → List ℕ
@@ -84,6 +86,8 @@ answer_text rows table = line (codes "answer ") (decimal rows) ++ table
 -- the text of an answer in a format
 abbrev pub text_of : Format → Checked → List (List Outcome) → List ℕ
 text_of Csv query rows = table_text (headers query) rows
+text_of Tsv query rows = tsv_text (headers query) rows
+text_of Json query rows = json_text (headers query) rows
 text_of Aligned query rows = aligned_text (sides query) (headers query) rows
 
 -- the text of a reply of the code

@@ -4,6 +4,7 @@
 
 mod ending;
 mod error;
+mod known_tables;
 mod output;
 mod refusal;
 mod reply;
@@ -15,4 +16,4 @@ pub use error::RunError;
 pub use output::put_reply;
 pub use refusal::Refusal;
 pub use reply::Reply;
-pub use showing::{Format, known_lines, origin_lines, table};
+pub use showing::{Format, KnownFormat, known_lines, known_table, origin_lines, table};

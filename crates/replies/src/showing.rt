@@ -8,21 +8,39 @@ ghost use Rattle.grouping_model.specs.World.{World, IsWorld};
 ghost use Rattle.having_filter.specs.Meaning.{meaning};
 ghost use Rattle.packed_rows.specs.Columns.{kinds};
 ghost use Rattle.replica_merge.specs.Replicas.{told, Fits};
+ghost use Rattle.replies.specs.KnownTables.{known_in};
 ghost use Rattle.replies.specs.Text.{origins_text, known_text, text_of};
 
+use crate::known_tables::{list_json, list_tsv};
 use crate::texts::{list_known, list_origins};
 use having_filter::{Answer, Query};
 use replica_merge::Replica;
 use std::alloc::{AllocError, Global};
-use table_print::{print_aligned, print_csv};
+use table_print::{print_aligned, print_csv, print_json, print_tsv};
 
 /// How a table is written.
 #[derive(Clone, Copy, Debug, PartialEq, Eq)]
 pub enum Format {
     /// Comma-separated values, as `print_csv` writes them.
     Csv,
+    /// Values between tabs, as `print_tsv` writes them.
+    Tsv,
+    /// An object on each line, as `print_json` writes them.
+    Json,
     /// Columns below one another, as `print_aligned` writes them.
     Aligned,
+}
+
+/// How what is known is written.
+#[derive(Clone, Copy, Debug, PartialEq, Eq)]
+pub enum KnownFormat {
+    /// Lines for people, as `origin 7 upto 12 early 14 15`.
+    Lines,
+    /// A header and a line for each origin, values between tabs: its number, the last batch of its unbroken prefix, and the numbers
+    /// that came early, with a space between two.
+    Tsv,
+    /// An object for each origin, on a line of its own, as `{"origin":7,"upto":12,"early":[14,15]}`.
+    Json,
 }
 
 /// What a replica knows: a line `origin O upto P` for each origin of which it knows a batch, by rising origin, and the numbers
@@ -32,6 +50,22 @@ pub fn origin_lines(alloc: Global, replica: &Replica) -> Result<Vec<u8>, AllocEr
 {
     let list = replica.known()?;
     list_origins(alloc, &list)
+}
+
+/// What a replica knows, by rising origin, in a format. The only error is a failed allocation.
+pub fn known_table(
+    alloc: Global,
+    replica: &Replica,
+    format: KnownFormat,
+) -> Result<Vec<u8>, AllocError>
+    ensures { IfOk result (λ text. text.items ≡ known_in format (known_list (told replica.now.parts))) }
+{
+    let origins = replica.known()?;
+    match format {
+        KnownFormat::Lines => list_origins(alloc, &origins),
+        KnownFormat::Tsv => list_tsv(alloc, &origins),
+        KnownFormat::Json => list_json(alloc, &origins),
+    }
 }
 
 /// What a replica knows, in the same lines after a line `known COUNT`, which counts them. The only error is a failed allocation.
@@ -54,6 +88,8 @@ fn print(
 {
     match format {
         Format::Csv => print_csv(alloc, query, answer),
+        Format::Tsv => print_tsv(alloc, query, answer),
+        Format::Json => print_json(alloc, query, answer),
         Format::Aligned => print_aligned(alloc, query, answer),
     }
 }

@@ -9,7 +9,7 @@ use replica_merge::KnownOrigin;
 use std::alloc::{AllocError, Global};
 
 /// Appends a number in decimal.
-fn push_number(text: &mut Vec<u8>, number: usize) -> Result<(), AllocError>
+pub(crate) fn push_number(text: &mut Vec<u8>, number: usize) -> Result<(), AllocError>
     ensures { OnOk result (text.new.items ≡ text.old.items ++ decimal number) }
 {
     text.extend_from_slice(Buffer::new().format(number).as_bytes())

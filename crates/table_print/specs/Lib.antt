@@ -1,3 +1,5 @@
 pub mod Table
 pub mod Writer
 pub mod Aligned
+pub mod Tsv
+pub mod Json

@@ -2,7 +2,6 @@
 
 ghost use Rattle.std.specs.Prelude.{All, ◌≡◌, ◌<◌, ◌++◌, ◌∷◌, ◌==◌, [], length, map, flat_map, max, codes, replicate, slice_get, Some};
 ghost use Rattle.std.specs.Prelude.{option_map, IfOk, OnOk, slice_index_or, if◌then◌else◌};
-ghost use Rattle.std.specs.Char.{digit_char};
 ghost use Rattle.std.specs.Fmt.{char_count, is_char_start};
 ghost use Rattle.packed_rows.specs.Columns.{kinds};
 ghost use Rattle.packed_rows.specs.View.{kind_of};
@@ -14,6 +13,7 @@ ghost use Rattle.table_print.specs.Aligned.{is_control, shown_byte, shown, heade
 ghost use Rattle.table_print.specs.Aligned.{columns_of, on_side, padded, aligned_line, rule_line, aligned_text};
 
 use crate::cell::cell;
+use crate::pieces::{hex_digit, push_separator};
 use having_filter::{Answer, Item, Query};
 use itoa::Buffer;
 use packed_rows::{Schema, ValueKind};
@@ -38,18 +38,6 @@ fn is_control(byte: u8) -> bool
     ensures { result ≡ is_control byte }
 {
     0 < byte && byte < b' ' || byte == 127
-}
-
-/// The hexadecimal digit of a value below 16.
-fn hex_digit(value: u8) -> u8
-    requires { value < 16 }
-    ensures { result ≡ digit_char value }
-{
-    if value < 10 {
-        b'0' + value
-    } else {
-        b'a' + (value - 10)
-    }
 }
 
 /// Appends a byte of a cell, as it shows.
@@ -113,17 +101,6 @@ fn push_padded(out: &mut Vec<u8>, column: Column, shown: &[u8]) -> Result<(), Al
             push_repeated(out, b' ', spaces)?;
             out.extend_from_slice(shown)?;
         }
-    }
-    Ok(())
-}
-
-/// Appends what parts a place of a line from the one before it. The first place is 0, and has none before it.
-fn push_separator(out: &mut Vec<u8>, place: usize, separator: &[u8]) -> Result<(), AllocError>
-    ensures { OnOk result (out.new.items
-        ≡ out.old.items ++ (if place == 0 then [] else separator.now)) }
-{
-    if place > 0 {
-        out.extend_from_slice(separator)?;
     }
     Ok(())
 }

@@ -1,0 +1,34 @@
+-- Why a plain CSV is refused, step by step.
+use Rattle.std.proofs.Common.{◌≡◌, ℕ, List, Some, ap, length, sym, ◌∙◌}
+use Rattle.packed_rows.specs.Columns.{Column, names}
+use Rattle.script_io.specs.Records.{Record}
+use Rattle.plain_batches.specs.Plain.{parts_of, plain_records}
+use Rattle.plain_batches.specs.Refusal.{HasParts, HeaderFault, PlainFault, WidthFault}
+use Rattle.plain_batches.specs.declared.layout.Layout.{Layout}
+use Rattle.plain_batches.specs.declared.error.PackError.{PackError}
+use Rattle.plain_batches.specs.declared.error.PackError.TheVariants.{NoMemory, UnknownColumn, MissingColumn, RepeatedColumn}
+use Rattle.plain_batches.specs.declared.error.PackError.TheVariants.{WrongWidth, TooManyRows}
+
+-- a plain CSV has these parts
+pub has_parts : (columns : List Column) (layout : Layout) (csv : List ℕ) (named header : Record) (all rows : List Record)
+    → named ≡ names columns → all ≡ plain_records layout.delimiter csv
+    → parts_of layout.has_header named all ≡ Some (header, rows) → HasParts columns layout csv header rows
+has_parts columns layout csv named header all rows names_are is parts =
+    ap (λ (n : Record). parts_of layout.has_header n (plain_records layout.delimiter csv)) (sym names_are)
+    ∙ ap (λ (a : List Record). parts_of layout.has_header named a) (sym is) ∙ parts
+
+pub header_refused : (columns : List Column) (layout : Layout) (csv : List ℕ) (header : Record) (rows : List Record) (error : PackError)
+    → HasParts columns layout csv header rows → HeaderFault layout.skips_columns (names columns) header error
+    → PlainFault columns layout csv error
+header_refused columns layout csv header rows NoMemory parts fault = tt
+header_refused columns layout csv header rows (UnknownColumn place) parts fault = (header, rows, parts, fault)
+header_refused columns layout csv header rows (MissingColumn column) parts fault = (header, rows, parts, fault)
+header_refused columns layout csv header rows (RepeatedColumn column) parts fault = (header, rows, parts, fault)
+header_refused columns layout csv header rows error parts fault = absurd fault
+
+pub widths_refused : (columns : List Column) (layout : Layout) (csv : List ℕ) (header : Record) (rows : List Record) (error : PackError)
+    → HasParts columns layout csv header rows → WidthFault (length header) rows error → PlainFault columns layout csv error
+widths_refused columns layout csv header rows NoMemory parts fault = tt
+widths_refused columns layout csv header rows (WrongWidth row) parts fault = (header, rows, parts, fault)
+widths_refused columns layout csv header rows TooManyRows parts fault = (header, rows, parts, fault)
+widths_refused columns layout csv header rows error parts fault = absurd fault

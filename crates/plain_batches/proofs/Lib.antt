@@ -1,0 +1,5 @@
+pub mod ReadingFacts
+pub mod FileLaws
+pub mod PlainLaws
+pub mod FaultLaws
+pub mod PackedLaws

@@ -1,0 +1,6 @@
+pub mod Plain
+pub mod Left
+pub mod Columns
+pub mod Writer
+pub mod Packed
+pub mod Refusal

@@ -1,0 +1,95 @@
+//! Batch files of plain CSV.
+
+ghost use Rattle.std.specs.Prelude.{◌≡◌, ◌≤◌, [], length, Some, true, IfErr, IfOk, OnOk};
+ghost use Rattle.csv.specs.Records.{fields_of};
+ghost use Rattle.grouping_model.specs.declared.limits.TheConstants.{LAST_ORIGIN};
+ghost use Rattle.plain_batches.specs.Plain.{parts_of};
+ghost use Rattle.plain_batches.specs.Packed.{MakesFile, PacksPlain};
+ghost use Rattle.plain_batches.specs.Refusal.{PackFault, PartsFault, PlainFault};
+
+use crate::columns::{checked_places, names_of};
+use crate::error::PackError;
+use crate::layout::Layout;
+use crate::lines::head_line;
+use crate::records::PlainRecords;
+use crate::rows::row_lines;
+use batch_reader::{BatchError, read_batch};
+use csv::ByteRecord;
+use grouping_model::limits::MAX_INPUT_LEN;
+use packed_rows::Schema;
+use std::alloc::Global;
+
+/// The names of the columns in their places: the first record, or else those of the schema.
+fn header_of(
+    alloc: Global,
+    names: &ByteRecord,
+    has_header: bool,
+    records: &mut PlainRecords<'_>,
+) -> Result<ByteRecord, PackError>
+    ensures parts { IfOk result (λ header. parts_of has_header (fields_of names.now) records.old
+        ≡ Some (fields_of header, records.new)) }
+    ensures refused { IfErr result (PartsFault has_header records.old) }
+{
+    if !has_header {
+        return Ok(names.clone()?);
+    }
+    let mut header = ByteRecord::new(alloc);
+    if !records.read(&mut header)? {
+        return Err(PackError::NoHeader);
+    }
+    Ok(header)
+}
+
+/// The batch file of the rows of a plain CSV, whose values are not looked at.
+fn make_file(
+    alloc: Global,
+    schema: &Schema,
+    layout: Layout<'_>,
+    origin: u16,
+    number: u32,
+    csv: &[u8],
+) -> Result<Vec<u8>, PackError>
+    ensures made { IfOk result (λ file.
+        MakesFile schema.now layout.entry origin number csv.now file.items) }
+    ensures some { OnOk result (1 ≤ length schema.now) }
+    ensures refused { IfErr result (PlainFault schema.now layout.entry csv.now) }
+{
+    let names = names_of(alloc, schema)?;
+    let mut records = PlainRecords::new(alloc, layout.delimiter, csv);
+    let header = header_of(alloc, &names, layout.has_header, &mut records)?;
+    let places = checked_places(alloc, &names, &header, layout.skips_columns)?;
+    let width = header.len();
+    let (rows, lines) = row_lines(alloc, layout.null, &places, width, &mut records)?;
+    let mut file = head_line(alloc, origin, number, rows)?;
+    file.extend_from_slice(&lines)?;
+    Ok(file)
+}
+
+/// The batch file of a plain CSV, by a schema, with this origin and number. Its records are the rows, each with a field for each
+/// column of the schema, in the schema's order; a header, where there is one, tells which field is whose. The fields stand for
+/// values as in a batch file, and the file has been read again by `read_batch` before it is handed out.
+pub fn pack_batch(
+    alloc: Global,
+    schema: &Schema,
+    layout: Layout<'_>,
+    origin: u16,
+    number: u32,
+    csv: &[u8],
+) -> Result<Vec<u8>, PackError>
+    requires origin { origin ≤ LAST_ORIGIN }
+    requires number { 1 ≤ number }
+    ensures packed { IfOk result (λ file.
+        PacksPlain schema.now layout.entry origin number csv.now file.items) }
+    ensures refused { IfErr result (PackFault schema.now layout.entry origin number csv.now) }
+{
+    let file = make_file(alloc, schema, layout, origin, number, csv)?;
+    if file.len() > MAX_INPUT_LEN {
+        return Err(PackError::TooLong);
+    }
+    match read_batch(alloc, schema, &file) {
+        Ok(_) => Ok(file),
+        Err(BatchError::BadField { row, column }) => Err(PackError::BadField { row, column }),
+        // For want of memory: the file is a batch of rows as wide as the schema.
+        Err(_) => Err(PackError::NoMemory),
+    }
+}

@@ -1,0 +1,50 @@
+//! Why a plain CSV is no batch.
+
+ghost use Rattle.std.specs.Prelude.{◌≡◌};
+ghost use Rattle.plain_batches.specs.declared.error.PackError.TheVariants.{NoMemory};
+
+use std::alloc::AllocError;
+use thiserror::Error;
+
+/// Why a plain CSV is no batch. The first that applies is told, in this order, `NoMemory` aside; `MissingColumn` and
+/// `RepeatedColumn` are of the first column that the header doesn't name once, and `WrongWidth` comes first where the row is one of
+/// the first [`MAX_ROWS`](grouping_model::limits::MAX_ROWS). Columns of the schema, places in the header and rows are counted from
+/// 0, and the header is no row.
+#[derive(Clone, Copy, Debug, PartialEq, Eq, Error)]
+pub enum PackError {
+    /// An allocation failed.
+    #[error("out of memory")]
+    NoMemory,
+    /// A header is wanted, and there is no record.
+    #[error("there is no header")]
+    NoHeader,
+    /// The header names a column that the schema doesn't have: the first of these.
+    #[error("the schema has no column of the name in place {place} of the header, the first being 0")]
+    UnknownColumn { place: usize },
+    /// The header doesn't name this column of the schema.
+    #[error("the header lacks column {column}, the first being 0")]
+    MissingColumn { column: usize },
+    /// The header names this column of the schema more than once.
+    #[error("the header has column {column} more than once, the first being 0")]
+    RepeatedColumn { column: usize },
+    /// A row has more or fewer fields than the header has names, or the schema columns.
+    #[error("row {row} has more or fewer fields than there are columns, the first being row 0")]
+    WrongWidth { row: usize },
+    /// There are more rows than a batch may have.
+    #[error("more rows than a batch may have")]
+    TooManyRows,
+    /// The batch file would be longer than one may be.
+    #[error("the batch file would be too long")]
+    TooLong,
+    /// A row's field stands for no value of its column.
+    #[error("in row {row} a field stands for no value of column {column}, both counted from 0")]
+    BadField { row: usize, column: usize },
+}
+
+impl From<AllocError> for PackError {
+    ghost from_gives = { λ _ e. e ≡ NoMemory };
+
+    fn from(_error: AllocError) -> PackError {
+        PackError::NoMemory
+    }
+}

@@ -1,0 +1,16 @@
+//! Batch files from plain CSV: records that have no head of a batch, whose columns a header may name in any order.
+#![tactic(auto)]
+
+mod batch;
+mod columns;
+mod error;
+mod laws;
+mod layout;
+mod lines;
+mod records;
+mod rows;
+
+pub use batch::pack_batch;
+pub use error::PackError;
+pub use laws::packed_batches_are_read;
+pub use layout::Layout;

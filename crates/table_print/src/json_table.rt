@@ -1,0 +1,211 @@
+//! Answers as objects of JSON, one on each line.
+
+ghost use Rattle.std.specs.Prelude.{All, ◌≡◌, ◌+◌, ◌<◌, ◌++◌, ◌∷◌, ◌==◌, [], length, flat_map, codes, decimal, take, slice_index_or};
+ghost use Rattle.std.specs.Prelude.{if◌then◌else◌, IfOk, OnOk};
+ghost use Rattle.std.specs.List.{list_any};
+ghost use Rattle.std.specs.Str.{bytes_eq};
+ghost use Rattle.agg_protocol.specs.Results.{outcome_of};
+ghost use Rattle.packed_rows.specs.View.{bytes_of};
+ghost use Rattle.having_filter.specs.Meaning.{meaning};
+ghost use Rattle.having_filter.specs.Kept.{headers};
+ghost use Rattle.table_print.specs.Json.{json_byte, json_letter, json_member, json_names, json_row, json_string, json_text, json_value};
+ghost use Rattle.table_print.specs.Json.{escaped_as, name_of, plain_byte};
+
+use crate::cell::cell;
+use crate::pieces::{hex_digit, push_separator};
+use agg_protocol::ResultValue;
+use having_filter::{Answer, Query};
+use itoa::Buffer;
+use std::alloc::{AllocError, Global};
+
+/// What stands behind a backslash for a byte, where it can't stand for itself and has such a short form.
+fn json_letter(byte: u8) -> Option<u8>
+    ensures { result ≡ json_letter byte }
+{
+    match byte {
+        8 => Some(b'b'),
+        9 => Some(b't'),
+        10 => Some(b'n'),
+        12 => Some(b'f'),
+        13 => Some(b'r'),
+        34 => Some(b'"'),
+        92 => Some(b'\\'),
+        _ => None,
+    }
+}
+
+/// Appends a byte that has no short form.
+fn push_plain(out: &mut Vec<u8>, byte: u8) -> Result<(), AllocError>
+    ensures { OnOk result (out.new.items ≡ out.old.items ++ plain_byte byte) }
+{
+    if byte < b' ' {
+        out.extend_from_slice(&[
+            b'\\',
+            b'u',
+            b'0',
+            b'0',
+            hex_digit(byte / 16),
+            hex_digit(byte % 16),
+        ])?;
+    } else {
+        out.push(byte)?;
+    }
+    Ok(())
+}
+
+/// Appends a byte of a string.
+fn push_byte(out: &mut Vec<u8>, byte: u8) -> Result<(), AllocError>
+    ensures { OnOk result (out.new.items ≡ out.old.items ++ json_byte byte) }
+{
+    match json_letter(byte) {
+        Some(letter) => {
+            out.extend_from_slice(&[b'\\', letter])?;
+            Ok(())
+        }
+        None => push_plain(out, byte),
+    }
+}
+
+/// Appends the bytes of a string.
+fn push_bytes(out: &mut Vec<u8>, text: &[u8]) -> Result<(), AllocError>
+    ensures { OnOk result (out.new.items ≡ out.old.items ++ flat_map json_byte text.now) }
+{
+    for byte in text {
+        push_byte(out, *byte)?;
+    }
+    Ok(())
+}
+
+/// Appends a string.
+fn push_string(out: &mut Vec<u8>, text: &[u8]) -> Result<(), AllocError>
+    ensures { OnOk result (out.new.items ≡ out.old.items ++ json_string text.now) }
+{
+    out.push(b'"')?;
+    push_bytes(out, text)?;
+    out.push(b'"')?;
+    Ok(())
+}
+
+/// Appends a value.
+fn push_value(out: &mut Vec<u8>, value: ResultValue<'_>) -> Result<(), AllocError>
+    ensures { OnOk result (out.new.items ≡ out.old.items ++ json_value (outcome_of value.entry)) }
+{
+    match value {
+        ResultValue::Null => out.extend_from_slice(b"null")?,
+        ResultValue::Boolean(true) => out.extend_from_slice(b"true")?,
+        ResultValue::Boolean(false) => out.extend_from_slice(b"false")?,
+        ResultValue::Text(text) => push_string(out, text.as_bytes())?,
+        number => out.extend_from_slice(cell(&mut Buffer::new(), number))?,
+    }
+    Ok(())
+}
+
+/// Whether an earlier item of a query has the same header.
+fn is_repeated(query: &Query, item: usize) -> bool
+    requires { item < length query.now.written.items }
+    ensures { result ≡ list_any (bytes_eq (slice_index_or (headers query.now) item [])) (take item (headers query.now)) }
+{
+    for earlier in 0..item {
+        if query.header(item) == query.header(earlier) {
+            return true;
+        }
+    }
+    false
+}
+
+/// Appends a dot and a place to a name that is met again.
+fn push_place(name: &mut Vec<u8>, repeated: bool, place: usize) -> Result<(), AllocError>
+    ensures { OnOk result (name.new.items
+        ≡ name.old.items ++ (if repeated then codes "." ++ decimal place else [])) }
+{
+    if repeated {
+        name.push(b'.')?;
+        name.extend_from_slice(Buffer::new().format(place).as_bytes())?;
+    }
+    Ok(())
+}
+
+/// The name of an item in an object, as a string. The item stands in this place of the query, the first being 1.
+fn name_of_item(
+    alloc: Global,
+    query: &Query,
+    item: usize,
+    place: usize,
+) -> Result<Vec<u8>, AllocError>
+    requires item { item < length query.now.written.items }
+    requires place { place ≡ item + 1 }
+    ensures { IfOk result (λ name. name.items
+        ≡ json_string (name_of (headers query.now) (item, slice_index_or (headers query.now) item []))) }
+{
+    let mut name = Vec::new(alloc);
+    name.extend_from_slice(query.header(item).as_bytes())?;
+    push_place(&mut name, is_repeated(query, item), place)?;
+    let mut text = Vec::new(alloc);
+    push_string(&mut text, &name)?;
+    Ok(text)
+}
+
+/// The names of all items.
+fn names_of(alloc: Global, query: &Query) -> Result<Vec<Vec<u8>>, AllocError>
+    ensures { IfOk result (λ names. bytes_of names.items ≡ json_names (headers query.now)) }
+{
+    let mut names = Vec::new(alloc);
+    for item in 0..query.items().len() {
+        let name = name_of_item(alloc, query, item, item + 1)?;
+        names.push(name)?;
+    }
+    Ok(names)
+}
+
+/// Appends a member of an object, the first being in place 0.
+fn push_member(
+    out: &mut Vec<u8>,
+    place: usize,
+    name: &[u8],
+    value: ResultValue<'_>,
+) -> Result<(), AllocError>
+    ensures { OnOk result (out.new.items ≡ out.old.items ++ (if place == 0 then [] else codes ",")
+        ++ json_member (name.now, outcome_of value.entry)) }
+{
+    push_separator(out, place, b",")?;
+    out.extend_from_slice(name)?;
+    out.push(b':')?;
+    push_value(out, value)
+}
+
+/// Appends the line of a row.
+fn push_row(
+    out: &mut Vec<u8>,
+    names: &[Vec<u8>],
+    answer: &Answer,
+    row: usize,
+) -> Result<(), AllocError>
+    requires in_range { row < length answer.now }
+    requires width { length names.now ≡ length (slice_index_or answer.now row []) }
+    ensures { OnOk result (out.new.items
+        ≡ out.old.items ++ json_row (bytes_of names.now) (slice_index_or answer.now row [])) }
+{
+    out.push(b'{')?;
+    for item in 0..names.len() {
+        push_member(out, item, &names[item], answer.value(row, item))?;
+    }
+    out.extend_from_slice(b"}\n")?;
+    Ok(())
+}
+
+/// The answer of a query as objects of JSON (RFC 8259): a line for each row, with a member for each item of the query, by its
+/// header. Each row of the answer has a value for each item of the query. Null, true and false are these words, texts are strings,
+/// and numbers stand in plain decimal, those past 2^53 too, which some readers round. An item whose header an earlier item has is
+/// named by it, a dot and its place, as `sum.3`, the first place being 1. Each line ends with a line feed, and has no other. The
+/// only error is a failed allocation.
+pub fn print_json(alloc: Global, query: &Query, answer: &Answer) -> Result<Vec<u8>, AllocError>
+    requires { All (λ row. length row ≡ length (meaning query.now).items) answer.now }
+    ensures { IfOk result (λ text. text.items ≡ json_text (headers query.now) answer.now) }
+{
+    let names = names_of(alloc, query)?;
+    let mut text = Vec::new(alloc);
+    for row in 0..answer.len() {
+        push_row(&mut text, &names, answer, row)?;
+    }
+    Ok(text)
+}

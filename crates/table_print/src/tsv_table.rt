@@ -1,0 +1,105 @@
+//! Tables whose values stand between tabs.
+
+ghost use Rattle.std.specs.Prelude.{All, ◌≡◌, ◌<◌, ◌++◌, ◌∷◌, [], length, flat_map, slice_index_or, IfOk, OnOk};
+ghost use Rattle.std.specs.List.{join_by};
+ghost use Rattle.agg_protocol.specs.Results.{outcome_of};
+ghost use Rattle.having_filter.specs.Meaning.{meaning};
+ghost use Rattle.having_filter.specs.Kept.{headers};
+ghost use Rattle.table_print.specs.Tsv.{behind_backslash, tsv_byte, tsv_cell, tsv_header, tsv_letter, tsv_row, tsv_text, tsv_value};
+
+use crate::cell::cell;
+use crate::pieces::push_separator;
+use agg_protocol::ResultValue;
+use having_filter::{Answer, Query};
+use itoa::Buffer;
+use std::alloc::{AllocError, Global};
+
+/// What stands behind a backslash for a byte, where it can't stand for itself.
+fn tsv_letter(byte: u8) -> Option<u8>
+    ensures { result ≡ tsv_letter byte }
+{
+    match byte {
+        8 => Some(b'b'),
+        9 => Some(b't'),
+        10 => Some(b'n'),
+        11 => Some(b'v'),
+        12 => Some(b'f'),
+        13 => Some(b'r'),
+        92 => Some(b'\\'),
+        _ => None,
+    }
+}
+
+/// Appends a byte of a value.
+fn push_byte(out: &mut Vec<u8>, byte: u8) -> Result<(), AllocError>
+    ensures { OnOk result (out.new.items ≡ out.old.items ++ tsv_byte byte) }
+{
+    match tsv_letter(byte) {
+        Some(letter) => out.extend_from_slice(&[b'\\', letter])?,
+        None => out.push(byte)?,
+    }
+    Ok(())
+}
+
+/// Appends a text as a value.
+fn push_value(out: &mut Vec<u8>, text: &[u8]) -> Result<(), AllocError>
+    ensures { OnOk result (out.new.items ≡ out.old.items ++ tsv_value text.now) }
+{
+    for byte in text {
+        push_byte(out, *byte)?;
+    }
+    Ok(())
+}
+
+/// Appends an item of a row.
+fn push_cell(out: &mut Vec<u8>, value: ResultValue<'_>) -> Result<(), AllocError>
+    ensures { OnOk result (out.new.items ≡ out.old.items ++ tsv_cell (outcome_of value.entry)) }
+{
+    if let ResultValue::Null = value {
+        out.extend_from_slice(b"\\N")?;
+        return Ok(());
+    }
+    push_value(out, cell(&mut Buffer::new(), value))
+}
+
+/// Appends the line of the headers.
+fn push_header(out: &mut Vec<u8>, query: &Query) -> Result<(), AllocError>
+    ensures { OnOk result (out.new.items ≡ out.old.items ++ tsv_header (headers query.now)) }
+{
+    for item in 0..query.items().len() {
+        push_separator(out, item, b"\t")?;
+        push_value(out, query.header(item).as_bytes())?;
+    }
+    out.push(b'\n')?;
+    Ok(())
+}
+
+/// Appends the line of a row.
+fn push_row(out: &mut Vec<u8>, answer: &Answer, row: usize) -> Result<(), AllocError>
+    requires { row < length answer.now }
+    ensures { OnOk result (out.new.items ≡ out.old.items ++ tsv_row (slice_index_or answer.now row [])) }
+{
+    for item in 0..answer.width(row) {
+        push_separator(out, item, b"\t")?;
+        push_cell(out, answer.value(row, item))?;
+    }
+    out.push(b'\n')?;
+    Ok(())
+}
+
+/// The answer of a query as a table in PostgreSQL's text format of COPY: a header, then a line for each row, values parted by
+/// tabs. Each row of the answer has a value for each item of the query. Null shows as `\N`, truth values as `t` and `f`, numbers
+/// in plain decimal. In texts a backspace, a tab, a line feed, a vertical tab, a form feed, a carriage return and a backslash show
+/// as `\b`, `\t`, `\n`, `\v`, `\f`, `\r` and `\\`. Each line ends with a line feed, and has no other. The only error is a failed
+/// allocation.
+pub fn print_tsv(alloc: Global, query: &Query, answer: &Answer) -> Result<Vec<u8>, AllocError>
+    requires { All (λ row. length row ≡ length (meaning query.now).items) answer.now }
+    ensures { IfOk result (λ text. text.items ≡ tsv_text (headers query.now) answer.now) }
+{
+    let mut text = Vec::new(alloc);
+    push_header(&mut text, query)?;
+    for row in 0..answer.len() {
+        push_row(&mut text, answer, row)?;
+    }
+    Ok(text)
+}
