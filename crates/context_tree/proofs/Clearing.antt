@@ -1,8 +1,8 @@
 -- Lists by slots, some of which are cleared.
-use Rattle.std.proofs.Common.{◌≡◌, ℕ, zero, suc, ◌+◌, ◌<◌, ◌⊎◌, inl, inr, Bool, true, false, List, [], ◌∷◌, Option, None, length, get_or}
+use Rattle.std.proofs.Common.{◌≡◌, ℕ, zero, suc, ◌+◌, ◌<◌, inl, inr, Bool, true, false, List, [], ◌∷◌, Option, None, length, get_or}
 use Rattle.std.proofs.Common.{cond, set, refl, sym, ap, ◌∙◌, arith, subst}
-use Rattle.std.specs.Prelude.{◌==◌, ◌||◌, is_some}
-use Rattle.std.proofs.lemmas.Bool.{cases_Bool, cases_eq, cases_lt, cond-true, cond-false, eq-eqb, ne_eqb, false≢true}
+use Rattle.std.specs.Prelude.{◌==◌, is_some}
+use Rattle.std.proofs.lemmas.Bool.{cases_eq, cases_lt, cond-true, cond-false, eq-eqb, ne_eqb, false≢true}
 use Rattle.std.proofs.lemmas.List.{get_or-set_same, get_or-set_other, length-set, get_or_past, ext_get_or}
 use Rattle.context_tree.proofs.Words.{is_below, is_under, cleared, IsForest, AreFree, Link}
 use Rattle.context_tree.specs.LinkFields.{AreFields}
@@ -10,7 +10,7 @@ use Rattle.context_tree.specs.declared.links.Links.TheInside.{Inside}
 use Rattle.chunk_layout.specs.declared.marks.BlockMarks.{BlockMarks}
 use Rattle.std.specs.List.{refill}
 use Rattle.context_tree.proofs.Slots.{refill-whole}
-use Rattle.context_tree.specs.Lemmas.Forest.{root-not-under, root-not-below, below-self, under-past, under-other, under-closed}
+use Rattle.context_tree.specs.Lemmas.Forest.{root-not-under, root-not-below, below-self, under-other, under-closed}
 use Rattle.context_tree.specs.Lemmas.Forest.{below-closed, forest-cleared}
 
 pub cond-same : {X : Type 0} (b : Bool) (x : X) → cond b x x ≡ x
@@ -66,59 +66,9 @@ free-emptied ls marks after slot are low long marked = record {
   long = λ k some less. omega (arith, long, are.long k some (omega (arith, less, length-set ls slot None)));
 }
 
--- the slots of the descendants of a context are marked, and then the marked slots are emptied
+-- what is cleared of the descendants of a context
 module _ (old : List (Option Link)) (forest : IsForest old) (above : ℕ) where
-  module _ (marks now : List Bool) (are : AreFree old marks) (long : length now ≡ length marks) (marked : (k : ℕ) → get_or now k false
-      ≡ (is_under old above k || get_or marks k false)) (ws : List (Option Link))
-      (same : length ws ≡ length old) (emptied : (k : ℕ) → get_or ws k None ≡ cond (get_or now k false) None (get_or old k None)) where
-    or-split : (a b : Bool) → (a || b) ≡ true → (a ≡ true) ⊎ (b ≡ true)
-    or-split true b e = inl refl
-    or-split false b e = inr e
-
-    or-true : (a b : Bool) → b ≡ true → (a || b) ≡ true
-    or-true true b e = refl
-    or-true false b e = e
-
-    -- where a slot was marked before, it was empty
-    emptied-by : (k : ℕ) (under was : Bool) → is_under old above k ≡ under → get_or marks k false ≡ was
-        → cond (under || was) None (get_or old k None) ≡ cond under None (get_or old k None)
-    emptied-by k true was is marked = refl
-    emptied-by k false true is marked = sym (are.free k marked).1
-    emptied-by k false false is marked = refl
-
-    emptied-is : (k : ℕ) → get_or ws k None ≡ cond (is_under old above k) None (get_or old k None)
-    emptied-is k =
-        emptied k ∙ ap (λ (b : Bool). cond b None (get_or old k None)) (marked k)
-        ∙ emptied-by k (is_under old above k) (get_or marks k false) refl refl
-
-    pub pruned : ws ≡ cleared (is_under old above) None 0 old
-    pruned = is-cleared (is_under old above) None old ws same emptied-is
-
-    there-low : (k : ℕ) → is_under old above k ≡ true → k < length old
-    there-low k under = elim (cases_lt k (length old)) [
-      | inl low ↦ low
-      | inr past ↦ absurd (false≢true (sym (under-past old forest above k past) ∙ under))
-    ]
-
-    pub free-pruned : AreFree ws now
-    free-pruned = record {
-      free = λ k is. (
-        elim (or-split (is_under old above k) (get_or marks k false) (sym (marked k) ∙ is)) [
-          | inl under ↦ let low = there-low k under in omega (arith, same, low)
-          | inr was ↦ let low = (are.free k was).0 in omega (arith, same, low)
-        ],
-        emptied k ∙ cond-true (get_or now k false) None (get_or old k None) is,
-      );
-      all = λ k low none. elim (cases_Bool (get_or now k false)) [
-        | inl is ↦ is
-        | inr not ↦
-            let gone : get_or old k None ≡ None = sym (emptied k ∙ cond-false (get_or now k false) None (get_or old k None) not) ∙ none in
-            marked k ∙ or-true (is_under old above k) (get_or marks k false) (are.all k (omega (arith, low, same)) gone)
-      ];
-      long = λ k some low. omega (arith, long, are.long k some (omega (arith, low, same)));
-    }
-
-  -- and that one too
+  -- where they are cleared, and then that one too
   pub cut-too : {X : Type 0} (x : X) (ys now : List X) → now ≡ cleared (is_under old above) x 0 ys → above < length ys → set now above x
       ≡ cleared (is_below old above) x 0 ys
   cut-too {X = X} x ys now is low =

@@ -1,41 +1,17 @@
 -- The neighbours of slots, and rings made of them.
-use Rattle.std.proofs.Common.{◌≡◌, ℕ, ◌<◌, ◌+◌, inl, inr, List, [], ◌∷◌, ◌++◌, length, get_or, cond, set, refl, sym, ap, ◌∙◌, subst, arith}
+use Rattle.std.proofs.Common.{◌≡◌, ℕ, ◌<◌, ◌+◌, List, [], ◌∷◌, ◌++◌, length, get_or, cond, refl, sym, ap, ◌∙◌, subst, arith}
 use Rattle.std.specs.Prelude.{◌==◌, false}
-use Rattle.std.proofs.lemmas.Bool.{cases_eq, cond-true, cond-false, eq-eqb, ne_eqb, false≢true}
-use Rattle.std.proofs.lemmas.List.{get_or-set_same, get_or-set_other, length-append, get_or_append_left}
+use Rattle.std.proofs.lemmas.List.{length-append, get_or_append_left}
 use Rattle.std.specs.List.{refill}
 use Rattle.context_tree.specs.Rings.{after_at, before_at, head_or, is_in, walk, IsRing}
 use Rattle.context_tree.specs.RingFields.{ring_of, AreFields}
 use Rattle.context_tree.specs.declared.ring.Near.{Near}
 use Rattle.context_tree.specs.declared.ring.Ring.TheInside.{Inside}
-use Rattle.context_tree.proofs.Rings.{walk-ring, ring-put, ring-cut, ring-same, in-rest}
+use Rattle.context_tree.proofs.Rings.{walk-ring, ring-put, ring-cut, ring-same}
 use Rattle.context_tree.proofs.Slots.{refill-whole}
 
 abbrev pub nowhere : Near
 nowhere = record { after = 0; before = 0 }
-
--- a field of one that is set
-pub set-field : (field : Near → ℕ) (near : List Near) (slot : ℕ) (it : Near) → slot < length near → (k : ℕ)
-    → field (get_or (set near slot it) k nowhere) ≡ cond (k == slot) (field it) (field (get_or near k nowhere))
-set-field field near slot it low k = elim (cases_eq k slot) [
-  | inl same ↦
-      ap (λ (j : ℕ). field (get_or (set near slot it) j nowhere)) same ∙ ap field (get_or-set_same near slot it nowhere low)
-      ∙ sym (cond-true (k == slot) (field it) (field (get_or near k nowhere)) (eq-eqb k slot same))
-  | inr ne ↦
-      ap field (get_or-set_other near slot k it nowhere ne)
-      ∙ sym (cond-false (k == slot) (field it) (field (get_or near k nowhere)) (ne_eqb k slot ne))
-]
-
--- a field that stays as it was
-pub set-same : (field : Near → ℕ) (near : List Near) (slot : ℕ) (it : Near) → slot < length near
-    → field it ≡ field (get_or near slot nowhere) → (k : ℕ)
-    → field (get_or (set near slot it) k nowhere) ≡ field (get_or near k nowhere)
-set-same field near slot it low is k = elim (cases_eq k slot) [
-  | inl same ↦
-      ap (λ (j : ℕ). field (get_or (set near slot it) j nowhere)) same ∙ ap field (get_or-set_same near slot it nowhere low) ∙ is
-      ∙ ap (λ (j : ℕ). field (get_or near j nowhere)) (sym same)
-  | inr ne ↦ ap field (get_or-set_other near slot k it nowhere ne)
-]
 
 -- the fields of a ring whose neighbours were written over
 module _ (x : Inside) (d ws : List Near) (same : d ≡ x.near.items) (long : length ws ≡ length d) (slots : List ℕ)
@@ -55,10 +31,6 @@ module _ (x : Inside) (d ws : List Near) (same : d ≡ x.near.items) (long : len
   pub slots-written : (ring_of (record { near = record { items = refill (length near) near ws; capacity = x.near.capacity } })).slots
       ≡ slots
   slots-written = ap (λ (l : List Near). walk (length l) (after_at l) 0) whole ∙ walked
-
-  pub room-written : (ring_of (record { near = record { items = refill (length near) near ws; capacity = x.near.capacity } })).room
-      ≡ length near
-  room-written = ap length whole ∙ long ∙ ap length same
 
   pub fields-written : AreFields (record { near = record { items = refill (length near) near ws; capacity = x.near.capacity } })
   fields-written = subst (λ (l : List Near). IsRing (length l) (after_at l) (before_at l) (walk (length l) (after_at l) 0)) (sym whole)
@@ -111,19 +83,3 @@ module _ (x : Inside) (are : AreFields x) (items : List Near) (is : items ≡ x.
 
   pub fields-roomy : IsRing (length items) (after_at items) (before_at items) (walk (length items) (after_at items) 0)
   fields-roomy = subst (IsRing (length items) (after_at items) (before_at items)) (sym slots-roomy) ring-roomy
-
--- the ring of the root alone
-pub ring-alone : IsRing 1 (after_at (nowhere ∷ [])) (before_at (nowhere ∷ [])) (0 ∷ [])
-ring-alone = record {
-  first = refl;
-  led = (refl, tt);
-  apart = (refl, tt);
-  low = λ k is. elim (cases_eq k 0) [
-    | inl same ↦ omega (arith, same)
-    | inr ne ↦ absurd (false≢true (sym (in-rest k 0 [] ne) ∙ is))
-  ];
-  back = λ k is. elim (cases_eq k 0) [
-    | inl same ↦ ap (λ (j : ℕ). before_at (nowhere ∷ []) (after_at (nowhere ∷ []) j)) same ∙ sym same
-    | inr ne ↦ absurd (false≢true (sym (in-rest k 0 [] ne) ∙ is))
-  ];
-}

@@ -51,6 +51,14 @@ module _ (ls : List (Option Link)) where
   later-left bound (x ∷ xs) ys left right = (left.0, later-left bound xs ys left.1 right)
 
 -- the links change, but not those of slots that stand in preorder; nor does what is seen by their stamps
+pub seen-kept : (ls now : List (Option Link)) (t : ℕ) (xs seen : List ℕ)
+    → ((k : ℕ) → is_in k xs ≡ true → get_or now k None ≡ get_or ls k None) → nearest now t seen ≡ nearest ls t seen
+    → nearest now t (pushed xs seen) ≡ nearest ls t (pushed xs seen)
+seen-kept ls now t [] seen same agree = agree
+seen-kept ls now t (x ∷ xs) seen same agree =
+    let here : stamp_in now x ≡ stamp_in ls x = ap stamp_of (same x (in-here x x xs refl)) in
+    seen-kept ls now t xs (x ∷ seen) (λ k is. same k (in-later k x xs is)) (λ i. cond (nat_lt (here i) t) (Some x) (agree i))
+
 module _ (ls now : List (Option Link)) (Seen : ℕ → Type 0) where
   pub preorder-kept : (ys seen seen2 : List ℕ) → ((k : ℕ) → is_in k ys ≡ true → get_or now k None ≡ get_or ls k None)
       → ((k : ℕ) → is_in k ys ≡ true → Seen (stamp_in ls k))
@@ -266,15 +274,6 @@ module _ (ls : List (Option Link)) (bound : ℕ) (slots front mid rest : List �
   pre-rest : IsPreorder ls (pushed mid (pushed front [])) rest
   pre-rest = preorder-right ls mid rest (pushed front []) (preorder-right ls front (mid ++ rest) [] was)
 
-  -- what is seen of those in front is what was seen
-  seen-same : (t : ℕ) (xs seen : List ℕ) → ((k : ℕ) → is_in k xs ≡ true → get_or emptied k None ≡ get_or ls k None)
-      → nearest emptied t seen ≡ nearest ls t seen
-      → nearest emptied t (pushed xs seen) ≡ nearest ls t (pushed xs seen)
-  seen-same t [] seen same agree = agree
-  seen-same t (x ∷ xs) seen same agree =
-      let here : stamp_in emptied x ≡ stamp_in ls x = ap stamp_of (same x (in-here x x xs refl)) in
-      seen-same t xs (x ∷ seen) (λ k in2. same k (in-later k x xs in2)) (λ i. cond (nat_lt (here i) t) (Some x) (agree i))
-
   rest-kept : (ys : List ℕ) → Ends ls bound ys → ((k : ℕ) → is_in k ys ≡ true → get_or emptied k None ≡ get_or ls k None)
       → IsPreorder ls (pushed mid (pushed front [])) ys → IsPreorder emptied (pushed front []) ys
   rest-kept [] end same pre = tt
@@ -282,7 +281,7 @@ module _ (ls : List (Option Link)) (bound : ℕ) (slots front mid rest : List �
       let here : get_or emptied y None ≡ get_or ls y None = same y (in-here y y ys refl) in
       let stamp : stamp_in emptied y ≡ stamp_in ls y = ap stamp_of here in
       let fronts : (t : ℕ) → t ≤ bound → nearest emptied t (pushed front []) ≡ nearest ls t (pushed mid (pushed front [])) =
-      λ t less. seen-same t front [] front-stays refl ∙ sym (skip t less) in (
+      λ t less. seen-kept ls emptied t front [] front-stays refl ∙ sym (skip t less) in (
         ap parent_of here ∙ pre.0 ∙ sym (fronts (stamp_in ls y) end) ∙ ap (λ (t : ℕ). nearest emptied t (pushed front [])) (sym stamp),
         preorder-kept ls emptied (λ t. Unit {0}) ys (y ∷ pushed mid (pushed front [])) (y ∷ pushed front [])
             (λ k in2. same k (in-later k y ys in2)) (λ k in2. tt)
@@ -371,14 +370,6 @@ module _ (ls : List (Option Link)) (slots front : List ℕ) (p : ℕ) (rest : Li
   stamp-s : stamp_in made s ≡ stamp
   stamp-s = ap stamp_of made-here
 
-  front-seen : (t : ℕ) (xs seen : List ℕ) → ((k : ℕ) → is_in k xs ≡ true → get_or made k None ≡ get_or ls k None)
-      → nearest made t seen ≡ nearest ls t seen
-      → nearest made t (pushed xs seen) ≡ nearest ls t (pushed xs seen)
-  front-seen t [] seen same agree = agree
-  front-seen t (x ∷ xs) seen same agree =
-      let here : stamp_in made x ≡ stamp_in ls x = ap stamp_of (same x (in-here x x xs refl)) in
-      front-seen t xs (x ∷ seen) (λ k in2. same k (in-later k x xs in2)) (λ i. cond (nat_lt (here i) t) (Some x) (agree i))
-
   pub ordered-made : IsOrdered (placed ls s (Some link)) (front ++ p ∷ s ∷ rest)
   ordered-made = record {
     apart = apart-whole front (p ∷ s ∷ rest) was-apart.left (in-rest p s rest p-not-s ∙ was-apart.right.0, rest-apart) none;
@@ -393,7 +384,7 @@ module _ (ls : List (Option Link)) (slots front : List ℕ) (p : ℕ) (rest : Li
   }
     where
       fronts : (t : ℕ) → nearest made t (pushed front []) ≡ nearest ls t (pushed front [])
-      fronts t = front-seen t front [] (λ k here. kept k (in-left k front (p ∷ rest) here)) refl
+      fronts t = seen-kept ls made t front [] (λ k here. kept k (in-left k front (p ∷ rest) here)) refl
 
       p-seen : (t : ℕ) → nearest made t (p ∷ pushed front []) ≡ nearest ls t (p ∷ pushed front [])
       p-seen t = λ i. cond (nat_lt (stamp-p i) t) (Some p) (fronts t i)

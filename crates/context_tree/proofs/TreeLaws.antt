@@ -1,11 +1,11 @@
 -- What is true of the fields of a tree stays true.
-use Rattle.std.proofs.Common.{◌≡◌, ℕ, zero, suc, ◌+◌, ◌<◌, ◌≤◌, inl, inr, Bool, true, false, List, [], ◌∷◌, Option, Some, None, length}
-use Rattle.std.proofs.Common.{get_or, cond, set, drop, refl, sym, ap, ◌∙◌, subst, arith}
+use Rattle.std.proofs.Common.{◌≡◌, ℕ, ◌+◌, ◌<◌, ◌≤◌, inl, inr, Bool, true, false, List, Option, Some, None, length}
+use Rattle.std.proofs.Common.{get_or, cond, set, refl, sym, ap, ◌∙◌, subst, arith}
 use Rattle.std.specs.Prelude.{is_some, unwrap_or, Result, Ok, Err, IsErrAnd, IfErr, IsTrue}
 use Rattle.std.proofs.lemmas.Bool.{cases_Bool, cases_eq, cond-true, cond-false, false≢true}
 use Rattle.chunk_contexts.specs.declared.error.ContextError.{ContextError}
-use Rattle.context_tree.proofs.Words.{no_context, new_context, held_by, stamp_of, is_below, cleared, placed, TreeState, Stamped, Emptied}
-use Rattle.context_tree.proofs.Words.{IsRefusedBy, IsNotMade, has_stamp, is_there, context_at, with_context, without_slots, held_from}
+use Rattle.context_tree.proofs.Words.{no_context, new_context, held_by, stamp_of, cleared, placed, TreeState, Stamped, Emptied}
+use Rattle.context_tree.proofs.Words.{IsRefusedBy, IsNotMade, has_stamp, is_there, context_at, with_context, without_slots}
 use Rattle.context_tree.proofs.Words.{held_by_all, IsBounded, Context, Link}
 use Rattle.std.specs.List.{refill}
 use Rattle.context_tree.specs.Calls.{OnContext, Writes, written}
@@ -70,18 +70,6 @@ module _ (ls : List (Option Link)) (cs : List Context) (last slot : ℕ) (low : 
 
   pub long-made : length (placed cs slot c) ≡ length (placed ls slot (Some link))
   long-made = length-placed cs ls slot c (Some link) long
-
--- the sum from one slot on
-pub held-step : (ls : List (Option Link)) (above : ℕ) (cs : List Context) (slot first : ℕ) → slot < length cs
-    → held_from ls above first (drop slot cs) ≡ cond (is_below ls above first) (held_by (get_or cs slot no_context)) 0
-    + held_from ls above (first + 1) (drop (slot + 1) cs)
-held-step ls above [] slot first low = absurd (omega (arith, low))
-held-step ls above (c ∷ cs) zero first low = refl
-held-step ls above (c ∷ cs) (suc slot) first low =
-    let next : suc (slot + 1) ≡ suc slot + 1 = omega arith in
-    held-step ls above cs slot first (omega (arith, low))
-    ∙ ap (λ (n : ℕ). cond (is_below ls above first) (held_by (get_or cs slot no_context)) 0
-    + held_from ls above (first + 1) (drop n (c ∷ cs))) next
 
 -- an id that is there is of a slot of the list
 pub there-some : (link : Option Link) (stamp : ℕ) → has_stamp link stamp ≡ true → is_some link ≡ true

@@ -6,6 +6,7 @@ use Rattle.context_tree.specs.Links.{parent_of, stamp_of}
 use Rattle.context_tree.specs.Rings.{head_or, is_in, AreApart}
 use Rattle.context_tree.specs.declared.links.Link.{Link}
 
+-- the stamp of the context in a slot
 abbrev pub stamp_in : List (Option Link) → ℕ → ℕ
 stamp_in ls slot = stamp_of (get_or ls slot None)
 
@@ -14,8 +15,8 @@ abbrev pub nearest : List (Option Link) → ℕ → List ℕ → Option ℕ
 nearest ls stamp [] = None
 nearest ls stamp (slot ∷ slots) = cond (nat_lt (stamp_in ls slot) stamp) (Some slot) (nearest ls stamp slots)
 
--- after those seen, the last of them first, slots follow in preorder: below each context stands the one that was made below it.
--- So the parent of a context is the nearest before it that is older
+-- after those seen, the last of them first, slots follow in preorder: the parent of each context is the nearest one before it that
+-- is older
 abbrev pub IsPreorder : List (Option Link) → List ℕ → List ℕ → Type 0
 IsPreorder ls seen [] = Unit {0}
 IsPreorder ls seen (slot ∷ slots) = (parent_of (get_or ls slot None) ≡ nearest ls (stamp_in ls slot) seen)
@@ -36,7 +37,7 @@ abbrev pub Ends : List (Option Link) → ℕ → List ℕ → Type 0
 Ends ls stamp [] = Unit {0}
 Ends ls stamp (slot ∷ slots) = stamp_in ls slot ≤ stamp
 
--- how far one is, who goes on from a context over slots with later stamps: those that are done, and the rest, which begins here
+-- a walk from a context over what follows with later stamps: those that are done, and the rest, which begins here
 pub record Walk (ls : List (Option Link)) (slots : List ℕ) (above at : ℕ) : Type 0 where
   pub front : List ℕ
   pub done : List ℕ
@@ -45,7 +46,7 @@ pub record Walk (ls : List (Option Link)) (slots : List ℕ) (above at : ℕ) : 
   pub here : at ≡ head_or rest 0
   pub later : AreLater ls (stamp_in ls above) done
 
--- one is past the last of them
+-- a walk that is past the last of them
 pub record IsPast (ls : List (Option Link)) (slots : List ℕ) (above at : ℕ) : Type 0 where
   pub walk : Walk ls slots above at
   pub ends : Ends ls (stamp_in ls above) walk.rest
