@@ -108,7 +108,8 @@ static int feeding(void) {
     CHECK(delivered.kind == 9 && delivered.upto == 9);
     CALL(AGG_DONE, agg_reason(&one, &place, &wanted));
     CHECK(place.kind == AGG_PLACE_FIELD && place.first == 1 && place.second == 1);
-    CHECK(told(&one, "line 3, column d bigint: 'x': a bigint is an optional + or - and digits"));
+    /* It is a short one where there was no memory for it. */
+    CHECK(refused || told(&one, "line 3, column d bigint: 'x': a bigint is an optional + or - and digits"));
     CALL(AGG_BAD_BATCH_HEAD, agg_feed(&one, TEXT(""), &delivered));
     CALL(AGG_ROW_COUNT, agg_feed(&one, TEXT("batch,3,1,2\noslo,5\n"), &delivered));
     CALL(AGG_WRONG_WIDTH, agg_feed(&one, TEXT("batch,3,1,1\noslo,5,6\n"), &delivered));
@@ -129,7 +130,7 @@ static int feeding(void) {
     CALL(AGG_ROW_COUNT, agg_feed_rows(&one, 1, 1, 2, TEXT("a,1\n"), &delivered));
     CALL(AGG_BAD_FIELD, agg_feed_rows(&one, 1, 1, 1, TEXT("a,\n"), &delivered));
     CALL(AGG_DONE, agg_reason(&one, &place, &wanted));
-    CHECK(begins(&one, "line 2, column d bigint: "));
+    CHECK(refused || begins(&one, "line 2, column d bigint: "));
     CALL(AGG_DONE, agg_known(&one, &wanted));
     CHECK(told(&one, "origin 3 upto 1 early 3\n"));
     CALL(AGG_DONE, agg_feed_rows(&one, 3, 2, 2, TEXT("\\N,4\n\"a,b\",\\N\n"), &delivered));

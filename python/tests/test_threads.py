@@ -84,7 +84,7 @@ class Threads(unittest.TestCase):
         for into, source in ((one, other), (other, one)):
             ended, thread = [], threading.Thread(target=lambda: [into.merge(source) for _ in range(10)])
             thread.start()
-            while thread.is_alive():
+            while thread.is_alive() or not ended:
                 ended.append((len(into.known()), len(source.known())))
             thread.join()
             self.assertEqual(set(ended), {(1, 1)})
