@@ -1,11 +1,16 @@
 -- Files that are taken one after the other.
-use Rattle.std.specs.Prelude.{◌≡◌, refl, ℕ, Bool, List, [], ◌∷◌, ◌++◌, Option, Result}
+use Rattle.std.specs.Prelude.{◌≡◌, refl, ℕ, Bool, List, [], ◌∷◌, ◌++◌, Option, Result, Err}
 use Rattle.std.proofs.Common.{sym, subst}
 use Rattle.replica_merge.specs.Replicas.{Held}
 use Rattle.replies.specs.declared.refusal.Refusal.{Refusal}
 use Rattle.replies.specs.declared.reply.Reply.{Reply}
 use Rattle.file_sentences.specs.declared.reasons.FileKind.{FileKind}
-use Rattle.command_files.specs.Taking.{TakesFile, TakesAll}
+use Rattle.command_files.specs.Taking.{Takes, TakesFile, TakesAll}
+
+-- a refusal that is told as it was
+pub told_as : (kind : FileKind) (honest : Bool) (file : List ℕ) (old new : Held) (why told : Refusal) → told ≡ why
+    → Takes kind honest file old new (Err why) → Takes kind honest file old new (Err told)
+told_as kind honest file old new why told same takes = subst (λ w. Takes kind honest file old new (Err w)) (sym same) takes
 
 -- one file more
 pub takes_more : (kind : FileKind) (files : List (Option (List ℕ))) (honest : Bool) (file : Option (List ℕ)) (old held new : Held)

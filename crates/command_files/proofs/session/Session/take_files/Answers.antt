@@ -14,10 +14,10 @@ loop-path-preserved g c =
     let many = c.loop-path.invariant.many in
     let low = c.loop-path-test.true in
     record {
-      files = files ++ one.1.0 ∷ [];
-      many = let both = length-append files (one.1.0 ∷ []) in omega (arith, both, many);
+      files = files ++ one.1 ∷ [];
+      many = let both = length-append files (one.1 ∷ []) in omega (arith, both, many);
       within = omega (arith, low);
-      taken = takes_more c.args.kind files one.0 one.1.0 _ _ _ _ c.loop-path.invariant.taken one.1.1;
+      taken = takes_more c.args.kind files one.0 one.1 _ _ _ _ c.loop-path.invariant.taken one.2;
     }
 
 pub returns : goal.returns
