@@ -1,92 +1,70 @@
 #!/usr/bin/env python3
-"""One answer by Dask's distributed scheduler, and the bytes of one process.
+"""One answer by Dask's distributed scheduler and the package agg, and the bytes of one process.
 
     examples/dask/tree.py                 runs by 1, 2 and 4 workers, one with a worker killed, one with each share twice
     examples/dask/tree.py --rows 1000     smaller batches; 16,384 rows where none are said
-    PROGRAM=/usr/bin/agg_tool examples/dask/tree.py    by an installed program, else by a proved build (bin/agg_tool)
+    AGG_LIBRARY=FOLDER/libagg.so.1 examples/dask/tree.py    by the package in python/ over that library, else by the one installed
+    PROGRAM=/usr/bin/agg_tool examples/dask/tree.py         the one process is agg_tool, else it is one of the package's
 
 It makes batch files of 16 origins, 4 each, and has one process feed them all. Then a scheduler and workers are started as processes of
 their own, which speak over the loopback address alone. Each share, the batches of an origin, is fed by a task, and the summaries are
-merged two by two by tasks above. What is left at the end is compared, byte for byte, with the summary of the one process.
+merged two by two by tasks above (agg.dask.summarize). What is left at the end is compared, byte for byte, with the summary of the one.
 
-Needs Python 3.8 and Dask's distributed: on Debian python3-distributed, which is for /usr/bin/python3. All files lie in a new folder, which
-is removed. Standard output has a line for each run; on standard error Dask may say that it lost a worker, which it did, or that closing took
-long. The status is 0 where all bytes are equal, and 1 else.
+Needs Python 3.9 and Dask's distributed: on Debian python3-distributed, which is for /usr/bin/python3. All files lie in a new folder,
+which is removed. Standard output has a line for each run; on standard error Dask may say that it lost a worker, which it did, or that
+closing took long. The status is 0 where all bytes are equal, and 1 else.
 """
 
 import argparse
 import contextlib
 import os
-import shutil
 import subprocess
 import sys
 import tempfile
+import threading
 import time
 import uuid
 from pathlib import Path
 
+PACKAGE = Path(__file__).resolve().parent.parent.parent / "python"
+if "AGG_LIBRARY" in os.environ:
+    # For the workers, too.
+    os.environ["PYTHONPATH"] = os.pathsep.join(filter(None, [str(PACKAGE), os.environ.get("PYTHONPATH")]))
+    sys.path.insert(0, str(PACKAGE))
 try:
-    from dask.distributed import Client, wait
+    from dask.distributed import Client
 except ImportError:
     sys.exit("tree.py: Dask's distributed is not installed for this Python: on Debian python3-distributed, run by /usr/bin/python3")
+try:
+    import agg.dask
+except ImportError as why:
+    sys.exit(f"tree.py: {why}: install the wheel (python/README.md), or name a library by AGG_LIBRARY")
 
-ROOT = Path(__file__).resolve().parent.parent.parent
 ORIGINS = 16
 BATCHES = 4
 CITIES = 1_000
+COLUMNS = "city text, amount bigint"
 QUERY = "SELECT city, count(*), sum(amount), min(amount) FROM batches GROUP BY city"
 
 
-def run(program, *words):
-    """Runs a command of the program, which must end with status 0."""
-    ended = subprocess.run([program, *words], stdout=subprocess.PIPE, stderr=subprocess.PIPE, text=True)
-    if ended.returncode != 0:
-        raise RuntimeError(f"{program} {' '.join(map(str, words))}: status {ended.returncode}: {ended.stderr}")
-
-
-# The tasks. Each works in a folder of its own, under the one of the whole, takes summaries as bytes and answers one as bytes. So it can run
-# anywhere, at any time and as often as the scheduler likes: what another run of it left is not looked at.
-
-
-def in_own_folder(work, command):
-    """What a command leaves as OUT in a new folder, of whose run a note is kept."""
+def noted(work, function, *arguments):
+    """A task that leaves a note of its run."""
     (work / "runs" / uuid.uuid4().hex).touch()
-    with tempfile.TemporaryDirectory(dir=work) as folder:
-        out = Path(folder) / "out.sum"
-        command(Path(folder), out)
-        return out.read_bytes()
+    return function(*arguments)
 
 
-def feed(program, work, empty, batches):
-    """The summary of a share."""
+class Noting:
+    """A client whose tasks leave notes, and which knows its tasks."""
 
-    def command(folder, out):
-        (folder / "empty.sum").write_bytes(empty)
-        run(program, "feed", out, folder / "empty.sum", *batches)
+    def __init__(self, client, work):
+        self.client, self.work, self.shares, self.tasks = client, work, [], 0
 
-    return in_own_folder(work, command)
-
-
-def merge(program, work, one, other):
-    """The summary of two."""
-
-    def command(folder, out):
-        (folder / "one.sum").write_bytes(one)
-        (folder / "other.sum").write_bytes(other)
-        run(program, "merge", out, folder / "one.sum", folder / "other.sum")
-
-    return in_own_folder(work, command)
-
-
-def merge_tree(client, program, work, summaries):
-    """The one summary in which a tree of tasks ends, and all tasks of the tree."""
-    tasks = []
-    while len(summaries) > 1:
-        pairs = zip(summaries[::2], summaries[1::2])
-        merged = [client.submit(merge, program, work, one, other, pure=False) for one, other in pairs]
-        tasks += merged
-        summaries = merged + summaries[len(merged) * 2 :]
-    return summaries[0], tasks
+    def submit(self, function, *arguments, **more):
+        task = self.client.submit(noted, self.work, function, *arguments, **more)
+        self.tasks += 1
+        if function is agg.dask.feed_share:
+            self.shares.append(task)
+        return task
 
 
 # The processes. Without a nanny a worker that was killed is not started again, so that others take its tasks.
@@ -124,7 +102,7 @@ def cluster(work, workers):
 def kill_one(client, processes, shares):
     """Kills the first worker that is seen to hold the summary of a share, which is lost with it."""
     while True:
-        held = client.who_has(shares)
+        held = client.who_has(list(shares))
         names = {worker["id"]: address for address, worker in client.scheduler_info()["workers"].items()}
         for number, process in enumerate(processes):
             address = names.get(number, names.get(str(number)))
@@ -134,33 +112,25 @@ def kill_one(client, processes, shares):
         time.sleep(0.01)
 
 
-def timed(work, program, empty, shares, workers, again=1, kill=False):
+def timed(work, shares, workers, again=1, kill=False):
     """Has workers make the summary of all shares, each given so often. Answers it, the seconds, the number of tasks and that of runs."""
     for note in (work / "runs").iterdir():
         note.unlink()
+    paths = [path for _ in range(again) for share in shares for path in share]
     with cluster(work, workers) as (client, processes):
+        noting = Noting(client, work)
+        killer = threading.Thread(target=kill_one, args=(client, processes, noting.shares))
         since = time.monotonic()
-        fed = [client.submit(feed, program, work, empty, share, pure=False) for _ in range(again) for share in shares]
-        result, merged = merge_tree(client, program, work, fed)
         if kill:
-            kill_one(client, processes, fed)
-        summary = result.result()
+            killer.start()
+        summary = bytes(agg.dask.summarize(noting, paths, columns=COLUMNS, query=QUERY, shares=ORIGINS * again))
         seconds = time.monotonic() - since
-        wait(fed + merged)
-        return summary, seconds, len(fed + merged), len(list((work / "runs").iterdir()))
+        if kill:
+            killer.join()
+        return summary, seconds, noting.tasks, len(list((work / "runs").iterdir()))
 
 
 # The example.
-
-
-def find_program():
-    """The program that is named, or a proved build, which is made first where there is none."""
-    named = os.environ.get("PROGRAM")
-    if named:
-        found = shutil.which(named) or sys.exit(f"tree.py: no program {named}")
-        return str(Path(found).resolve())
-    subprocess.run([ROOT / "bin" / "agg_tool", "--version"], env={**os.environ, "AGG_TOOL": "proved"}, check=True)
-    return str(ROOT / "crates" / "agg_tool" / "out" / "agg_tool")
 
 
 def make_batches(work, rows):
@@ -181,15 +151,24 @@ def make_batches(work, rows):
     return shares
 
 
-def compare(work, program, rows):
+def of_one_process(work, paths):
+    """The summary that one process makes of all, and its name."""
+    program = os.environ.get("PROGRAM")
+    if not program:
+        return agg.dask.feed_share(COLUMNS, QUERY, agg.USUAL_LIMIT, paths), "the package"
+    for words in (["new", "empty.sum", "--columns", COLUMNS, "--query", QUERY], ["feed", "one.sum", "empty.sum", *paths]):
+        ended = subprocess.run([program, *words], cwd=work, stdout=subprocess.PIPE, stderr=subprocess.PIPE, text=True)
+        if ended.returncode != 0:
+            raise RuntimeError(f"{program} {words[0]}: status {ended.returncode}: {ended.stderr}")
+    return (work / "one.sum").read_bytes(), "agg_tool"
+
+
+def compare(work, rows):
     """Whether all ways give the same bytes."""
     shares = make_batches(work, rows)
-    run(program, "new", work / "empty.sum", "--columns", "city text, amount bigint", "--query", QUERY)
-    empty = (work / "empty.sum").read_bytes()
     since = time.monotonic()
-    run(program, "feed", work / "one.sum", work / "empty.sum", *(path for share in shares for path in share))
-    print(f"one process: {time.monotonic() - since:.2f} s for {ORIGINS * BATCHES * rows} rows")
-    wanted = (work / "one.sum").read_bytes()
+    wanted, name = of_one_process(work, [str(path) for share in shares for path in share])
+    print(f"one process, {name}: {time.monotonic() - since:.2f} s for {ORIGINS * BATCHES * rows} rows")
     ways = [
         ("1 worker", {"workers": 1}),
         ("2 workers", {"workers": 2}),
@@ -199,7 +178,7 @@ def compare(work, program, rows):
     ]
     all_equal = True
     for name, way in ways:
-        summary, seconds, tasks, runs = timed(work, program, empty, shares, **way)
+        summary, seconds, tasks, runs = timed(work, shares, **way)
         equal = summary == wanted
         all_equal = all_equal and equal
         print(f"{name}: {seconds:.2f} s, {tasks} tasks, {runs} runs, {'the same bytes' if equal else 'OTHER BYTES'}", flush=True)
@@ -213,7 +192,7 @@ def main():
     with tempfile.TemporaryDirectory() as folder:
         work = Path(folder)
         (work / "runs").mkdir()
-        return 0 if compare(work, find_program(), told.rows) else 1
+        return 0 if compare(work, told.rows) else 1
 
 
 if __name__ == "__main__":

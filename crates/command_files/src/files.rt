@@ -1,12 +1,19 @@
 //! The files that a command reads and writes.
 
+ghost use Rattle.std.specs.Prelude.{IfErr};
+ghost use Rattle.command_files.specs.Taking.{IsUnread};
+
 use clap::ArgMatches;
 use command_replicas::SummaryFile;
 use command_streams::Problem;
 use command_words::Subcommand;
-use file_sentences::length_reason;
+use file_sentences::{FRONT_BYTES, FrontKind, length_reason, replaced_reason};
+use out_files::{
+    Occupant, Place, Unwritten, front_of, occupant_of, try_place, try_reading, write_file,
+    write_new_file,
+};
 use replies::{Refusal, RunError};
-use script_io::{Occupant, Unread, occupant_of, read_file, write_file, write_new_file};
+use script_io::{Unread, read_file};
 use std::io;
 use std::io::ErrorKind;
 use std::rt::Files;
@@ -15,7 +22,9 @@ use std::rt::Files;
 pub(crate) fn read<'p, R: Files + AllocGlobal>(
     rt: &R,
     path: &'p str,
-) -> Result<Vec<u8>, Problem<'p>> {
+) -> Result<Vec<u8>, Problem<'p>>
+    ensures { IfErr result (λ problem. IsUnread problem.why) }
+{
     match read_file(rt, path) {
         Ok(bytes) => Ok(bytes),
         Err(Unread::NoMemory) => Err(Problem::refused(path, Refusal::NoMemory)),
@@ -53,22 +62,68 @@ pub(crate) fn occupant_of_out<'p, R: Files + AllocGlobal>(
     }
 }
 
+/// What the first bytes of a file tell of it.
+pub(crate) fn front_kind<'p, R: Files>(rt: &R, path: &'p str) -> Result<FrontKind, Problem<'p>> {
+    let mut front = [0u8; FRONT_BYTES];
+    match front_of(rt, path, &mut front) {
+        Ok(count) => Ok(FrontKind::of_front(front.get(..count).unwrap_or_default())),
+        Err(cause) => Err(fault_of(path, RunError::ReadFault, cause)),
+    }
+}
+
+/// Tries before the work whether the files that a command reads can be read, and whether OUT can be written, and how.
+pub(crate) fn try_files<'p, R: Files + AllocGlobal>(
+    rt: &R,
+    subcommand: Subcommand,
+    matches: &ArgMatches<'p>,
+    out: &'p str,
+) -> Result<Place, Problem<'p>> {
+    let Ok(paths) = subcommand.files_read(rt.alloc(), matches) else {
+        return Err(Problem::refused(out, Refusal::NoMemory));
+    };
+    for path in &paths {
+        if let Err(cause) = try_reading(rt, path) {
+            return Err(fault_of(path, RunError::ReadFault, cause));
+        }
+    }
+    match try_place(rt, out) {
+        Ok(place) => Ok(place),
+        Err(cause) => Err(fault_of(out, RunError::WriteFault, cause)),
+    }
+}
+
+/// That OUT was not written.
+fn unwritten<'p, R: AllocGlobal>(rt: &R, path: &'p str, why: Unwritten) -> Problem<'p> {
+    match why {
+        Unwritten::Failed(cause) => fault_of(path, RunError::WriteFault, cause),
+        Unwritten::Changed => {
+            let reason = replaced_reason(rt.alloc(), path);
+            Problem::because(path, Refusal::Run(RunError::WriteFault), reason)
+        }
+    }
+}
+
 /// Writes OUT, which nothing else does: a summary file. One that is there is replaced at once, or, where it is a device or a pipe, written
-/// to; where OUT is to be a new file, one that is there by now stays, and `WriteFault` is told. Where there is no memory for the name of
-/// the new file that takes its place, or the system says that it has none, `NoMemory` is told, and for any other failure `WriteFault`.
+/// to; where it is one of the files that were read, by its old bytes, and other bytes stand there by now, or OUT is to be a new file and
+/// one is there by now, that stays, and `WriteFault` is told. Where there is no memory for the name of the new file that takes its place,
+/// or the system says that it has none, `NoMemory` is told, and for any other failure `WriteFault`. The answer is how it was written.
 pub(crate) fn write_out<'p, R: Files + AllocGlobal>(
     rt: &R,
     path: &'p str,
     file: &SummaryFile,
     is_new: bool,
-) -> Result<(), Problem<'p>> {
+    old: Option<&[u8]>,
+) -> Result<Place, Problem<'p>> {
     let written = if is_new {
-        write_new_file(rt, path, file.bytes())
+        match write_new_file(rt, path, file.bytes()) {
+            Ok(()) => Ok(Place::Beside),
+            Err(why) => Err(why),
+        }
     } else {
-        write_file(rt, path, file.bytes())
+        write_file(rt, path, file.bytes(), old)
     };
     match written {
-        Ok(()) => Ok(()),
-        Err(cause) => Err(fault_of(path, RunError::WriteFault, cause)),
+        Ok(place) => Ok(place),
+        Err(why) => Err(unwritten(rt, path, why)),
     }
 }

@@ -2,6 +2,9 @@
 #![tactic(auto)]
 
 mod files;
+mod limit;
+mod replicas;
 mod session;
+mod target;
 
 pub use session::Session;

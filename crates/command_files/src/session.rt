@@ -1,25 +1,29 @@
 //! What each command does.
 
-use crate::files::{occupant_of_out, read, write_out};
+ghost use Rattle.std.specs.Prelude.{◌≡◌, Bool, ℕ, List, Option, length, OnOk};
+ghost use Rattle.command_streams.specs.Stopping.{EndsRefused};
+ghost use Rattle.command_files.specs.Taking.{TakesFile, TakesAll, taken};
+
+use crate::files::read;
+use crate::limit::{means_of, said_of_limit};
+use crate::replicas::{new_replica, open_replica, summary_of, take};
+use crate::target::Target;
 use clap::ArgMatches;
 use command_streams::{
-    Diagnostic, OutputStatus, Problem, Streams, open_disk, reason_of, remove_disk, system_seed,
+    Diagnostic, OutputStatus, Problem, Streams, open_disk, reason_of, remove_disk, reply_refused,
+    system_seed, tape_reason,
 };
-use command_words::{
-    BATCH, COLUMNS, EXPLAIN, FORMAT, IN, LIMIT, NO_CLOBBER, OUT, PROGRESS, QUERY, Subcommand, value,
-};
-use fault_sentences::Quoted;
+use command_words::{BATCH, COMPLETE, EXPLAIN, FORMAT, IN, OUT, PROGRESS, Subcommand, value};
 use file_sentences::{
-    Explained, FileKind, PassedOver, Progress, Standing, columns_reason, file_reason, query_reason,
-    saving_reason, summary_reason, text_of,
+    CutShort, Explained, FileKind, PassedOver, Progress, Standing, WrittenOver, file_reason,
+    text_of,
 };
-use hash_agg::{Fnv1a, Means, TapeDisk, Work};
-use holding_sentences::{answer_line, holding_lines};
-use replica_merge::Replica;
-use replies::{ExitKind, Format, Refusal, Reply, origin_lines, put_reply, refusal_ending, table};
-use script_io::{Occupant, put_all, read_limit};
+use hash_agg::{Fnv1a, Means, Work};
+use holding_sentences::{answer_line, holding_lines, waiting_lines};
+use replica_merge::{Delivered, Replica};
+use replies::{ExitKind, Format, Refusal, Reply, origin_lines, put_reply, table};
+use script_io::put_all;
 use spill_tapes::{MemDisk, SpillDisk, SystemFile};
-use std::alloc::{AllocError, Global};
 use std::io::Write;
 use std::random::RandomSource;
 use std::rt::Files;
@@ -33,111 +37,19 @@ fn format_named(text: &str) -> Format {
     }
 }
 
-/// The replica that a file is the summary of.
-fn open_replica<'p, R: Files + AllocGlobal>(rt: &R, path: &'p str) -> Result<Replica, Problem<'p>> {
-    let file = read(rt, path)?;
-    match command_replicas::load(rt.alloc(), &file) {
-        Ok(replica) => Ok(replica),
-        Err(why) => {
-            let reason = summary_reason(rt.alloc(), &file, why);
-            Err(Problem::because(path, why, reason))
-        }
-    }
-}
-
-/// The replica of the texts of a command line, which knows nothing.
-fn new_replica<'p>(alloc: Global, matches: &ArgMatches<'p>) -> Result<Replica, Problem<'p>> {
-    let (columns, query) = (value(matches, COLUMNS), value(matches, QUERY));
-    match command_replicas::create(alloc, columns, query) {
-        Ok(replica) => Ok(replica),
-        Err(Refusal::BadSchema) => {
-            let reason = columns_reason(alloc, columns);
-            Err(Problem::because("--columns", Refusal::BadSchema, reason))
-        }
-        Err(why) => {
-            let reason = query_reason(alloc, columns, query, why);
-            Err(Problem::because("--query", why, reason))
-        }
-    }
-}
-
-/// The replica that a command begins with.
-fn first_replica<'p, R: Files + AllocGlobal>(
-    rt: &R,
-    subcommand: Subcommand,
-    matches: &ArgMatches<'p>,
-) -> Result<Replica, Problem<'p>> {
-    match subcommand {
-        Subcommand::New => new_replica(rt.alloc(), matches),
-        Subcommand::Feed | Subcommand::Merge | Subcommand::Known | Subcommand::Answer => {
-            open_replica(rt, value(matches, IN))
-        }
-    }
-}
-
-/// The means of a limit that a text tells.
-fn means_of_limit(text: &str) -> Result<Means<Fnv1a>, Refusal> {
-    match read_limit(text.as_bytes()) {
-        Some(limit) => Ok(Means::new(limit, Fnv1a)?),
-        None => Err(Refusal::BadCommand),
-    }
-}
-
-/// The means that a command tells, or the usual ones.
-fn means_of(subcommand: Subcommand, matches: &ArgMatches<'_>) -> Result<Means<Fnv1a>, Refusal> {
-    if !subcommand.takes_limit() {
-        return Ok(Means::usual(Fnv1a));
-    }
-    match matches.get_str(LIMIT) {
-        Some(text) => means_of_limit(text),
-        None => Ok(Means::usual(Fnv1a)),
-    }
-}
-
-/// Takes the bytes of a file into a replica, and gives the reply: its batch is fed, or the replica of its summary is merged.
-fn take<D: TapeDisk>(
-    alloc: Global,
-    kind: FileKind,
-    replica: &mut Replica,
-    file: &[u8],
-    means: &Means<Fnv1a>,
-    disk: &mut D,
-    work: &mut Work,
-) -> Result<Reply<'static>, Refusal> {
-    match kind {
-        FileKind::Batch => {
-            let delivered = command_replicas::feed(alloc, replica, file, means, disk, work)?;
-            Ok(Reply::Delivered(delivered))
-        }
-        FileKind::Summary => {
-            command_replicas::merge(alloc, replica, file, means, disk, work)?;
-            Ok(Reply::Merged)
-        }
-    }
-}
-
-/// Takes a file into a replica, and gives the reply.
-fn take_file<'p, R: Files + AllocGlobal, D: TapeDisk>(
-    rt: &R,
-    kind: FileKind,
-    replica: &mut Replica,
-    path: &'p str,
-    means: &Means<Fnv1a>,
-    disk: &mut D,
-    work: &mut Work,
-) -> Result<Reply<'static>, Problem<'p>> {
-    let file = read(rt, path)?;
-    match take(rt.alloc(), kind, replica, &file, means, disk, work) {
-        Ok(reply) => Ok(reply),
-        Err(why) => {
-            let reason = file_reason(rt.alloc(), kind, replica, &file, why);
-            Err(Problem::because(path, why, reason))
-        }
-    }
+/// Whether the last line of a batch file has no end, where a reply tells that it was taken.
+fn is_cut(file: &[u8], reply: &Reply<'_>) -> bool {
+    let is_taken = match reply {
+        Reply::Delivered(Delivered::Known) => false,
+        Reply::Delivered(_) => true,
+        _ => false,
+    };
+    is_taken && !matches!(file.last(), Some(b'\n' | b'\r'))
 }
 
 /// A command that runs: the files that it reaches, its streams, its disk of tapes and whether that lies in a file, what its grouping
-/// took, how many files were taken or passed over, whether OUT is to be a new file, and whether it was written.
+/// took, how many files were taken or passed over, what OUT is to it and whether that was written, and whether an answer lacks batches
+/// that it was to have.
 #[derive(Drop)]
 pub struct Session<'c, R: Files, W, E> {
     rt: &'c R,
@@ -149,8 +61,9 @@ pub struct Session<'c, R: Files, W, E> {
     passed: usize,
     files: usize,
     tells_progress: bool,
-    is_new: bool,
+    target: Target,
     is_written: bool,
+    is_short: bool,
 }
 
 impl<'c, R: Files + AllocGlobal + RandomSource, W: Write, E: Write> Session<'c, R, W, E> {
@@ -166,8 +79,9 @@ impl<'c, R: Files + AllocGlobal + RandomSource, W: Write, E: Write> Session<'c, 
             passed: 0,
             files: 0,
             tells_progress: false,
-            is_new: false,
+            target: Target::new(),
             is_written: false,
+            is_short: false,
         }
     }
 
@@ -218,9 +132,9 @@ impl<'c, R: Files + AllocGlobal + RandomSource, W: Write, E: Write> Session<'c, 
         Ok(())
     }
 
-    /// Goes on behind a file that was refused. One that could not be read ends the command.
-    fn pass_over<'p>(&mut self, problem: Problem<'p>) -> Result<(), Problem<'p>> {
-        if problem.is_fault() {
+    /// Goes on behind the file of a place that was refused. A file that failed ends the command, and so does one that is OUT, which stays.
+    fn pass_over<'p>(&mut self, problem: Problem<'p>, place: usize) -> Result<(), Problem<'p>> {
+        if problem.is_fault() || self.target.is_at(place) {
             return Err(problem);
         }
         self.passed = self.passed.saturating_add(1);
@@ -240,32 +154,78 @@ impl<'c, R: Files + AllocGlobal + RandomSource, W: Write, E: Write> Session<'c, 
 
     /// Writes the summary file of a replica.
     fn save<'p>(&mut self, replica: &Replica, path: &'p str) -> Result<(), Problem<'p>> {
-        let file = match command_replicas::save(replica) {
-            Ok(file) => file,
-            Err(why) => {
-                let reason = saving_reason(self.rt.alloc(), replica, why);
-                return Err(Problem::because(path, why, reason));
-            }
-        };
-        write_out(self.rt, path, &file, self.is_new)?;
+        let file = summary_of(self.rt.alloc(), replica, path)?;
+        if self.target.write(self.rt, path, &file)? {
+            self.streams.say(&WrittenOver { out: path });
+        }
         self.is_written = true;
         self.reply(&Reply::Saved(file.bytes().len()))
     }
 
-    /// Takes files into a replica, each with its reply.
+    /// Says why a file is refused: of its bytes, or of the file of tapes.
+    fn refused<'p>(
+        &self,
+        kind: FileKind,
+        replica: &Replica,
+        path: &'p str,
+        file: &[u8],
+        why: Refusal,
+        spill: Option<&str>,
+    ) -> Problem<'p>
+        ensures { result.why ≡ why }
+    {
+        let reason = match (why, spill) {
+            (Refusal::TapeFault, Some(spill)) => tape_reason(self.rt, spill),
+            _ => file_reason(self.rt.alloc(), kind, replica, file, why),
+        };
+        Problem::because(path, why, reason)
+    }
+
+    /// Takes the file of a place into a replica, and gives the reply.
+    fn take_file<'p>(
+        &mut self,
+        kind: FileKind,
+        replica: &mut Replica,
+        path: &'p str,
+        place: usize,
+        means: &Means<Fnv1a>,
+        spill: Option<&str>,
+    ) -> Result<Reply<'static>, Problem<'p>>
+        ensures { (honest : Bool) × (file : Option (List ℕ)) × TakesFile kind honest file replica.old replica.new (taken result) }
+    {
+        let file = read(self.rt, path)?;
+        let (disk, work) = (&mut self.disk, &mut self.work);
+        match take(self.rt.alloc(), kind, replica, &file, means, disk, work) {
+            Ok(reply) => {
+                if is_cut(&file, &reply) {
+                    self.streams.say(&CutShort { path });
+                }
+                self.target.keep_old(place, file);
+                Ok(reply)
+            }
+            Err(why) => Err(self.refused(kind, replica, path, &file, why, spill)),
+        }
+    }
+
+    /// Takes files into a replica, those behind the first that is read, each with its reply.
     fn take_files<'p>(
         &mut self,
         kind: FileKind,
         replica: &mut Replica,
         paths: &[&'p str],
         means: &Means<Fnv1a>,
-    ) -> Result<(), Problem<'p>> {
+        spill: Option<&str>,
+    ) -> Result<(), Problem<'p>>
+        ensures { OnOk result ((files : List (Option (List ℕ))) × (length files ≡ length paths.now)
+            × TakesAll kind files replica.old replica.new) }
+    {
         self.files = paths.len();
+        let mut place: usize = 0;
         for path in paths {
-            let (disk, work) = (&mut self.disk, &mut self.work);
-            match take_file(self.rt, kind, replica, *path, means, disk, work) {
-                Ok(reply) => self.reply_to(*path, &reply)?,
-                Err(problem) => self.pass_over(problem)?,
+            place = place.saturating_add(1);
+            match self.take_file(kind, replica, path, place, means, spill) {
+                Ok(reply) => self.reply_to(path, &reply)?,
+                Err(problem) => self.pass_over(problem, place)?,
             }
         }
         Ok(())
@@ -301,11 +261,38 @@ impl<'c, R: Files + AllocGlobal + RandomSource, W: Write, E: Write> Session<'c, 
         replica: &Replica,
         matches: &ArgMatches<'p>,
     ) -> Result<(), Problem<'p>> {
-        let format = format_named(value(matches, FORMAT));
-        match table(self.rt.alloc(), replica, format) {
-            Ok((_, table)) => self.print(&table),
-            Err(_) => Err(Problem::refused(value(matches, IN), Refusal::NoMemory)),
+        let (alloc, format) = (self.rt.alloc(), format_named(value(matches, FORMAT)));
+        // Nothing is printed before there was memory for all.
+        match (waiting_lines(alloc, replica), table(alloc, replica, format)) {
+            (Ok(lines), Ok((_, table))) => {
+                self.print(&table)?;
+                self.tell_waiting(&lines, format, matches)
+            }
+            _ => Err(Problem::refused(value(matches, IN), Refusal::NoMemory)),
         }
+    }
+
+    /// Tells which batches an answer does not count, since they wait for others: on standard error, and at the foot of an aligned table.
+    /// Where both go to a terminal, it is told once.
+    fn tell_waiting<'p>(
+        &mut self,
+        lines: &[String],
+        format: Format,
+        matches: &ArgMatches<'p>,
+    ) -> Result<(), Problem<'p>> {
+        let has_foot = matches!(format, Format::Aligned);
+        let is_seen = has_foot && self.streams.terminals.output && self.streams.terminals.errors;
+        for line in lines {
+            if has_foot {
+                self.print(line.as_bytes())?;
+                self.print(b"\n")?;
+            }
+            if !is_seen {
+                self.streams.say(line);
+            }
+        }
+        self.is_short = !lines.is_empty() && Subcommand::Answer.is_told(matches, COMPLETE);
+        Ok(())
     }
 
     /// Does what a command asks of its replica.
@@ -316,6 +303,7 @@ impl<'c, R: Files + AllocGlobal + RandomSource, W: Write, E: Write> Session<'c, 
         matches: &ArgMatches<'p>,
         means: &Means<Fnv1a>,
     ) -> Result<(), Problem<'p>> {
+        let spill = subcommand.spill(matches);
         match subcommand {
             Subcommand::Known => {
                 self.list(replica, value(matches, IN))?;
@@ -333,19 +321,37 @@ impl<'c, R: Files + AllocGlobal + RandomSource, W: Write, E: Write> Session<'c, 
             }
             Subcommand::Feed => {
                 let paths = matches.get_strs(BATCH).unwrap_or_default();
-                self.take_files(FileKind::Batch, replica, paths, means)?;
+                self.take_files(FileKind::Batch, replica, paths, means, spill)?;
             }
             Subcommand::Merge => {
                 // The replica is that of the first.
                 let paths = matches.get_strs(IN).unwrap_or_default();
                 let others = paths.get(1..).unwrap_or_default();
-                self.take_files(FileKind::Summary, replica, others, means)?;
+                self.take_files(FileKind::Summary, replica, others, means, spill)?;
             }
             Subcommand::New => {}
         }
         // OUT may have the path of the file for what is spilled, which is no longer wanted.
         self.remove_spill(subcommand, matches);
         self.save(replica, value(matches, OUT))
+    }
+
+    /// The replica that a command begins with.
+    fn first_replica<'p>(
+        &mut self,
+        subcommand: Subcommand,
+        matches: &ArgMatches<'p>,
+    ) -> Result<Replica, Problem<'p>> {
+        if matches!(subcommand, Subcommand::New) {
+            let replica = new_replica(self.rt.alloc(), matches)?;
+            return match self.try_first(subcommand, matches) {
+                Ok(()) => Ok(replica),
+                Err(problem) => Err(problem),
+            };
+        }
+        let (replica, file) = open_replica(self.rt, value(matches, IN))?;
+        self.target.keep_old(0, file);
+        Ok(replica)
     }
 
     /// Runs a command on files: each begins with one replica.
@@ -355,7 +361,7 @@ impl<'c, R: Files + AllocGlobal + RandomSource, W: Write, E: Write> Session<'c, 
         matches: &ArgMatches<'p>,
         means: &Means<Fnv1a>,
     ) -> Result<(), Problem<'p>> {
-        let mut replica = first_replica(self.rt, subcommand, matches)?;
+        let mut replica = self.first_replica(subcommand, matches)?;
         let done = self.perform(&mut replica, subcommand, matches, means);
         drop(replica);
         done
@@ -388,24 +394,11 @@ impl<'c, R: Files + AllocGlobal + RandomSource, W: Write, E: Write> Session<'c, 
     }
 
     /// Ends a command that stopped.
-    fn stop(&mut self, problem: Problem<'_>, output: Option<OutputStatus<'_>>) -> ExitKind {
+    fn stop(&mut self, problem: Problem<'_>, output: Option<OutputStatus<'_>>) -> ExitKind
+        ensures { EndsRefused problem.why result }
+    {
         self.complain(&problem, output);
-        match self.reply(&Reply::Refused(problem.why)) {
-            Ok(()) => refusal_ending(problem.why),
-            Err(_) => ExitKind::Fault,
-        }
-    }
-
-    /// Says why a limit is none.
-    fn limit_reason(&self, matches: &ArgMatches<'_>, why: Refusal) -> Result<String, AllocError> {
-        let given = Quoted(matches.get_str(LIMIT).unwrap_or("").as_bytes());
-        if matches!(why, Refusal::BadCommand) {
-            format!(in self.streams.alloc; "{given}: a number of bytes has 1 to 19 digits")
-        } else {
-            format!(in self.streams.alloc;
-                "{given} is out of range, which is 65,536 to 1,099,511,627,776 bytes"
-            )
-        }
+        reply_refused(self.streams.writer, problem.why)
     }
 
     /// Ends a command whose limit was refused. A text that is no number of bytes is no command line.
@@ -415,7 +408,7 @@ impl<'c, R: Files + AllocGlobal + RandomSource, W: Write, E: Write> Session<'c, 
         matches: &ArgMatches<'_>,
         why: Refusal,
     ) -> ExitKind {
-        let reason = match self.limit_reason(matches, why) {
+        let reason = match said_of_limit(self.streams.alloc, matches, why) {
             Ok(said) => Ok(reason_of(self.streams.alloc, Some(said))),
             Err(error) => Err(error),
         };
@@ -426,29 +419,6 @@ impl<'c, R: Files + AllocGlobal + RandomSource, W: Write, E: Write> Session<'c, 
             return ExitKind::BadUsage;
         }
         self.stop(problem, output)
-    }
-
-    /// OUT, where a file is there which is none of those that are read. Where that can't be found out, it is a problem only to one that
-    /// keeps such a file.
-    fn standing<'p>(
-        &mut self,
-        subcommand: Subcommand,
-        matches: &ArgMatches<'p>,
-    ) -> Result<Option<&'p str>, Problem<'p>> {
-        let Some(out) = subcommand.out(matches) else {
-            return Ok(None);
-        };
-        let keeps = subcommand.is_told(matches, NO_CLOBBER);
-        match occupant_of_out(self.rt, subcommand, matches, out) {
-            Ok(Occupant::Another) => Ok(Some(out)),
-            Ok(Occupant::Listed) => Ok(None),
-            Ok(Occupant::Nothing) => {
-                self.is_new = keeps;
-                Ok(None)
-            }
-            Err(problem) if keeps => Err(problem),
-            Err(_) => Ok(None),
-        }
     }
 
     /// Sends out what was gathered, and tells how the command ended.
@@ -470,7 +440,7 @@ impl<'c, R: Files + AllocGlobal + RandomSource, W: Write, E: Write> Session<'c, 
         &mut self,
         subcommand: Subcommand,
         matches: &ArgMatches<'_>,
-        standing: Option<&str>,
+        standing: Option<Standing<'_>>,
     ) -> ExitKind {
         match means_of(subcommand, matches) {
             Ok(means) => self.run_with(subcommand, matches, means, standing),
@@ -480,9 +450,9 @@ impl<'c, R: Files + AllocGlobal + RandomSource, W: Write, E: Write> Session<'c, 
 
     /// Runs a command on files, and tells how it ended.
     pub fn run(mut self, subcommand: Subcommand, matches: &ArgMatches<'_>) -> ExitKind {
-        let exit = match self.standing(subcommand, matches) {
-            Ok(Some(out)) if subcommand.is_told(matches, NO_CLOBBER) => {
-                self.streams.say(&Standing { out, is_kept: true });
+        let exit = match self.target.look(self.rt, subcommand, matches) {
+            Ok(Some(standing)) if standing.fate.stops() => {
+                self.streams.say(&standing);
                 return ExitKind::BadUsage;
             }
             Ok(standing) => self.run_beside(subcommand, matches, standing),
@@ -508,16 +478,40 @@ impl<'c, R: Files + AllocGlobal + RandomSource, W: Write, E: Write> Session<'c, 
         Ok(means.with_seed(seed))
     }
 
+    /// Tries whether the files of a command that writes OUT can be read and written: before the work, which `new` has none of. It is told
+    /// where OUT is to be written over.
+    fn try_first<'p>(
+        &mut self,
+        subcommand: Subcommand,
+        matches: &ArgMatches<'p>,
+    ) -> Result<(), Problem<'p>> {
+        let Some(out) = subcommand.out(matches) else {
+            return Ok(());
+        };
+        if self.target.try_first(self.rt, subcommand, matches, out)? {
+            self.streams.say(&WrittenOver { out });
+        }
+        Ok(())
+    }
+
     /// Runs a command on files by means, with the disk of tapes that it tells, and tells how it ended.
     fn run_with(
         &mut self,
         subcommand: Subcommand,
         matches: &ArgMatches<'_>,
         means: Means<Fnv1a>,
-        standing: Option<&str>,
+        standing: Option<Standing<'_>>,
     ) -> ExitKind {
+        let terminals = self.streams.terminals;
+        // Replies on the same terminal tell as much.
         self.tells_progress = subcommand.is_told(matches, PROGRESS)
-            || self.streams.terminals.errors;
+            || (terminals.errors && !terminals.output);
+        if subcommand.aggregates() {
+            if let Err(problem) = self.try_first(subcommand, matches) {
+                let output = self.output_status(subcommand, matches);
+                return self.stop(problem, output);
+            }
+        }
         let spill = subcommand.spill(matches);
         match open_disk(self.rt, spill) {
             Ok(disk) => self.disk = disk,
@@ -527,11 +521,8 @@ impl<'c, R: Files + AllocGlobal + RandomSource, W: Write, E: Write> Session<'c, 
             }
         }
         self.in_file = spill.is_some();
-        if let Some(out) = standing {
-            self.streams.say(&Standing {
-                out,
-                is_kept: false,
-            });
+        if let Some(standing) = standing {
+            self.streams.say(&standing);
         }
         let exit = match self.seeded(subcommand, means) {
             Ok(means) => self.run_by(subcommand, matches, &means),
@@ -571,6 +562,7 @@ impl<'c, R: Files + AllocGlobal + RandomSource, W: Write, E: Write> Session<'c, 
                 self.tell_passed(subcommand, matches);
                 ExitKind::Refused
             }
+            Ok(()) if self.is_short => ExitKind::Refused,
             Ok(()) => ExitKind::Done,
             Err(problem) => {
                 let output = self.output_status(subcommand, matches);

@@ -2,10 +2,13 @@
 //! status. What the commands make of bytes, and what they say, is proved below, in `script_machine`, `command_replicas` and `replies`.
 #![tactic(auto)]
 
+mod hint;
+
 ghost use Rattle.std.specs.Prelude.{◌≡◌};
 ghost use Rattle.replies.specs.Status.{status_of};
 ghost use Rattle.replies.specs.declared.ending.ExitKind.{ExitKind};
 
+use crate::hint::{Hint, hint_of};
 use clap::error::ErrorKind;
 use clap::{ArgMatches, Error};
 use command_files::Session;
@@ -23,10 +26,10 @@ use std::rt::Files;
 /// How many bytes of replies are gathered before they go out.
 const GATHERED_BYTES: usize = 8192;
 
-/// Writes what the parser of words has to say, in one write where there is memory for that.
-fn write_error<E: Write>(alloc: Global, error: &Error, errors: &mut E) {
+/// Writes what the parser of words has to say behind a hint, in one write where there is memory for that.
+fn write_error<E: Write>(alloc: Global, hint: &Hint<'_>, error: &Error, errors: &mut E) {
     // Nothing is left to do where it can't be written.
-    match format!(in alloc; "{error}") {
+    match format!(in alloc; "{hint}{error}") {
         Ok(text) => {
             let _ = errors.write_all(text.as_bytes());
         }
@@ -39,15 +42,17 @@ fn write_error<E: Write>(alloc: Global, error: &Error, errors: &mut E) {
 /// Says why the words are no command line, or shows help or the version.
 fn end_without_command<W: Write, E: Write>(
     error: &Error,
+    words: &[String],
     streams: &mut Streams<'_, W, E>,
 ) -> ExitKind {
     if error.kind() == ErrorKind::OutOfMemory {
         let _ = writeln!(streams.writer, "refused NoMemory");
-        write_error(streams.alloc, error, streams.errors);
+        write_error(streams.alloc, &Hint::Nothing, error, streams.errors);
         return ExitKind::Refused;
     }
     if error.use_stderr() {
-        write_error(streams.alloc, error, streams.errors);
+        let hint = hint_of(words, error.kind());
+        write_error(streams.alloc, &hint, error, streams.errors);
         return ExitKind::BadUsage;
     }
     match write!(streams.writer, "{error}") {
@@ -95,7 +100,7 @@ fn run_words<R: Files + AllocGlobal + RandomSource, I: Read, W: Write, E: Write>
             // The parser wants a command.
             None => ExitKind::BadUsage,
         },
-        Err(error) => end_without_command(&error, &mut streams),
+        Err(error) => end_without_command(&error, words, &mut streams),
     }
 }
 

@@ -1,5 +1,11 @@
 //! Why a command stopped, or passed over a file.
 
+ghost use Rattle.std.specs.Prelude.{◌≡◌, ◌↔◌, IsTrue};
+ghost use Rattle.replies.specs.declared.ending.ExitKind.TheVariants.{Fault};
+ghost use Rattle.replies.specs.declared.error.RunError.TheVariants.{WriteFault};
+ghost use Rattle.replies.specs.declared.refusal.Refusal.TheVariants.{Run};
+ghost use Rattle.command_streams.specs.Stopping.{ending_of};
+
 use fault_sentences::{Plain, Reason};
 use replies::{Refusal, RunError};
 use std::alloc::Global;
@@ -22,7 +28,9 @@ pub struct Problem<'p> {
 
 impl<'p> Problem<'p> {
     /// Something was refused.
-    pub fn refused(subject: &'p str, why: Refusal) -> Problem<'p> {
+    pub fn refused(subject: &'p str, why: Refusal) -> Problem<'p>
+        ensures { result.why ≡ why }
+    {
         Problem {
             subject,
             why,
@@ -37,7 +45,9 @@ impl<'p> Problem<'p> {
         subject: &'p str,
         why: Refusal,
         reason: Result<Option<Reason>, E>,
-    ) -> Problem<'p> {
+    ) -> Problem<'p>
+        ensures { result.why ≡ why }
+    {
         Problem {
             subject,
             why,
@@ -48,7 +58,9 @@ impl<'p> Problem<'p> {
     }
 
     /// The system failed, which told the cause.
-    pub fn failed(subject: &'p str, error: RunError, cause: io::Error) -> Problem<'p> {
+    pub fn failed(subject: &'p str, error: RunError, cause: io::Error) -> Problem<'p>
+        ensures { result.why ≡ Run error }
+    {
         Problem {
             subject,
             why: Refusal::Run(error),
@@ -59,7 +71,9 @@ impl<'p> Problem<'p> {
     }
 
     /// Standard output could not be written.
-    pub fn output(cause: Option<io::Error>) -> Problem<'p> {
+    pub fn output(cause: Option<io::Error>) -> Problem<'p>
+        ensures { result.why ≡ Run WriteFault }
+    {
         Problem {
             subject: "standard output",
             why: Refusal::Run(RunError::WriteFault),
@@ -69,11 +83,13 @@ impl<'p> Problem<'p> {
         }
     }
 
-    /// Whether a file or a stream could not be read or written.
-    pub fn is_fault(&self) -> bool {
+    /// Whether a file or a stream could not be read or written: also the file of what is spilled.
+    pub fn is_fault(&self) -> bool
+        ensures { IsTrue result ↔ (ending_of self.now.why ≡ Fault) }
+    {
         matches!(
             self.why,
-            Refusal::Run(RunError::ReadFault | RunError::WriteFault)
+            Refusal::TapeFault | Refusal::Run(RunError::ReadFault | RunError::WriteFault)
         )
     }
 

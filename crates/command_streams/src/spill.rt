@@ -3,6 +3,7 @@
 use crate::problem::Problem;
 use crate::streams::say;
 use fault_sentences::{Plain, Reason};
+use out_files::append_fault;
 use replies::{Refusal, RunError};
 use spill_tapes::{FileDisk, MemDisk, SpillDisk, SystemFile};
 use std::alloc::{AllocError, Global};
@@ -32,6 +33,23 @@ pub fn open_disk<'p, R: Files + AllocGlobal>(
             Err(Problem::because(path, why, reason))
         }
     }
+}
+
+/// Says that the file for what is spilled failed, and what the system says of it, where that is found out by a page more. The file has what
+/// it had.
+pub fn tape_reason<R: Files + AllocGlobal>(
+    rt: &R,
+    path: &str,
+) -> Result<Option<Reason>, AllocError> {
+    let alloc = rt.alloc();
+    let shown = Plain(path);
+    let said = match append_fault(rt, path) {
+        Some(cause) => format!(in alloc;
+            "{shown}, the file of --spill, can't be written ({cause})"
+        )?,
+        None => format!(in alloc; "{shown}, the file of --spill, could not be read or written")?,
+    };
+    Ok(Some(Reason::whole(alloc, said)))
 }
 
 /// A file for what is spilled that stays.

@@ -39,6 +39,12 @@ pub const EXPLAIN: &str = "explain";
 /// Whether a file is kept that OUT would replace.
 pub const NO_CLOBBER: &str = "no-clobber";
 
+/// Whether a file that is no summary is replaced by OUT.
+pub const FORCE: &str = "force";
+
+/// Whether an answer that lacks batches is refused.
+pub const COMPLETE: &str = "complete";
+
 /// Whether each file is told of as it is taken.
 pub const PROGRESS: &str = "progress";
 
@@ -123,8 +129,9 @@ FIRST or NULLS LAST. Without ORDER BY rows are in the order of keys. The manual
 page agg_tool-script(5) has the grammar with all functions and comparisons, and
 what is said of a wrong query tells what stands in its place.
 
-Prints 'saved BYTES'. A file OUT that is there is replaced, and standard error
-says so; with --no-clobber it is kept, and the status is 2.
+Prints 'saved BYTES'. A summary OUT that is there is replaced, and standard
+error says so; with --no-clobber it is kept, and the status is 2. So it is with
+a file OUT that has bytes and is no summary, unless --force is told.
 
 Example:
   agg_tool new empty.sum --columns 'city text, sales bigint' \\
@@ -133,7 +140,7 @@ Example:
 Status:
   0  all was done
   1  something was refused
-  2  the words are no command line, or --no-clobber kept a file
+  2  the words are no command line, or a file OUT was kept
   3  a file or a stream could not be read or written";
 
 const FEED_ABOUT: &str = "Adds the batches of batch files to a summary";
@@ -152,12 +159,19 @@ given, a line tells what became of it:
   refused NAME   it is passed over, nothing changed
 
 Then OUT is written and 'saved BYTES' printed. OUT may be IN. Where IN itself is
-refused, a file can't be read or OUT would be longer than 67,108,864 bytes, the
-command ends, and OUT isn't written. A file OUT that is there and is none of the
-files read is replaced, and standard error says so; with --no-clobber it is
-kept, nothing is read, and the status is 2. --progress tells on standard error
-of each file as it is taken, as '12 of 500 0-12.csv: folded upto 12'; where that
-is a terminal it is told without it.
+refused, a file can't be read or written or OUT would be longer than 67,108,864
+bytes, the command ends, and OUT isn't written. That the files are there and OUT
+can be written is tried first. Where OUT is IN, and another command replaced it
+meanwhile, it stays, and the command is refused: run it again. Let writers wait
+for one another all the same: flock OUT.lock agg_tool feed OUT OUT BATCH.
+
+A summary OUT that is there and is none of the files read is replaced, and
+standard error says so; with --no-clobber it is kept, nothing is read, and the
+status is 2. So it is with a file OUT that has bytes and is no summary, unless
+--force is told. --progress tells on standard error of each file as it is taken,
+as '12 of 500 0-12.csv: folded upto 12'; where that is a terminal, and replies
+go elsewhere, it is told without it. A batch file whose last line has no end is
+taken, and standard error says that it may be cut.
 
 The groups of a batch take at most --limit bytes of blocks while they are
 counted, 65536 to 1099511627776; what doesn't keep within is spilled, and
@@ -176,7 +190,7 @@ Example:
 Status:
   0  all was done
   1  something was refused
-  2  the words are no command line, or --no-clobber kept a file
+  2  the words are no command line, or a file OUT was kept
   3  a file or a stream could not be read or written";
 
 const MERGE_ABOUT: &str = "Merges summary files of one query";
@@ -185,13 +199,18 @@ const MERGE_AFTER: &str = "\
 OUT knows what any IN knew. For each IN after the first, 'merged' is printed, or
 'refused NAME' where it is passed over: another query, no summary file, or
 another batch under a number that is known. Then OUT is written and 'saved
-BYTES' printed. OUT may be one of the INs. Where the first IN is refused, a file
-can't be read or OUT would be longer than 67,108,864 bytes, the command ends,
-and OUT isn't written. A file OUT that is there and is none of the files read is
-replaced, and standard error says so; with --no-clobber it is kept, nothing is
-read, and the status is 2. --progress tells on standard error of each file as it
-is taken, as '1 of 2 rome.sum: merged'; where that is a terminal it is told
-without it.
+BYTES' printed. OUT may be one of the INs. Where the first IN or that one is
+refused, a file can't be read or written or OUT would be longer than 67,108,864
+bytes, the command ends, and OUT isn't written. That the files are there and OUT
+can be written is tried first. Where OUT is an IN, and another command replaced
+it meanwhile, it stays, and the command is refused: run it again.
+
+A summary OUT that is there and is none of the files read is replaced, and
+standard error says so; with --no-clobber it is kept, nothing is read, and the
+status is 2. So it is with a file OUT that has bytes and is no summary, unless
+--force is told. --progress tells on standard error of each file as it is taken,
+as '1 of 2 rome.sum: merged'; where that is a terminal, and replies go
+elsewhere, it is told without it.
 
 Groups of early batches that follow now take at most --limit bytes of blocks
 while they are counted, 65536 to 1099511627776; what doesn't keep within is
@@ -210,7 +229,7 @@ Example:
 Status:
   0  all was done
   1  something was refused
-  2  the words are no command line, or --no-clobber kept a file
+  2  the words are no command line, or a file OUT was kept
   3  a file or a stream could not be read or written";
 
 const KNOWN_ABOUT: &str = "Lists the batches that a summary knows";
@@ -239,6 +258,10 @@ The rows stand in the order of the query's ORDER BY, or else of its keys, null
 last. Null is \\N, a boolean t or f. A column is named by its alias, or else by
 its column or function. The layout is csv, or aligned for people.
 
+Batches that wait for one before them are not counted: standard error says so of
+at most ten origins, as 'origin 0: 1 early batch is not counted; missing 2', and
+so does the foot of an aligned table. With --complete the status is 1 then.
+
 The groups of several origins are merged in memory, and nothing is spilled:
 --limit and --spill are taken as by feed and merge, and bound nothing here.
 --explain tells on standard error what the answer is made of, as
@@ -252,7 +275,7 @@ Example:
 
 Status:
   0  all was done
-  1  something was refused
+  1  something was refused, or with --complete batches wait for others
   2  the words are no command line
   3  a file or a stream could not be read or written";
 
@@ -291,7 +314,8 @@ fn new_command<'a>(alloc: Global) -> Result<Command<'a>, AllocError> {
         .arg(positional(alloc, OUT, "The summary file to write"))?
         .arg(option(alloc, COLUMNS, "SCHEMA", "The columns' names and kinds").required(true))?
         .arg(option(alloc, QUERY, "TEXT", "The query that the summary answers").required(true))?
-        .arg(no_clobber_option(alloc))
+        .arg(no_clobber_option(alloc))?
+        .arg(force_option(alloc))
 }
 
 /// The option of a file for what is spilled.
@@ -313,6 +337,11 @@ fn no_clobber_option<'a>(alloc: Global) -> Arg<'a> {
     )
 }
 
+/// The option that replaces a file which is no summary.
+fn force_option<'a>(alloc: Global) -> Arg<'a> {
+    flag(alloc, FORCE, "Replaces a file OUT that is no summary")
+}
+
 /// The option of a limit.
 fn limit_option<'a>(alloc: Global, help: &'a str) -> Arg<'a> {
     option(alloc, LIMIT, "BYTES", help).allow_negative_numbers(true)
@@ -329,6 +358,7 @@ fn adding<'a>(alloc: Global, command: Command<'a>) -> Result<Command<'a>, AllocE
             "Also tells on standard error what the grouping took",
         ))?
         .arg(no_clobber_option(alloc))?
+        .arg(force_option(alloc))?
         .arg(flag(
             alloc,
             PROGRESS,
@@ -383,6 +413,11 @@ fn answer_command<'a>(alloc: Global) -> Result<Command<'a>, AllocError> {
             alloc,
             EXPLAIN,
             "Also tells on standard error what the answer is made of",
+        ))?
+        .arg(flag(
+            alloc,
+            COMPLETE,
+            "Has status 1 where batches wait for others",
         ))
 }
 

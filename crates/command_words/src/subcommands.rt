@@ -3,7 +3,7 @@
 ghost use Rattle.std.specs.Prelude.{◌≡◌};
 ghost use Rattle.command_words.specs.Subcommands.{subcommand_named, takes_limit, aggregates};
 
-use crate::{BATCH, IN, NO_CLOBBER, OUT, PROGRESS, SPILL};
+use crate::{BATCH, COMPLETE, FORCE, IN, NO_CLOBBER, OUT, PROGRESS, SPILL};
 use clap::ArgMatches;
 use std::alloc::{AllocError, Global};
 
@@ -61,8 +61,12 @@ impl Subcommand {
     /// Whether an option that it has stands on the command line.
     pub fn is_told(self, matches: &ArgMatches<'_>, option: &str) -> bool {
         let has_option = match option {
-            NO_CLOBBER => matches!(self, Subcommand::New | Subcommand::Feed | Subcommand::Merge),
+            NO_CLOBBER | FORCE => matches!(
+                self,
+                Subcommand::New | Subcommand::Feed | Subcommand::Merge
+            ),
             PROGRESS => matches!(self, Subcommand::Feed | Subcommand::Merge),
+            COMPLETE => matches!(self, Subcommand::Answer),
             _ => !matches!(self, Subcommand::New),
         };
         has_option && matches.get_flag(option)

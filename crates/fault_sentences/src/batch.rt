@@ -41,6 +41,15 @@ fn is_within(field: &[u8], least: u64, most: u64) -> bool {
     }
 }
 
+/// What is said of white space round a field, if there is some.
+fn space_of(field: &[u8]) -> &'static str {
+    if field.trim_ascii().len() < field.len() {
+        ", with no white space round it"
+    } else {
+        ""
+    }
+}
+
 impl<'b> BatchText<'b> {
     /// The batch of a file.
     pub fn of_file(text: &'b [u8]) -> BatchText<'b> {
@@ -90,14 +99,14 @@ impl<'b> BatchText<'b> {
         }
         let line = self.head_line(alloc, record)?;
         let said = if read_row_count(head.rows).is_none() {
-            let shown = Quoted(head.rows);
-            format!(in alloc; "{line}ROWS is {shown}, and wants 1 to 9 digits")?
+            let (shown, space) = (Quoted(head.rows), space_of(head.rows));
+            format!(in alloc; "{line}ROWS is {shown}, and wants 1 to 9 digits{space}")?
         } else if !is_within(head.origin, 0, u64::from(LAST_ORIGIN)) {
-            let shown = Quoted(head.origin);
-            format!(in alloc; "{line}ORIGIN is {shown}, and wants 0 to {LAST_ORIGIN}")?
+            let (shown, space) = (Quoted(head.origin), space_of(head.origin));
+            format!(in alloc; "{line}ORIGIN is {shown}, and wants 0 to {LAST_ORIGIN}{space}")?
         } else if !is_within(head.number, 1, u64::from(LAST_NUMBER)) {
-            let shown = Quoted(head.number);
-            format!(in alloc; "{line}NUMBER is {shown}, and wants 1 to {LAST_NUMBER}")?
+            let (shown, space) = (Quoted(head.number), space_of(head.number));
+            format!(in alloc; "{line}NUMBER is {shown}, and wants 1 to {LAST_NUMBER}{space}")?
         } else {
             return Ok(None);
         };

@@ -20,6 +20,9 @@ pub enum FieldFault {
     /// A number of more than 64 bits.
     #[error("out of range, which is -9223372036854775808 to 9223372036854775807")]
     OutOfRange,
+    /// A number with a fraction.
+    #[error("a bigint has no fraction: keep cents, as 1250 for 12.50")]
+    Fraction,
     /// No number.
     #[error("a bigint is an optional + or - and digits")]
     NoBigint,
@@ -54,6 +57,18 @@ fn is_number(field: &[u8]) -> bool {
     !digits.is_empty() && digits.iter().all(|byte| byte.is_ascii_digit())
 }
 
+/// Whether a field is a number with a fraction.
+fn is_fraction(field: &[u8]) -> bool {
+    match field.iter().position(|byte| *byte == b'.') {
+        Some(dot) => {
+            let behind = field.get(dot.saturating_add(1)..).unwrap_or_default();
+            is_number(field.get(..dot).unwrap_or_default())
+                && behind.iter().all(|byte| byte.is_ascii_digit())
+        }
+        None => false,
+    }
+}
+
 /// Why a field is no number or no truth value. The last is told where nothing else is known of it.
 fn word_fault(field: &[u8], kind: ValueKind, last: FieldFault) -> FieldFault {
     let trimmed = field.trim_ascii();
@@ -86,6 +101,7 @@ impl FieldFault {
     pub fn of(field: &[u8], kind: ValueKind) -> FieldFault {
         match kind {
             ValueKind::Bigint if is_number(field) => FieldFault::OutOfRange,
+            ValueKind::Bigint if is_fraction(field) => FieldFault::Fraction,
             ValueKind::Bigint => word_fault(field, kind, FieldFault::NoBigint),
             ValueKind::Boolean => word_fault(field, kind, FieldFault::NoBoolean),
             ValueKind::Text => text_fault(field),

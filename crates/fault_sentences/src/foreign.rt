@@ -92,7 +92,7 @@ pub fn no_summary(alloc: Global, file: &[u8]) -> Result<String, AllocError> {
     }
     said.push_str("it does not begin with AGGSUM01 or AGGSUM02, as a summary does")?;
     if file.starts_with(b"batch,") {
-        said.push_str("; it is a batch file, and those stand behind IN")?;
+        said.push_str("; it is a batch file: feed it first, as agg_tool feed OUT IN BATCH")?;
     } else if file.starts_with(SUMMARY) {
         said.push_str("; it is a summary file of another version")?;
     } else if let Some(known) = known_by_front(file) {

@@ -72,7 +72,10 @@ const WORDS: [(&str, &str); 35] = [
     ),
     ("in", "there is no IN: write x = 1 OR x = 2"),
     ("between", "there is no BETWEEN: write x >= 1 AND x <= 9"),
-    ("limit", "there is no LIMIT: HAVING leaves groups out"),
+    (
+        "limit",
+        "there is no LIMIT: agg_tool answer .. | head, or HAVING leaves groups out",
+    ),
     ("offset", "there is no OFFSET: HAVING leaves groups out"),
     ("fetch", "there is no FETCH: HAVING leaves groups out"),
     (
@@ -95,7 +98,7 @@ const WORDS: [(&str, &str); 35] = [
     ("over", "there are no windows"),
     (
         "distinct",
-        "there is no DISTINCT: GROUP BY has each group once",
+        "there is no DISTINCT: GROUP BY x has each x once, so count the lines of the answer",
     ),
     (
         "case",
@@ -128,10 +131,7 @@ const WORDS: [(&str, &str); 35] = [
     ),
     ("--", "there are no comments"),
     ("#", "there are no comments"),
-    (
-        ".",
-        "no table's name stands before that of a column, and a number has no fraction",
-    ),
+    (".", "no table's name stands before that of a column"),
     ("\"", "a text stands in single quotes, and a name in none"),
     ("`", "a text stands in single quotes, and a name in none"),
     ("\u{2018}", "a text stands in plain single quotes"),
@@ -172,6 +172,20 @@ pub(crate) fn of_function(name: &str) -> Hint {
         None => Hint::Functions(None),
     }
 }
+
+/// What is said of what stands behind a column in the parentheses of a function.
+pub(crate) const ARGUMENT: &str =
+    "a function takes a column: use FILTER (WHERE ..), or let the rows have a boolean column";
+
+/// What is said of the dot of a fraction.
+pub(crate) const FRACTION: &str = "there are no fractions: keep cents, as 1250 for 12.50";
+
+/// What is said of a place in GROUP BY.
+pub(crate) const KEY_PLACE: &str = "GROUP BY takes names of columns, and no places";
+
+/// What is said of a call in ORDER BY.
+pub(crate) const CALL_TERM: &str =
+    "ORDER BY takes a place, as ORDER BY 2, or the name or alias of an item";
 
 /// What is said of a `*`, in the place of an item or elsewhere.
 pub(crate) fn of_star(is_item: bool) -> &'static str {

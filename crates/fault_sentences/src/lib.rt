@@ -28,4 +28,4 @@ pub use query::say_query;
 pub use quoted::{Plain, Quoted};
 pub use reason::Reason;
 pub use schema::say_schema;
-pub use script::{ScriptPlace, say_columns, say_limit, say_no_name, say_taken};
+pub use script::{ScriptPlace, say_columns, say_limit, say_taken};

@@ -16,6 +16,7 @@ use packed_rows::Schema;
 use query_checks::{is_same_call, label};
 use query_tokens::Token;
 use std::alloc::{AllocError, Global};
+use std::fmt;
 
 /// A query that was read from a text, and that a check refuses.
 #[derive(Drop)]
@@ -42,6 +43,30 @@ fn are_same(one: &Item<String>, other: &Item<String>) -> bool {
         (Item::Column(a), Item::Column(b)) => a == b,
         (Item::Call(a), Item::Call(b)) => is_same_call(a, b),
         _ => false,
+    }
+}
+
+/// An item as it is written, but for what its FILTER asks.
+#[derive(Clone, Copy)]
+struct Spelled<'q>(&'q Item<String>);
+
+impl fmt::Display for Spelled<'_> {
+    fn fmt<W: fmt::Write>(&self, f: &mut fmt::Formatter<W>) -> fmt::Result {
+        match self.0 {
+            Item::Column(name) => f.write_str(name.as_str()),
+            Item::Call(call) => {
+                let function = call.kind.name();
+                let argument = match &call.column {
+                    Some(name) => name.as_str(),
+                    None => "*",
+                };
+                write!(f, "{function}({argument})")?;
+                if call.filter.is_some() {
+                    f.write_str(" FILTER (WHERE ..)")?;
+                }
+                Ok(())
+            }
+        }
     }
 }
 
@@ -96,8 +121,41 @@ impl<'t> Refused<'t> {
         self.say_no_item()
     }
 
+    /// Says of a name that it is an item's, which HAVING and other parts don't see, and what is to be written; nothing where it is none.
+    fn say_alias(&self, mention: &Mention<'_>) -> Result<Option<String>, AllocError> {
+        let Some(found) = self
+            .query
+            .items
+            .iter()
+            .find(|item| has_name(*item, mention.name))
+        else {
+            return Ok(None);
+        };
+        let name = Quoted(mention.name.as_bytes());
+        let item = Spelled(&found.0);
+        let said = match (mention.role, &found.0) {
+            (Role::Having, _) => format!(in self.alloc;
+                "{name} names an item, which HAVING does not see: write {item}"
+            )?,
+            (Role::Condition, Item::Column(_)) => format!(in self.alloc;
+                "{name} names an item, which WHERE and FILTER do not see: write {item}"
+            )?,
+            (Role::Condition, Item::Call(_)) => format!(in self.alloc;
+                "{name} names an item, which WHERE and FILTER do not see: ask for {item} in HAVING"
+            )?,
+            (Role::Key, Item::Column(_)) => format!(in self.alloc;
+                "{name} names an item, and GROUP BY takes columns: write {item}"
+            )?,
+            _ => return Ok(None),
+        };
+        Ok(Some(said))
+    }
+
     /// Says of a name that it is no column's.
     fn say_name(&self, mention: &Mention<'_>, names: &[&str]) -> Result<Reason, AllocError> {
+        if let Some(said) = self.say_alias(mention)? {
+            return self.at(mention.at, said);
+        }
         let name = mention.name;
         let mut said = format!(in self.alloc; "{} is no column", Quoted(name.as_bytes()))?;
         if let Some(near) = nearest(self.alloc, name, names)? {
@@ -198,7 +256,7 @@ impl<'t> Refused<'t> {
     /// Says which column is not in GROUP BY.
     fn say_not_grouped(&self) -> Result<Option<Reason>, AllocError> {
         for mention in &self.tour.mentions {
-            if mention.role == Role::Outside && !self.is_key(mention.name) {
+            if matches!(mention.role, Role::Outside | Role::Having) && !self.is_key(mention.name) {
                 let shown = Quoted(mention.name.as_bytes());
                 let said = format!(in self.alloc;
                     "{shown} stands outside of calls, and is none of GROUP BY's columns: add it there, or put it into a call"

@@ -11,31 +11,48 @@ use std::alloc::{AllocError, Global};
 /// The kinds that there are, as a sentence has them.
 const KINDS: &str = "there are three kinds: bigint (or int8), boolean (or bool) and text";
 
+/// What serves for a number with a fraction.
+const FRACTIONS: &str = "there are no fractions: keep cents, in a bigint";
+
+/// What serves for a day or a time.
+const DAYS: &str = "take text: dates sort as text, as 2024-02-29";
+
 /// Other words for kinds, and what serves for each.
-const OTHER_KINDS: [(&str, &str); 16] = [
-    ("int", "bigint"),
-    ("int2", "bigint"),
-    ("int4", "bigint"),
-    ("integer", "bigint"),
-    ("smallint", "bigint"),
-    ("serial", "bigint"),
-    ("bigserial", "bigint"),
-    ("number", "bigint"),
-    ("varchar", "text"),
-    ("char", "text"),
-    ("character", "text"),
-    ("string", "text"),
-    ("uuid", "text"),
-    ("date", "text"),
-    ("timestamp", "text"),
-    ("logical", "boolean"),
+const OTHER_KINDS: [(&str, &str); 27] = [
+    ("int", "take bigint"),
+    ("int2", "take bigint"),
+    ("int4", "take bigint"),
+    ("integer", "take bigint"),
+    ("smallint", "take bigint"),
+    ("serial", "take bigint"),
+    ("bigserial", "take bigint"),
+    ("number", "take bigint"),
+    ("decimal", FRACTIONS),
+    ("numeric", FRACTIONS),
+    ("float", FRACTIONS),
+    ("float4", FRACTIONS),
+    ("float8", FRACTIONS),
+    ("double", FRACTIONS),
+    ("real", FRACTIONS),
+    ("money", FRACTIONS),
+    ("varchar", "take text"),
+    ("char", "take text"),
+    ("character", "take text"),
+    ("string", "take text"),
+    ("uuid", "take text"),
+    ("date", DAYS),
+    ("time", DAYS),
+    ("timestamp", DAYS),
+    ("timestamptz", DAYS),
+    ("datetime", DAYS),
+    ("logical", "take boolean"),
 ];
 
 /// What serves for a word that is no kind.
 fn kind_for(word: &str) -> Option<&'static str> {
-    for (other, kind) in &OTHER_KINDS {
+    for (other, said) in &OTHER_KINDS {
         if word == *other {
-            return Some(*kind);
+            return Some(*said);
         }
     }
     None
@@ -102,8 +119,8 @@ impl<'t> Columns<'t> {
         let name = self.names.last().copied().unwrap_or("");
         let shown = Quoted(word.as_bytes());
         let mut said = format!(in alloc; "column {column}, {name}: {shown} is no kind: {KINDS}")?;
-        if let Some(kind) = kind_for(word) {
-            write!(said, "; take {kind}")?;
+        if let Some(hint) = kind_for(word) {
+            write!(said, "; {hint}")?;
         }
         Ok(Some(said))
     }

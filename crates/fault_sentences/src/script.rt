@@ -16,6 +16,7 @@ use packed_rows::Schema;
 use script_commands::{Request, next_command};
 use script_io::{Records, read_limit, read_row_count};
 use std::alloc::{AllocError, Global};
+use std::collections::BTreeMap;
 use std::str;
 
 /// What a command has behind its word.
@@ -206,12 +207,34 @@ fn schema_in(alloc: Global, text: &[u8]) -> Result<Option<Schema>, AllocError> {
     Ok(None)
 }
 
-/// How far a script was gone through: a command that begins a line, and the columns that were told before it.
+/// Keeps the names of replicas that the commands of a text make, where they are done.
+fn gather_names(
+    alloc: Global,
+    text: &[u8],
+    names: &mut BTreeMap<String, ()>,
+) -> Result<(), AllocError> {
+    let mut records = Records::new(alloc, text);
+    for _ in 0..u64::MAX {
+        let Some(command) = next_command(&mut records)? else {
+            break;
+        };
+        if let Request::Replica(name) | Request::Load { name, .. } = command.request() {
+            let name = String::from_str(alloc, str::from_utf8(name).unwrap_or(""))?;
+            names.insert(name, ())?;
+        }
+        records.skip(command.owned())?;
+    }
+    Ok(())
+}
+
+/// How far a script was gone through: a command that begins a line, the columns that were told before it, and the replicas that there
+/// may be.
 #[derive(Drop)]
 pub struct ScriptPlace {
     at: usize,
     line: u64,
     schema: Option<Schema>,
+    names: Option<BTreeMap<String, ()>>,
 }
 
 impl ScriptPlace {
@@ -221,6 +244,7 @@ impl ScriptPlace {
             at: 0,
             line: 1,
             schema: None,
+            names: None,
         }
     }
 
@@ -243,13 +267,60 @@ impl ScriptPlace {
     /// Goes on to the command that begins a line, which is no line before.
     pub fn go_to(&mut self, alloc: Global, script: &[u8], line: u64) -> Result<(), AllocError> {
         let at = self.begin_of(script, line);
+        let passed = script.get(self.at..at).unwrap_or_default();
         if self.schema.is_none() {
-            let passed = script.get(self.at..at).unwrap_or_default();
             self.schema = schema_in(alloc, passed)?;
         }
+        self.pass_names(alloc, passed)?;
         self.at = at;
         self.line = line;
         Ok(())
+    }
+
+    /// Keeps the names of replicas that the commands of a text make.
+    fn pass_names(&mut self, alloc: Global, passed: &[u8]) -> Result<(), AllocError> {
+        if !has_word(passed, b"replica") && !has_word(passed, b"load") {
+            return Ok(());
+        }
+        if self.names.is_none() {
+            self.names = Some(BTreeMap::new(alloc));
+        }
+        match &mut self.names {
+            Some(names) => gather_names(alloc, passed, names),
+            None => Ok(()),
+        }
+    }
+
+    /// Whether there is no replica of a name. Where it is not known, there may be one.
+    fn is_missing(&self, name: &[u8]) -> bool {
+        match (&self.names, str::from_utf8(name)) {
+            (Some(names), Ok(name)) => !names.contains_key(name),
+            _ => true,
+        }
+    }
+
+    /// Says of which name of a merge there is no replica: of one, of both, or of one of both.
+    fn say_no_side(&self, alloc: Global, into: &[u8], from: &[u8]) -> Result<String, AllocError> {
+        let (one, other) = (Quoted(into), Quoted(from));
+        match (self.is_missing(into), self.is_missing(from)) {
+            (true, true) if into != from => {
+                format!(in alloc; "there is no replica {one}, and no replica {other}")
+            }
+            (true, _) => format!(in alloc; "there is no replica {one}"),
+            (false, true) => format!(in alloc; "there is no replica {other}"),
+            (false, false) => format!(in alloc; "there is no replica {one}, or no replica {other}"),
+        }
+    }
+
+    /// Says of which name of a command here there is no replica, or nothing saved.
+    pub fn say_no_name(&self, alloc: Global, record: &ByteRecord) -> Result<String, AllocError> {
+        let name = record.get(1).unwrap_or_default();
+        let other = record.get(2).unwrap_or_default();
+        match record.get(0).unwrap_or_default() {
+            b"load" => format!(in alloc; "nothing is saved under {}", Quoted(other)),
+            b"merge" => self.say_no_side(alloc, name, other),
+            _ => format!(in alloc; "there is no replica {}", Quoted(name)),
+        }
     }
 
     /// Says why a command here is none, or none at this place.
@@ -299,20 +370,6 @@ pub fn say_columns(alloc: Global, record: &ByteRecord) -> Result<Option<Reason>,
         Ok(text) => Ok(Some(say_schema(alloc, text)?)),
         Err(_) => Ok(None),
     }
-}
-
-/// Says of which name of a command there is no replica, or nothing saved.
-pub fn say_no_name(alloc: Global, record: &ByteRecord) -> Result<String, AllocError> {
-    let name = Quoted(record.get(1).unwrap_or_default());
-    let other = Quoted(record.get(2).unwrap_or_default());
-    let word = record.get(0).unwrap_or_default();
-    if word == b"load".as_slice() {
-        return format!(in alloc; "nothing is saved under {other}");
-    }
-    if word == b"merge".as_slice() {
-        return format!(in alloc; "there is no replica {name}, or no replica {other}");
-    }
-    format!(in alloc; "there is no replica {name}")
 }
 
 /// Says of which name of a command there is a replica already.

@@ -1,13 +1,13 @@
 //! Which token a query has in the wrong place, and what may stand there.
 
-use crate::hints::{Hint, of_function, of_star, of_word};
+use crate::hints::{ARGUMENT, CALL_TERM, FRACTION, Hint, KEY_PLACE, of_function, of_star, of_word};
 use crate::places::{Lexed, Sign, piece_at, sign_of, tokens_before};
 use crate::quoted::Quoted;
 use crate::reason::Reason;
 use crate::wanted::{begins, goes_on, wanted};
 use grouping_model::limits::MAX_NAME_LEN;
 use having_filter::Comparison;
-use query_tokens::{Token, is_reserved};
+use query_tokens::{Symbol, Token, is_reserved};
 use std::alloc::{AllocError, Global};
 
 /// What is wrong with a piece that is no token, if that is known.
@@ -35,9 +35,7 @@ fn hint_of_parenthesis(
     last: &Token,
 ) -> Result<Option<Hint>, AllocError> {
     if goes_on(alloc, front, "ASC")? {
-        return Ok(Some(Hint::Said(
-            "ORDER BY takes the name or the place of an item, as ORDER BY 2",
-        )));
+        return Ok(Some(Hint::Said(CALL_TERM)));
     }
     let Sign::Name(name) = sign_of(last) else {
         return Ok(None);
@@ -47,6 +45,38 @@ fn hint_of_parenthesis(
         return Ok(Some(of_function(name)));
     }
     Ok(of_word(name).map(Hint::Said))
+}
+
+/// Whether tokens end with the name of a function, a parenthesis and the name of a column.
+fn ends_with_argument(tokens: &[Token]) -> bool {
+    match tokens {
+        [.., function, open, column] => {
+            matches!(sign_of(function), Sign::Name(name) if !is_reserved(name))
+                && matches!(sign_of(open), Sign::Symbol(Symbol::Open))
+                && matches!(sign_of(column), Sign::Name(name) if !is_reserved(name) && of_word(name).is_none())
+        }
+        _ => false,
+    }
+}
+
+/// What serves in the place of a piece behind these tokens, by these and by what may stand there.
+fn hint_of_place(
+    alloc: Global,
+    front: &str,
+    tokens: &[Token],
+    piece: &str,
+) -> Result<Option<Hint>, AllocError> {
+    let is_number = piece.bytes().all(|byte| byte.is_ascii_digit()) && !piece.is_empty();
+    if is_number && goes_on(alloc, front, "x HAVING TRUE")? {
+        return Ok(Some(Hint::Said(KEY_PLACE)));
+    }
+    if piece == "." && matches!(tokens.last().map(sign_of), Some(Sign::Integer)) {
+        return Ok(Some(Hint::Said(FRACTION)));
+    }
+    if ends_with_argument(tokens) && of_word(piece).is_none() && piece != "(" {
+        return Ok(Some(Hint::Said(ARGUMENT)));
+    }
+    Ok(None)
 }
 
 /// What serves in the place of a piece behind a front that ends with this token.
@@ -76,6 +106,9 @@ fn hint_behind(
 /// What serves in the place of a piece behind a front.
 fn hint_for(alloc: Global, front: &str, piece: &str) -> Result<Option<Hint>, AllocError> {
     let tokens = tokens_before(alloc, front, front.len())?;
+    if let Some(hint) = hint_of_place(alloc, front, &tokens, piece)? {
+        return Ok(Some(hint));
+    }
     match tokens.last() {
         Some(last) => hint_behind(alloc, front, last, piece),
         None => Ok(of_word(piece).map(Hint::Said)),

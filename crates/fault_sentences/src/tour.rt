@@ -10,8 +10,10 @@ use std::alloc::{AllocError, Global};
 /// Where a column is named.
 #[derive(Clone, Copy, PartialEq, Eq)]
 pub(crate) enum Role {
-    /// As an item, or in HAVING, outside of calls.
+    /// As an item.
     Outside,
+    /// In HAVING, outside of calls.
+    Having,
     /// In WHERE or a FILTER.
     Condition,
     /// As an argument.
@@ -109,7 +111,7 @@ impl<'q> Tour<'q> {
         tour.items(&query.items)?;
         tour.clause(&query.condition, Asker::Where, Role::Condition)?;
         tour.keys(&query.keys)?;
-        tour.clause(&query.having, Asker::Having, Role::Outside)?;
+        tour.clause(&query.having, Asker::Having, Role::Having)?;
         tour.order(query.order.len())?;
         Ok(tour)
     }

@@ -1,4 +1,4 @@
-//! How far a command is, and what became of OUT.
+//! How far a command is, and what it took.
 
 use fault_sentences::Plain;
 use replies::{Reply, put_reply};
@@ -48,31 +48,6 @@ impl fmt::Display for PassedOver<'_> {
             f,
             "{out}: written, with {passed} of {files} files passed over"
         )
-    }
-}
-
-/// That a file is there in the place of OUT which is none of those that are read.
-#[derive(Clone, Copy)]
-pub struct Standing<'p> {
-    pub out: &'p str,
-    /// Whether the command was told not to replace it.
-    pub is_kept: bool,
-}
-
-impl fmt::Display for Standing<'_> {
-    fn fmt<W: fmt::Write>(&self, f: &mut fmt::Formatter<W>) -> fmt::Result {
-        let out = Plain(self.out);
-        if self.is_kept {
-            write!(
-                f,
-                "{out}: it is there, and is none of the files read: --no-clobber keeps it, and nothing is read or written"
-            )
-        } else {
-            write!(
-                f,
-                "{out}: it is there, and is none of the files read: it is to be replaced"
-            )
-        }
     }
 }
 

@@ -1,7 +1,7 @@
 //! Why a command's files and texts are refused, said of their bytes.
 
 use fault_sentences::{
-    BatchText, Plain, Reason, no_summary, say_disagreement, say_query, say_schema,
+    BatchText, Plain, Quoted, Reason, no_summary, say_disagreement, say_query, say_schema,
 };
 use packed_rows::Schema;
 use replica_merge::{Replica, SummaryError};
@@ -173,6 +173,49 @@ pub fn saving_reason(
     }
     let len = replica.save()?.len();
     let said = format!(in alloc; "more than 67,108,864 bytes: it would have {len}")?;
+    Ok(Some(Reason::whole(alloc, said)))
+}
+
+/// Suffixes of a number of bytes, and how many bytes one of them is.
+const SUFFIXES: [(&str, u64); 6] = [
+    ("k", 1024),
+    ("K", 1024),
+    ("m", 1_048_576),
+    ("M", 1_048_576),
+    ("g", 1_073_741_824),
+    ("G", 1_073_741_824),
+];
+
+/// How many bytes a number with a suffix is, as 64k.
+fn bytes_of(text: &str) -> Option<u64> {
+    for (suffix, bytes) in &SUFFIXES {
+        if let Some(digits) = text.strip_suffix(suffix) {
+            return match digits.parse::<u64>() {
+                Ok(number) => number.checked_mul(*bytes),
+                Err(_) => None,
+            };
+        }
+    }
+    None
+}
+
+/// Says why the text of a limit is no number of bytes, and what is to be written for one with a suffix.
+pub fn limit_reason(alloc: Global, text: &str) -> Result<String, AllocError> {
+    let given = Quoted(text.as_bytes());
+    match bytes_of(text) {
+        Some(bytes) => format!(in alloc;
+            "{given}: a number of bytes has 1 to 19 digits and no suffix: write {bytes}"
+        ),
+        None => format!(in alloc; "{given}: a number of bytes has 1 to 19 digits"),
+    }
+}
+
+/// Says that OUT is not written, since another command wrote it meanwhile.
+pub fn replaced_reason(alloc: Global, out: &str) -> Result<Option<Reason>, AllocError> {
+    let out = Plain(out);
+    let said = format!(in alloc;
+        "{out} was replaced by another command meanwhile: run this one again"
+    )?;
     Ok(Some(Reason::whole(alloc, said)))
 }
 

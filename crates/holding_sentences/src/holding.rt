@@ -1,5 +1,6 @@
 //! What a summary holds, and what its answer is made of.
 
+use crate::waiting::Missing;
 use fault_sentences::Plain;
 use having_filter::Query;
 use origin_prefix::OriginPart;
@@ -28,28 +29,6 @@ struct Holding<'h> {
     early: &'h [u32],
 }
 
-/// Writes the numbers that are missing below the last early one, of which a row is told by its ends.
-fn write_missing<W: fmt::Write>(
-    upto: u32,
-    early: &[u32],
-    f: &mut fmt::Formatter<W>,
-) -> fmt::Result {
-    let mut next = upto.saturating_add(1);
-    let mut word = " missing";
-    for number in early {
-        let last = number.saturating_sub(1);
-        if next < last {
-            write!(f, "{word} {next}-{last}")?;
-            word = "";
-        } else if next == last {
-            write!(f, "{word} {next}")?;
-            word = "";
-        }
-        next = number.saturating_add(1);
-    }
-    Ok(())
-}
-
 impl fmt::Display for Holding<'_> {
     fn fmt<W: fmt::Write>(&self, f: &mut fmt::Formatter<W>) -> fmt::Result {
         let (origin, upto, groups, bytes) = (self.origin, self.upto, self.groups, self.bytes);
@@ -58,7 +37,11 @@ impl fmt::Display for Holding<'_> {
             f,
             "origin {origin} upto {upto} groups {groups} early {early} bytes {bytes}"
         )?;
-        write_missing(upto, self.early, f)
+        if self.early.is_empty() {
+            return Ok(());
+        }
+        let missing = Missing::all(upto, self.early);
+        write!(f, " missing {missing}")
     }
 }
 

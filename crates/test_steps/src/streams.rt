@@ -19,6 +19,8 @@ pub enum Kind {
     Barred,
     /// The same, and both are terminals.
     Terminal,
+    /// The same, and standard error alone is a terminal.
+    Watched,
 }
 
 impl Kind {
@@ -31,18 +33,24 @@ impl Kind {
             "closed" => Some(Kind::Closed),
             "barred" => Some(Kind::Barred),
             "terminal" => Some(Kind::Terminal),
+            "watched" => Some(Kind::Watched),
             _ => None,
         }
     }
 
-    /// Whether standard output and standard error are terminals.
-    pub fn are_terminals(self) -> bool {
+    /// Whether standard output is a terminal.
+    pub fn has_terminal_output(self) -> bool {
         matches!(self, Kind::Terminal)
+    }
+
+    /// Whether standard error is a terminal.
+    pub fn has_terminal_errors(self) -> bool {
+        matches!(self, Kind::Terminal | Kind::Watched)
     }
 
     /// Whether a bar stands before each write.
     fn has_bars(self) -> bool {
-        matches!(self, Kind::Barred | Kind::Terminal)
+        matches!(self, Kind::Barred | Kind::Terminal | Kind::Watched)
     }
 }
 

@@ -22,10 +22,9 @@ fn run(rt: &HostRuntime, kind: Kind, told: &str, input: &[u8]) -> Result<Ended, 
     let mut reader = Input::new(kind, input);
     let mut output = Output::new(alloc, kind);
     let mut errors = Output::errors(alloc, kind);
-    let is_terminal = kind.are_terminals();
     let terminals = Terminals {
-        output: is_terminal,
-        errors: is_terminal,
+        output: kind.has_terminal_output(),
+        errors: kind.has_terminal_errors(),
     };
     let status = command(rt, &words, &mut reader, &mut output, &mut errors, terminals);
     Ok(Ended {

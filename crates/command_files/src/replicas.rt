@@ -1,0 +1,94 @@
+//! The replica that a command begins with, what a file brings to it, and its summary file.
+
+ghost use Rattle.std.specs.Prelude.{IfOk, IfErr};
+ghost use Rattle.summary_codec.specs.Reading.{IsSaved};
+ghost use Rattle.command_replicas.specs.Commands.{IsTooLong};
+ghost use Rattle.command_files.specs.Taking.{Takes};
+
+use crate::files::read;
+use clap::ArgMatches;
+use command_replicas::SummaryFile;
+use command_streams::Problem;
+use command_words::{COLUMNS, QUERY, value};
+use file_sentences::{FileKind, columns_reason, query_reason, saving_reason, summary_reason};
+use hash_agg::{Fnv1a, Means, TapeDisk, Work};
+use replica_merge::Replica;
+use replies::{Refusal, Reply};
+use std::alloc::Global;
+use std::rt::Files;
+
+/// The replica that a file is the summary of, and the bytes of that.
+pub(crate) fn open_replica<'p, R: Files + AllocGlobal>(
+    rt: &R,
+    path: &'p str,
+) -> Result<(Replica, Vec<u8>), Problem<'p>> {
+    let file = read(rt, path)?;
+    match command_replicas::load(rt.alloc(), &file) {
+        Ok(replica) => Ok((replica, file)),
+        Err(why) => {
+            let reason = summary_reason(rt.alloc(), &file, why);
+            Err(Problem::because(path, why, reason))
+        }
+    }
+}
+
+/// The replica of the texts of a command line, which knows nothing.
+pub(crate) fn new_replica<'p>(
+    alloc: Global,
+    matches: &ArgMatches<'p>,
+) -> Result<Replica, Problem<'p>> {
+    let (columns, query) = (value(matches, COLUMNS), value(matches, QUERY));
+    match command_replicas::create(alloc, columns, query) {
+        Ok(replica) => Ok(replica),
+        Err(Refusal::BadSchema) => {
+            let reason = columns_reason(alloc, columns);
+            Err(Problem::because("--columns", Refusal::BadSchema, reason))
+        }
+        Err(why) => {
+            let reason = query_reason(alloc, columns, query, why);
+            Err(Problem::because("--query", why, reason))
+        }
+    }
+}
+
+/// Takes the bytes of a file into a replica, and gives the reply: its batch is fed, or the replica of its summary is merged.
+pub(crate) fn take<D: TapeDisk>(
+    alloc: Global,
+    kind: FileKind,
+    replica: &mut Replica,
+    file: &[u8],
+    means: &Means<Fnv1a>,
+    disk: &mut D,
+    work: &mut Work,
+) -> Result<Reply<'static>, Refusal>
+    ensures { Takes kind (D.honest disk.old) file.now replica.old replica.new result }
+{
+    match kind {
+        FileKind::Batch => {
+            let delivered = command_replicas::feed(alloc, replica, file, means, disk, work)?;
+            Ok(Reply::Delivered(delivered))
+        }
+        FileKind::Summary => {
+            command_replicas::merge(alloc, replica, file, means, disk, work)?;
+            Ok(Reply::Merged)
+        }
+    }
+}
+
+/// The summary file of a replica, which is to be written at a path.
+pub(crate) fn summary_of<'p>(
+    alloc: Global,
+    replica: &Replica,
+    path: &'p str,
+) -> Result<SummaryFile, Problem<'p>>
+    ensures summary { IfOk result (λ file. IsSaved file replica.now.query replica.now.parts) }
+    ensures why { IfErr result (λ problem. IsTooLong replica.now problem.why) }
+{
+    match command_replicas::save(replica) {
+        Ok(file) => Ok(file),
+        Err(why) => {
+            let reason = saving_reason(alloc, replica, why);
+            Err(Problem::because(path, why, reason))
+        }
+    }
+}

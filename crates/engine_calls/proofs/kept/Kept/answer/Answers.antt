@@ -1,0 +1,19 @@
+use Rattle.std.specs.Prelude.{◌≡◌, refl}
+use Rattle.std.proofs.Common.{ap}
+use Rattle.replies.specs.declared.refusal.Refusal.TheVariants.{NoMemory}
+use Rattle.engine.specs.Calls.{IsTableOf}
+use Rattle.engine_calls.specs.Calls.{ForMemory}
+use Rattle.engine_calls.specs.Keeping.{KeptState}
+use Rattle.engine_calls.proofs.KeptLaws.{asked, refused}
+use Rattle.engine_calls.proofs.kept.Kept.answer.Goals as goal
+
+pub returns-in-Err-clause-asks : goal.returns-in-Err-clause-asks
+returns-in-Err-clause-asks c =
+    refused (λ held text rows. IsTableOf c.args.format held rows text) ForMemory c.in-Some.session c.args.self.now.session c.self.inside.session c.in-Some.is
+    (ap (λ (k : KeptState). k.session) c.self.view_is) c.refuse.new.self.told c.refuse.new.self.session NoMemory c.refuse.result
+    (ap (λ (k : KeptState). k.session) c.refuse.ensures.same) refl c.refuse.ensures.status
+
+pub returns-clause-asks : goal.returns-clause-asks
+returns-clause-asks c =
+    asked (λ held text rows. IsTableOf c.args.format held rows text) ForMemory c.in-Some.session c.args.self.now.session c.self.inside.session c.in-Some.is
+    (ap (λ (k : KeptState). k.session) c.self.view_is) c.in-Ok.found.1.items c.in-Ok.found.0 c.in-Ok.ensures

@@ -1,0 +1,18 @@
+use Rattle.std.specs.Prelude.{◌≡◌, refl}
+use Rattle.std.proofs.Common.{ap}
+use Rattle.command_replicas.specs.Commands.{IsTooLong}
+use Rattle.engine.specs.Calls.{IsFileOf}
+use Rattle.engine_calls.specs.Keeping.{KeptState}
+use Rattle.engine_calls.proofs.KeptLaws.{asked, refused}
+use Rattle.engine_calls.proofs.kept.Kept.save.Goals as goal
+
+pub returns-in-Err-clause-asks : goal.returns-in-Err-clause-asks
+returns-in-Err-clause-asks c =
+    refused (λ held file x. IsFileOf held file) IsTooLong c.in-Some.session c.args.self.now.session c.self.inside.session c.in-Some.is
+    (ap (λ (k : KeptState). k.session) c.self.view_is) c.refuse.new.self.told c.refuse.new.self.session c.in-Err.why c.refuse.result
+    (ap (λ (k : KeptState). k.session) c.refuse.ensures.same) c.in-Err.ensures.why c.refuse.ensures.status
+
+pub returns-clause-asks : goal.returns-clause-asks
+returns-clause-asks c =
+    asked (λ held file x. IsFileOf held file) IsTooLong c.in-Some.session c.args.self.now.session c.self.inside.session c.in-Some.is
+    (ap (λ (k : KeptState). k.session) c.self.view_is) c.in-Ok.file.items tt c.in-Ok.ensures.file

@@ -1,0 +1,48 @@
+//! What a file has.
+
+ghost use Rattle.std.specs.Prelude.{◌≡◌, ◌≤◌, IfOk, length, true, false};
+ghost use Rattle.out_files.specs.Reading.{GaveAll, HadOthers};
+
+use std::fs::File;
+use std::io::Read;
+use std::rt::Files;
+use std::{fs, io};
+
+/// How many bytes one call of `read` is asked for.
+const CHUNK_BYTES: usize = 8192;
+
+/// Whether a reader gives these bytes, and no more.
+pub fn gives<F: Read>(reader: &mut F, bytes: &[u8]) -> io::Result<bool>
+    ensures same { IfOk result (λ same. same ≡ true → GaveAll (F.remaining reader.old) (F.remaining reader.new) bytes.now) }
+    ensures other { IfOk result (λ same. same ≡ false → HadOthers (F.remaining reader.old) bytes.now) }
+{
+    let mut chunk = [0u8; CHUNK_BYTES];
+    let mut left = bytes;
+    loop {
+        let count = reader.read(&mut chunk)?;
+        if count == 0 {
+            return Ok(left.is_empty());
+        }
+        match left.strip_prefix(&chunk[..count]) {
+            Some(rest) => left = rest,
+            None => return Ok(false),
+        }
+    }
+}
+
+/// Whether the file of a path has these bytes. One that is not there has none.
+pub(crate) fn has_bytes<R: Files>(rt: &R, path: &str, bytes: &[u8]) -> io::Result<bool> {
+    match fs::open(rt, path) {
+        Ok(mut file) => gives(&mut file, bytes),
+        Err(error) if error.kind() == io::ErrorKind::NotFound => Ok(false),
+        Err(error) => Err(error),
+    }
+}
+
+/// Reads the first bytes of a file, by one call of `read`, and answers how many it gave.
+pub fn front_of<R: Files>(rt: &R, path: &str, front: &mut [u8]) -> io::Result<usize>
+    ensures bound { IfOk result (λ count. count ≤ length front.new) }
+{
+    let mut file: R::File = File::open(rt, path)?;
+    file.read(front)
+}

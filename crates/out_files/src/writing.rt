@@ -1,0 +1,241 @@
+//! Writes files.
+
+use crate::beside::create_beside;
+use crate::reading::has_bytes;
+use crate::trial::{Place, open_over};
+use std::fs::{File, OpenFile, OpenOptions};
+use std::io::{ErrorKind, Write};
+use std::rt::Files;
+use std::{fs, io};
+
+/// Why a file was not written.
+#[derive(Clone, Copy)]
+pub enum Unwritten {
+    /// Other bytes stand there by now than those that were to be replaced.
+    Changed,
+    /// The system could not do it.
+    Failed(io::Error),
+}
+
+impl From<io::Error> for Unwritten {
+    fn from(cause: io::Error) -> Unwritten {
+        Unwritten::Failed(cause)
+    }
+}
+
+/// Writes bytes to an opened file, and waits until the system has them on its disk.
+fn fill<F: Write + OpenFile>(file: &mut F, bytes: &[u8]) -> io::Result<()> {
+    file.write_all(bytes)?;
+    file.sync_all()
+}
+
+/// Refuses to go on where the file of a path has other bytes than old ones, if these are known.
+fn keep_others<R: Files>(rt: &R, path: &str, old: Option<&[u8]>) -> Result<(), Unwritten> {
+    match old {
+        Some(bytes) if !has_bytes(rt, path, bytes)? => Err(Unwritten::Changed),
+        _ => Ok(()),
+    }
+}
+
+/// Whether the system does not let a file take a place, though it may let the one be written over that stands there: it is another user's
+/// in a folder where each may move his own alone, or a file system is mounted on it.
+fn is_unmovable(error: io::Error) -> bool {
+    matches!(
+        error.kind(),
+        ErrorKind::PermissionDenied | ErrorKind::ResourceBusy
+    )
+}
+
+/// Fills a new file for the place of the one of a path, or of none, and gives it that place. The answer is whether it took it: where the
+/// system does not let it, the path has what it had.
+fn put_in_place<R: Files>(
+    rt: &R,
+    file: &mut R::File,
+    beside: &str,
+    path: &str,
+    bytes: &[u8],
+    old: Option<&[u8]>,
+) -> Result<bool, Unwritten> {
+    if let Ok(found) = fs::metadata(rt, path) {
+        file.set_permissions(found.permissions())?;
+    }
+    fill(file, bytes)?;
+    // It is looked at last, so that little time is left in which another command could replace it.
+    keep_others(rt, path, old)?;
+    match fs::rename(rt, beside, path) {
+        Ok(()) => Ok(true),
+        Err(error) if is_unmovable(error) => Ok(false),
+        Err(error) => Err(Unwritten::Failed(error)),
+    }
+}
+
+/// Writes a file over, where no new one can take its place. What a crash or a full disk leaves may be neither the old bytes nor the new
+/// ones.
+fn write_over<R: Files>(
+    rt: &R,
+    path: &str,
+    bytes: &[u8],
+    old: Option<&[u8]>,
+) -> Result<Place, Unwritten> {
+    let mut file = open_over(rt, path)?;
+    keep_others(rt, path, old)?;
+    file.write_all(bytes)?;
+    file.set_len(bytes.len() as u64)?;
+    file.sync_all()?;
+    Ok(Place::Over)
+}
+
+/// Replaces a file at once: whoever reads it, or comes after a crash, finds the old bytes or the new ones. Only where its folder takes no
+/// new file, or does not let it take the place of one that is there, that is written over.
+fn replace<R: Files + AllocGlobal>(
+    rt: &R,
+    path: &str,
+    bytes: &[u8],
+    old: Option<&[u8]>,
+) -> Result<Place, Unwritten> {
+    let (beside, mut file) = match create_beside(rt, path) {
+        Ok(made) => made,
+        Err(error) if error.kind() == ErrorKind::PermissionDenied => {
+            return write_over(rt, path, bytes, old);
+        }
+        Err(error) => return Err(Unwritten::Failed(error)),
+    };
+    let put = put_in_place(rt, &mut file, &beside, path, bytes, old);
+    if let Ok(true) = put {
+        return Ok(Place::Beside);
+    }
+    let _ = fs::remove_file(rt, beside.as_str());
+    match put {
+        Ok(_) => write_over(rt, path, bytes, old),
+        Err(why) => Err(why),
+    }
+}
+
+/// Makes a file where its file system has no links: nothing that is there is replaced, but whoever looks for it meanwhile may find a part.
+fn make_in_parts<R: Files>(rt: &R, path: &str, bytes: &[u8]) -> io::Result<()> {
+    let mut file = File::create_new(rt, path)?;
+    let made = fill(&mut file, bytes);
+    if made.is_err() {
+        let _ = fs::remove_file(rt, path);
+    }
+    made
+}
+
+/// Gives a file that was written the name of a path, under which nothing may be by then, which a renaming would replace.
+fn name_new<R: Files>(rt: &R, beside: &str, path: &str, bytes: &[u8]) -> io::Result<()> {
+    match fs::hard_link(rt, beside, path) {
+        Err(error)
+            if matches!(
+                error.kind(),
+                ErrorKind::Unsupported | ErrorKind::PermissionDenied
+            ) => make_in_parts(rt, path, bytes),
+        named => named,
+    }
+}
+
+/// Makes a file at once: whoever looks for it, or comes after a crash, finds all of it or none.
+fn make<R: Files + AllocGlobal>(rt: &R, path: &str, bytes: &[u8]) -> io::Result<()> {
+    let (beside, mut file) = create_beside(rt, path)?;
+    let made = match fill(&mut file, bytes) {
+        Ok(()) => name_new(rt, beside.as_str(), path, bytes),
+        Err(error) => Err(error),
+    };
+    let _ = fs::remove_file(rt, beside.as_str());
+    made
+}
+
+/// Writes to a device or a pipe.
+fn write_to<R: Files>(rt: &R, path: &str, bytes: &[u8]) -> Result<Place, Unwritten> {
+    fs::write(rt, path, bytes)?;
+    Ok(Place::Device)
+}
+
+/// Writes the file of a path that is no link: a regular file is replaced at once, or made, and a device or a pipe written to.
+fn write_at<R: Files + AllocGlobal>(
+    rt: &R,
+    path: &str,
+    bytes: &[u8],
+    old: Option<&[u8]>,
+) -> Result<Place, Unwritten> {
+    match fs::metadata(rt, path) {
+        Ok(found) if !found.is_file() => write_to(rt, path, bytes),
+        _ => replace(rt, path, bytes, old),
+    }
+}
+
+/// Makes the file that a link leads to, and that is not there yet.
+fn write_new<R: Files>(rt: &R, link: &str, bytes: &[u8]) -> Result<Place, Unwritten> {
+    fs::write(rt, link, bytes)?;
+    Ok(Place::Beside)
+}
+
+/// Writes the file that a link leads to. Where its path can't be found out, the link is refused, and never written through: so the file is
+/// replaced at once, or stays.
+fn write_through<R: Files + AllocGlobal>(
+    rt: &R,
+    link: &str,
+    bytes: &[u8],
+    old: Option<&[u8]>,
+) -> Result<Place, Unwritten> {
+    match fs::canonicalize(rt, link) {
+        Ok(target) => write_at(rt, target.as_str(), bytes, old),
+        Err(error) if error.kind() == ErrorKind::NotFound => write_new(rt, link, bytes),
+        Err(error) => Err(Unwritten::Failed(error)),
+    }
+}
+
+/// Writes a file. One that is there is replaced at once, or, where it is a device or a pipe, written to; where it is a link, so is the file
+/// that it leads to. Where the old bytes of the file are told, and others stand there by now, or none, these stay. The answer is how it was
+/// written: it is written over only where no new file can take its place.
+pub fn write_file<R: Files + AllocGlobal>(
+    rt: &R,
+    path: &str,
+    bytes: &[u8],
+    old: Option<&[u8]>,
+) -> Result<Place, Unwritten> {
+    match fs::symlink_metadata(rt, path) {
+        Ok(found) if found.is_symlink() => write_through(rt, path, bytes, old),
+        _ => write_at(rt, path, bytes, old),
+    }
+}
+
+/// Makes the file that a link leads to. One that is there by then stays.
+fn make_through<R: Files + AllocGlobal>(rt: &R, link: &str, bytes: &[u8]) -> io::Result<()> {
+    match fs::canonicalize(rt, link) {
+        Ok(_) => Err(io::Error::from(ErrorKind::AlreadyExists)),
+        Err(error) if error.kind() == ErrorKind::NotFound => fs::write(rt, link, bytes),
+        Err(error) => Err(error),
+    }
+}
+
+/// Writes a file where none was. One that is there by then stays, and the error is `AlreadyExists`; where a link leads nowhere, the file is
+/// made to which it leads.
+pub fn write_new_file<R: Files + AllocGlobal>(
+    rt: &R,
+    path: &str,
+    bytes: &[u8],
+) -> Result<(), Unwritten> {
+    match fs::symlink_metadata(rt, path) {
+        Ok(found) if found.is_symlink() => Ok(make_through(rt, path, bytes)?),
+        _ => Ok(make(rt, path, bytes)?),
+    }
+}
+
+/// How many bytes are tried to be written behind a file.
+const PAGE_BYTES: usize = 8192;
+
+/// Writes a page behind a file, and takes it away again.
+fn append_page<R: Files>(rt: &R, path: &str) -> io::Result<()> {
+    let length = fs::metadata(rt, path)?.len();
+    let mut options = OpenOptions::new();
+    options.append(true);
+    let mut file = options.open(rt, path)?;
+    let written = fill(&mut file, &[0u8; PAGE_BYTES]);
+    file.set_len(length)?;
+    written
+}
+
+/// Why a page can't be written behind a file, where it can't. The file has what it had.
+pub fn append_fault<R: Files>(rt: &R, path: &str) -> Option<io::Error> {
+    append_page(rt, path).err()
+}
