@@ -133,7 +133,7 @@ fn pack<'p, R: Files + AllocGlobal, I: Read>(
 
 /// Ends a command that stopped.
 fn stop<W: Write, E: Write>(problem: Problem<'_>, streams: &mut Streams<'_, W, E>) -> ExitKind
-    ensures { EndsRefused problem.why result }
+    ensures { EndsRefused problem.entry.why result }
 {
     if !problem.is_unread() {
         streams.say(&problem);
