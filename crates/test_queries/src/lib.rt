@@ -1,6 +1,6 @@
-//! Tests of tokens, values, packed rows, rows that lie on end, batch files and the aggregate functions; of queries by what they tell of
-//! themselves, and of answers; by their crates' public calls alone. What queries answer, and why texts are refused, is tested by scripts.
-//! A test goes through the lines of a table: a case, and what is wanted of it behind ` => `.
+//! Tests of tokens, values, packed rows, rows that lie on end, batch files, plain files and the aggregate functions; of queries by
+//! what they tell of themselves, and of answers; by their crates' public calls alone. What queries answer, and why texts are refused,
+//! is tested by scripts. A test goes through the lines of a table: a case, and what is wanted of it behind ` => `.
 #![tactic(auto)]
 
 #[cfg(test)]
@@ -15,6 +15,8 @@ mod files;
 mod longest;
 #[cfg(test)]
 mod orders;
+#[cfg(test)]
+mod plain;
 #[cfg(test)]
 mod queries;
 #[cfg(test)]
