@@ -21,7 +21,7 @@ use file_sentences::{
 use hash_agg::{Fnv1a, Means, Work};
 use holding_sentences::{answer_line, holding_lines, waiting_lines};
 use replica_merge::{Delivered, Replica};
-use replies::{ExitKind, Format, Refusal, Reply, origin_lines, put_reply, table};
+use replies::{ExitKind, Format, KnownFormat, Refusal, Reply, known_table, put_reply, table};
 use script_io::put_all;
 use spill_tapes::{MemDisk, SpillDisk, SystemFile};
 use std::io::Write;
@@ -30,10 +30,20 @@ use std::rt::Files;
 
 /// The format of a table, by its name on the command line.
 fn format_named(text: &str) -> Format {
-    if text == "aligned" {
-        Format::Aligned
-    } else {
-        Format::Csv
+    match text {
+        "aligned" => Format::Aligned,
+        "tsv" => Format::Tsv,
+        "json" => Format::Json,
+        _ => Format::Csv,
+    }
+}
+
+/// The format of what is known, by its name on the command line.
+fn known_format_named(text: &str) -> KnownFormat {
+    match text {
+        "tsv" => KnownFormat::Tsv,
+        "json" => KnownFormat::Json,
+        _ => KnownFormat::Lines,
     }
 }
 
@@ -234,10 +244,11 @@ impl<'c, R: Files + AllocGlobal + RandomSource, W: Write, E: Write> Session<'c, 
     }
 
     /// Lists what a replica knows.
-    fn list<'p>(&mut self, replica: &Replica, path: &'p str) -> Result<(), Problem<'p>> {
-        match origin_lines(self.rt.alloc(), replica) {
+    fn list<'p>(&mut self, replica: &Replica, matches: &ArgMatches<'p>) -> Result<(), Problem<'p>> {
+        let format = known_format_named(value(matches, FORMAT));
+        match known_table(self.rt.alloc(), replica, format) {
             Ok(lines) => self.print(&lines),
-            Err(_) => Err(Problem::refused(path, Refusal::NoMemory)),
+            Err(_) => Err(Problem::refused(value(matches, IN), Refusal::NoMemory)),
         }
     }
 
@@ -308,7 +319,7 @@ impl<'c, R: Files + AllocGlobal + RandomSource, W: Write, E: Write> Session<'c, 
         let spill = subcommand.spill(matches);
         match subcommand {
             Subcommand::Known => {
-                self.list(replica, value(matches, IN))?;
+                self.list(replica, matches)?;
                 if subcommand.is_told(matches, EXPLAIN) {
                     self.explain_holding(replica);
                 }

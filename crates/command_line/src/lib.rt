@@ -12,6 +12,7 @@ use crate::hint::{Hint, hint_of};
 use clap::error::ErrorKind;
 use clap::{ArgMatches, Error};
 use command_files::Session;
+use command_packs::run_pack;
 use command_scripts::run_script;
 pub use command_streams::Terminals;
 use command_streams::{Problem, Streams, say};
@@ -96,6 +97,7 @@ fn run_words<R: Files + AllocGlobal + RandomSource, I: Read, W: Write, E: Write>
             Some(("script", matches)) => {
                 run_script(rt, matches.get_str(SPILL), reader, &mut streams)
             }
+            Some(("pack", matches)) => run_pack(rt, matches, reader, &mut streams),
             Some((name, matches)) => run_subcommand(rt, name, matches, streams),
             // The parser wants a command.
             None => ExitKind::BadUsage,

@@ -48,7 +48,30 @@ pub const COMPLETE: &str = "complete";
 /// Whether each file is told of as it is taken.
 pub const PROGRESS: &str = "progress";
 
-static FORMATS: [&str; 2] = ["csv", "aligned"];
+/// The origin of a batch that is made.
+pub const ORIGIN: &str = "origin";
+
+/// The number of a batch that is made.
+pub const NUMBER: &str = "number";
+
+/// Whether the first record of a plain CSV names the columns.
+pub const HEADER: &str = "header";
+
+/// What stands between the fields of a plain CSV.
+pub const DELIMITER: &str = "delimiter";
+
+/// The field of a plain CSV that is null.
+pub const NULL: &str = "null";
+
+/// Whether columns of a plain CSV are left out that the summary doesn't have.
+pub const SKIP_COLUMNS: &str = "skip-columns";
+
+/// The plain CSV that is read.
+pub const PLAIN: &str = "CSV";
+
+static FORMATS: [&str; 4] = ["csv", "tsv", "json", "aligned"];
+
+static KNOWN_FORMATS: [&str; 3] = ["lines", "tsv", "json"];
 
 const ABOUT: &str = "Groups numbered batches of rows, and merges what several sites know of them";
 
@@ -237,10 +260,13 @@ const KNOWN_ABOUT: &str = "Lists the batches that a summary knows";
 const KNOWN_AFTER: &str = "\
 Prints a line for each origin of which a batch is known, as
 'origin 7 upto 12 early 14 15': batches 1 to 12 are in the answer, 14 and 15
-wait for 13. --explain tells on standard error the columns, the query, and of
-each origin its groups, its bytes in the file and the numbers that are missing
-before an early one, as
-'origin 7 upto 12 groups 3 early 2 bytes 190 missing 13'.
+wait for 13. --format tsv prints the same between tabs, below the names origin,
+upto and early, with spaces between early numbers; --format json an object on
+each line, as '{\"origin\":7,\"upto\":12,\"early\":[14,15]}'.
+
+--explain tells on standard error the columns, the query, and of each origin its
+groups, its bytes in the file and the numbers that are missing before an early
+one, as 'origin 7 upto 12 groups 3 early 2 bytes 190 missing 13'.
 
 Example:
   agg_tool known all.sum
@@ -256,7 +282,10 @@ const ANSWER_ABOUT: &str = "Prints the query's answer over what a summary knows"
 const ANSWER_AFTER: &str = "\
 The rows stand in the order of the query's ORDER BY, or else of its keys, null
 last. Null is \\N, a boolean t or f. A column is named by its alias, or else by
-its column or function. The layout is csv, or aligned for people.
+its column or function. The layout is csv, or aligned for people; tsv is that of
+PostgreSQL's COPY, with a header; json is an object on each line, with null, true
+and false, and numbers of any size, in which a name that an earlier column has
+gets a dot and its place, as sum.3.
 
 Batches that wait for one before them are not counted: standard error says so of
 at most ten origins, as 'origin 0: 1 early batch is not counted; missing 2', and
@@ -276,6 +305,35 @@ Example:
 Status:
   0  all was done
   1  something was refused, or with --complete batches wait for others
+  2  the words are no command line
+  3  a file or a stream could not be read or written";
+
+const PACK_ABOUT: &str = "Makes a batch file of a plain CSV";
+
+const PACK_AFTER: &str = "\
+Writes the batch file of the rows of CSV, or of standard input where it is left
+out or -, to standard output: batch N of --number, of origin N of --origin. The
+columns are those of the summary IN.
+
+A row is a record with a field for each column, in their order. With --header the
+first record names the columns, in any order and any case of letters; a name
+that IN doesn't have is refused, unless --skip-columns leaves its fields out.
+Fields stand between commas, or what --delimiter tells: one byte, as ';', or tab.
+An empty field is null, or with --null TEXT the field TEXT, and \\N in any case;
+else fields are as feed takes them, which --help of it tells. A batch has at most
+1,048,576 rows; agg_make_batches cuts a longer file into batches.
+
+Where something is wrong, 'refused NAME' is printed in the place of the batch,
+and standard error tells the line and the column.
+
+Example:
+  agg_tool pack all.sum --origin 3 --number 12 --header sales.csv > 3-12.csv
+  agg_tool pack all.sum --origin 3 --number 13 --delimiter tab < sales.tsv |
+      agg_tool feed all.sum all.sum /dev/stdin
+
+Status:
+  0  all was done
+  1  something was refused
   2  the words are no command line
   3  a file or a stream could not be read or written";
 
@@ -388,7 +446,12 @@ fn known_command<'a>(alloc: Global) -> Result<Command<'a>, AllocError> {
             alloc,
             EXPLAIN,
             "Also tells on standard error what the summary holds",
-        ))
+        ))?
+        .arg(
+            option(alloc, FORMAT, "FORMAT", "Layout")
+                .value_parser(ValueParser::Names(KNOWN_FORMATS.as_slice()))
+                .default_value("lines"),
+        )
 }
 
 /// The option of a table's format.
@@ -419,6 +482,33 @@ fn answer_command<'a>(alloc: Global) -> Result<Command<'a>, AllocError> {
             COMPLETE,
             "Has status 1 where batches wait for others",
         ))
+}
+
+/// The options that tell how a plain CSV is written.
+fn plain_options<'a>(alloc: Global, command: Command<'a>) -> Result<Command<'a>, AllocError> {
+    command
+        .arg(flag(alloc, HEADER, "The first record names the columns"))?
+        .arg(option(alloc, DELIMITER, "C", "What stands between fields").default_value(","))?
+        .arg(option(
+            alloc,
+            NULL,
+            "TEXT",
+            "The field that is null [default: an empty one]",
+        ))?
+        .arg(flag(
+            alloc,
+            SKIP_COLUMNS,
+            "Leaves out columns that the summary doesn't have",
+        ))
+}
+
+fn pack_command<'a>(alloc: Global) -> Result<Command<'a>, AllocError> {
+    let pack = subcommand(alloc, "pack", PACK_ABOUT, PACK_AFTER)
+        .arg(positional(alloc, IN, "The summary file that tells the columns"))?
+        .arg(option(alloc, ORIGIN, "N", "The origin, 0 to 1023").required(true))?
+        .arg(option(alloc, NUMBER, "N", "The batch's number, 1 to 4294967295").required(true))?;
+    let pack = plain_options(alloc, pack)?;
+    pack.arg(Arg::new(alloc, PLAIN).help("The plain CSV [default: standard input]"))
 }
 
 /// The program without its commands.
@@ -452,7 +542,8 @@ fn program<'a>(alloc: Global) -> Result<Command<'a>, AllocError> {
     let program = with_command(program, feed_command(alloc))?;
     let program = with_command(program, merge_command(alloc))?;
     let program = with_command(program, known_command(alloc))?;
-    with_command(program, answer_command(alloc))
+    let program = with_command(program, answer_command(alloc))?;
+    with_command(program, pack_command(alloc))
 }
 
 /// What the words ask for, of which the first is the program's name: a command, and its arguments by the names above. The error has its own

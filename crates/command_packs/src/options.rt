@@ -1,0 +1,121 @@
+//! The options of the command that makes a batch file.
+
+ghost use Rattle.std.specs.Prelude.{◌≤◌, IfOk, IfSome};
+ghost use Rattle.grouping_model.specs.declared.limits.TheConstants.{LAST_ORIGIN};
+
+use clap::ArgMatches;
+use command_streams::{Problem, reason_of};
+use command_words::{DELIMITER, HEADER, IN, NULL, NUMBER, ORIGIN, PLAIN, SKIP_COLUMNS, value};
+use fault_sentences::Quoted;
+use grouping_model::limits::{LAST_NUMBER, LAST_ORIGIN};
+use plain_batches::Layout;
+use replies::Refusal;
+use script_io::read_digits;
+use std::alloc::{AllocError, Global};
+
+/// What stands for standard input in the place of a file.
+pub(crate) const STANDARD_INPUT: &str = "-";
+
+/// The most digits of an origin or a number, leading zeros included.
+const MAX_DIGITS: usize = 10;
+
+/// The origin that a text tells.
+fn read_origin(text: &str) -> Option<u16>
+    ensures { IfSome result (λ origin. origin ≤ LAST_ORIGIN) }
+{
+    let origin = read_digits(text.as_bytes(), MAX_DIGITS)?;
+    if origin > u64::from(LAST_ORIGIN) {
+        return None;
+    }
+    Some(origin as u16)
+}
+
+/// The number of a batch that a text tells.
+fn read_number(text: &str) -> Option<u32>
+    ensures { IfSome result (λ number. 1 ≤ number) }
+{
+    let number = read_digits(text.as_bytes(), MAX_DIGITS)?;
+    if number < 1 || number > u64::from(LAST_NUMBER) {
+        return None;
+    }
+    Some(number as u32)
+}
+
+/// The byte that a text tells: one of ASCII that is neither in a name or a number nor a quote, or a tab by its name.
+fn read_delimiter(text: &str) -> Option<u8> {
+    match text.as_bytes() {
+        b"tab" | b"\\t" => Some(b'\t'),
+        [byte] if *byte == b'\t' || byte.is_ascii_punctuation() && *byte != b'"' => Some(*byte),
+        _ => None,
+    }
+}
+
+/// Why an option is refused.
+fn refused<'p>(
+    alloc: Global,
+    option: &'static str,
+    said: Result<String, AllocError>,
+) -> Problem<'p> {
+    let reason = match said {
+        Ok(said) => Ok(reason_of(alloc, Some(said))),
+        Err(error) => Err(error),
+    };
+    Problem::because(option, Refusal::BadCommand, reason)
+}
+
+/// The summary and the plain CSV. Standard input is one of them at most.
+pub(crate) fn files_of<'p>(
+    alloc: Global,
+    matches: &ArgMatches<'p>,
+) -> Result<(&'p str, &'p str), Problem<'p>> {
+    let summary = value(matches, IN);
+    let csv = matches.get_str(PLAIN).unwrap_or(STANDARD_INPUT);
+    if summary == STANDARD_INPUT && csv == STANDARD_INPUT {
+        let said = format!(in alloc; "standard input is one file, and IN and CSV are two");
+        return Err(refused(alloc, STANDARD_INPUT, said));
+    }
+    Ok((summary, csv))
+}
+
+/// The origin and the number of the batch.
+pub(crate) fn head_of<'p>(
+    alloc: Global,
+    matches: &ArgMatches<'_>,
+) -> Result<(u16, u32), Problem<'p>>
+    ensures origin { IfOk result (λ head. head.0 ≤ LAST_ORIGIN) }
+    ensures number { IfOk result (λ head. 1 ≤ head.1) }
+{
+    let (origin, number) = (value(matches, ORIGIN), value(matches, NUMBER));
+    let Some(origin) = read_origin(origin) else {
+        let shown = Quoted(origin.as_bytes());
+        let said = format!(in alloc; "{shown}, and an origin is 0 to {LAST_ORIGIN}");
+        return Err(refused(alloc, "--origin", said));
+    };
+    let Some(number) = read_number(number) else {
+        let shown = Quoted(number.as_bytes());
+        let said = format!(in alloc; "{shown}, and a number is 1 to {LAST_NUMBER}");
+        return Err(refused(alloc, "--number", said));
+    };
+    Ok((origin, number))
+}
+
+/// How the plain CSV is written.
+pub(crate) fn layout_of<'p>(
+    alloc: Global,
+    matches: &ArgMatches<'p>,
+) -> Result<Layout<'p>, Problem<'p>> {
+    let told = value(matches, DELIMITER);
+    let Some(delimiter) = read_delimiter(told) else {
+        let shown = Quoted(told.as_bytes());
+        let said = format!(in alloc;
+            "{shown}, and it is one byte, as ; or tab, and no letter, digit or quote"
+        );
+        return Err(refused(alloc, "--delimiter", said));
+    };
+    Ok(Layout {
+        delimiter,
+        has_header: matches.get_flag(HEADER),
+        null: value(matches, NULL).as_bytes(),
+        skips_columns: matches.get_flag(SKIP_COLUMNS),
+    })
+}
