@@ -73,10 +73,11 @@ enum {
  * was made on a slot, close it, whatever that call returned. The caller never reads or writes the fields, and never copies a slot: a copy
  * of one that is closed, or used, is memory that was freed. A slot may be moved while no call uses it.
  *
- * Threads. A slot may go from thread to thread, and is given to one call at a time: whoever shares one takes a lock of his own, for calls
- * that only ask, too, since each call takes the summary out of its slot and puts it back; for agg_merge for both slots, always in one order.
- * So one thread's call ends before another's begins, in the sense of C11. Calls on different slots may run at the same time. No call waits, can be interrupted, takes a lock, starts a thread, or touches a file. None may be
- * made from a signal handler, or in the child of a fork of a process with threads.
+ * Threads. A slot may go from thread to thread (by what it holds: no proof says so yet), and is given to one call at a time: whoever
+ * shares one takes a lock of his own, for calls that only ask, too, since each call takes the summary out of its slot and puts it back;
+ * for agg_merge for both slots, always in one order. So one thread's call ends before another's begins, in the sense of C11. Calls on
+ * different slots may run at the same time. No call waits, can be interrupted, takes a lock, starts a thread, or touches a file. None may
+ * be made from a signal handler, or in the child of a fork of a process with threads.
  *
  * Pointers. No pointer is null, also where there are no bytes. But for the two slots of agg_merge, what a call writes overlaps nothing else
  * that it is given. Texts are UTF-8 with their length, and end in no zero. What a call is to write through a pointer, as `wanted`, may be
