@@ -1,5 +1,9 @@
 //! What is said of OUT: what stands in its place, and how it is written.
 
+ghost use Rattle.std.specs.Prelude.{◌≡◌, ◌↔◌, []};
+ghost use Rattle.file_sentences.specs.Standing.{is_foreign, stops};
+ghost use Rattle.file_sentences.specs.declared.out.FrontKind.TheVariants.{Empty};
+
 use fault_sentences::Plain;
 use std::fmt;
 
@@ -42,7 +46,9 @@ pub enum FrontKind {
 
 impl FrontKind {
     /// What first bytes tell.
-    pub fn of_front(front: &[u8]) -> FrontKind {
+    pub fn of_front(front: &[u8]) -> FrontKind
+        ensures empty { (result ≡ Empty) ↔ (front.now ≡ []) }
+    {
         if front.is_empty() {
             FrontKind::Empty
         } else if begins_by(front, OPENINGS.as_slice()) {
@@ -57,7 +63,9 @@ impl FrontKind {
     }
 
     /// Whether a file has bytes, and is no summary that is read.
-    pub fn is_foreign(self) -> bool {
+    pub fn is_foreign(self) -> bool
+        ensures { result ≡ is_foreign self }
+    {
         !matches!(self, FrontKind::Empty | FrontKind::Summary)
     }
 }
@@ -77,7 +85,9 @@ pub enum Fate {
 
 impl Fate {
     /// Whether the command goes no further.
-    pub fn stops(self) -> bool {
+    pub fn stops(self) -> bool
+        ensures { result ≡ stops self }
+    {
         matches!(self, Fate::Kept | Fate::Spared(_))
     }
 }

@@ -1,5 +1,7 @@
 //! The batches of an answer that wait for others, and those that they wait for.
 
+ghost use Rattle.std.specs.Prelude.{◌≤◌, length, IfOk};
+
 use replica_merge::{KnownOrigin, Replica};
 use std::alloc::{AllocError, Global};
 use std::fmt;
@@ -110,7 +112,9 @@ fn others_line(alloc: Global, others: usize) -> Result<String, AllocError> {
 
 /// Which batches an answer of a replica does not count, since one before them is missing: a line for each of the first ten origins, and one
 /// for the others. No line where all are counted.
-pub fn waiting_lines(alloc: Global, replica: &Replica) -> Result<Vec<String>, AllocError> {
+pub fn waiting_lines(alloc: Global, replica: &Replica) -> Result<Vec<String>, AllocError>
+    ensures few { IfOk result (λ lines. length lines.items ≤ 11) }
+{
     let mut lines = Vec::new(alloc);
     let mut others: usize = 0;
     for known in &replica.known()? {
