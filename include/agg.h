@@ -1,11 +1,11 @@
 /*
  * agg.h: summaries of agg_tool inside other programs, for C and C++.
  *
- * A summary is the state of a grouping query: of each origin it knows the batches 1 to some number, as groups, and those that came early.
- * A batch that is fed twice, and a summary that is merged twice, change nothing. Summaries that know the same batches are the same bytes,
+ * A summary is the state of a grouping query: of each origin it knows the batches 1 to some number, as groups, and the early batches.
+ * A batch that is fed twice, or a summary that is merged twice, changes nothing. Summaries that know the same batches have the same bytes,
  * whichever program made them.
  *
- * What is proved, and what this file and the caller owe, stands in docs/EMBEDDING.md.
+ * docs/EMBEDDING.md says what is proved, and what this file and the caller owe.
  */
 #ifndef AGG_H
 #define AGG_H
@@ -19,23 +19,22 @@ extern "C" {
 #endif
 
 /*
- * Statuses. Each call that can end in more than one way returns one of these numbers. They never change, none is used again, and later
- * versions may add some: a caller treats a number that it does not know as a refusal. The name of a status is the word that a script of
- * agg_tool replies behind `refused`.
+ * Statuses. Each call that can end in more than one way returns one of these numbers. They never change, and none is reused. Later versions
+ * may add some: treat an unknown number as a refusal. The name of a status is the word that a script of agg_tool replies after `refused`.
  *
- * 0 to 9 are of the call, 10 and more are refusals. After any status but AGG_DONE the summary is as it was before the call.
+ * 0 to 9 are about the call, 10 and more are refusals. After any status but AGG_DONE the summary is as it was before the call.
  */
 enum {
     AGG_DONE = 0,
-    AGG_NO_MEMORY = 1,        /* malloc or realloc gave nothing */
-    AGG_TOO_SHORT = 2,        /* the room is too short; how much is wanted was told */
+    AGG_NO_MEMORY = 1,        /* malloc or realloc failed */
+    AGG_TOO_SHORT = 2,        /* the buffer is too short; `wanted` has the length */
     AGG_NOT_OPEN = 3,         /* the slot has no summary */
     AGG_ALREADY_OPEN = 4,     /* the slot has a summary already */
-    AGG_BAD_COMMAND = 10,     /* a text is no UTF-8 */
+    AGG_BAD_COMMAND = 10,     /* a text is not UTF-8 */
     AGG_NO_SUCH_NAME = 11,    /* there is no status of this number */
     AGG_NAME_TAKEN = 12,      /* no call of this library returns it */
     AGG_LIMIT_OUT_OF_RANGE = 13,
-    AGG_BAD_SCHEMA = 14,      /* the text of the columns, or that in a file, is none */
+    AGG_BAD_SCHEMA = 14,      /* the text of the columns, or that in a file */
     AGG_SYNTAX = 20,          /* 20 to 28: the text of the query, or that in a file */
     AGG_NUMBER_TOO_LARGE = 21,
     AGG_NO_SUCH_COLUMN = 22,
@@ -59,7 +58,7 @@ enum {
     AGG_BAD_STATE = 46,
     AGG_DIFFERENT_QUERY = 50, /* a summary of another query, or of other columns */
     AGG_ORIGIN_DISAGREES = 51,/* one number of an origin has two different batches */
-    AGG_TAPE_FAULT = 60,      /* 60 and 61: the tapes lie in memory, so no call of this library returns them */
+    AGG_TAPE_FAULT = 60,      /* 60 and 61: tapes are in memory, so no call of this library returns them */
     AGG_TAPE_DAMAGED = 61,
     AGG_INPUT_TOO_LONG = 70,  /* the summary file would have more than 67,108,864 bytes */
     AGG_READ_FAULT = 71,      /* 71 and 72: no call of this library returns them */
@@ -67,21 +66,21 @@ enum {
 };
 
 /*
- * A slot is what the caller holds of a summary. It begins as AGG_SLOT_INIT, or as any memory of zeros, which holds nothing.
+ * A slot is the caller's handle of a summary. It begins as AGG_SLOT_INIT, or as zeroed memory, which holds nothing.
  *
- * Ownership. What a slot holds lies in memory of malloc, realloc and free, and goes back by agg_close: once a call of agg_new or agg_load
- * was made on a slot, close it, whatever that call returned. The caller never reads or writes the fields, and never copies a slot: a copy
- * of one that is closed, or used, is memory that was freed. A slot may be moved while no call uses it.
+ * Ownership. A slot holds memory of malloc, realloc and free, which agg_close frees: once agg_new or agg_load was called on a slot, close
+ * it, whatever that call returned. Never read, write or copy its fields: a copy of a slot that was closed or used points to freed memory.
+ * A slot may be moved while no call uses it.
  *
- * Threads. A slot may go from thread to thread (by what it holds: no proof says so yet), and is given to one call at a time: whoever
- * shares one takes a lock of his own, for calls that only ask, too, since each call takes the summary out of its slot and puts it back;
- * for agg_merge for both slots, always in one order. So one thread's call ends before another's begins, in the sense of C11. Calls on
- * different slots may run at the same time. No call waits, can be interrupted, takes a lock, starts a thread, or touches a file. None may
- * be made from a signal handler, or in the child of a fork of a process with threads.
+ * Threads. A slot may move from thread to thread (no proof says so yet). One call at a time may use it: if threads share a slot, take a
+ * lock of your own, for calls that only ask, too, since each call takes the summary out of its slot and puts it back. For agg_merge lock
+ * both slots, always in one order. So one thread's call ends before another's begins, in the sense of C11. Calls on different slots may
+ * run at the same time. No call waits, can be interrupted, takes a lock, starts a thread, or touches a file. None may be made from a
+ * signal handler, or in the child of a fork of a process with threads.
  *
- * Pointers. No pointer is null, also where there are no bytes. But for the two slots of agg_merge, what a call writes overlaps nothing else
- * that it is given. Texts are UTF-8 with their length, and end in no zero. What a call is to write through a pointer, as `wanted`, may be
- * anything behind a status other than AGG_DONE, unless it is said here.
+ * Pointers. No pointer is null, even if there are no bytes. Except for the two slots of agg_merge, what a call writes overlaps none of its
+ * other arguments. Texts are UTF-8 with their length, without a terminating zero. After a status other than AGG_DONE, what a pointer such
+ * as `wanted` points to is unspecified, unless this file says more.
  */
 typedef struct {
     bool full;
@@ -89,29 +88,29 @@ typedef struct {
 } agg_slot;
 #define AGG_SLOT_INIT {false, NULL}
 
-/* The limit of whoever has no other wish, in bytes. */
+/* The default limit, in bytes. */
 #define AGG_USUAL_LIMIT 4194304
 
 /*
- * Opens a summary that knows nothing, of a query over columns.
+ * Opens an empty summary of a query over columns.
  *
  *     agg_new(&slot, "city text, amount bigint", 24, "SELECT city, sum(amount) FROM batches GROUP BY city", 51, AGG_USUAL_LIMIT, s, t)
  *
- * The limit is on the blocks of a table of groups, in bytes, 65,536 to 1,099,511,627,776: what does not keep within it is spilled to tapes
- * in memory. The two seeds are those of the table's hash function: random numbers, where others choose the keys, so that none are chosen
- * that make it slow. No result depends on them.
+ * The limit bounds the blocks of a group table, in bytes, 65,536 to 1,099,511,627,776. Groups beyond it are spilled to tapes in memory. The
+ * two seeds are those of the table's hash function: give random numbers if others choose the keys, so that nobody can choose keys that make
+ * it slow. No result depends on them.
  *
- * Refused are, in this order, AGG_ALREADY_OPEN; AGG_LIMIT_OUT_OF_RANGE; AGG_BAD_COMMAND; AGG_BAD_SCHEMA; 20 to 28. After a refusal
- * agg_reason tells of it, so close the slot, or call again, which may succeed.
+ * Refusals, in this order: AGG_ALREADY_OPEN; AGG_LIMIT_OUT_OF_RANGE; AGG_BAD_COMMAND; AGG_BAD_SCHEMA; 20 to 28. agg_reason explains them.
+ * After a refusal close the slot, or call again, which may succeed.
  */
 uint32_t agg_new(agg_slot *slot, const uint8_t *columns, size_t columns_len, const uint8_t *query, size_t query_len, uint64_t limit,
                  uint64_t seed_low, uint64_t seed_high);
 
 /*
- * Opens the summary that the bytes of a summary file are of, in either version of the format. Any bytes may be given.
+ * Opens the summary of a summary file, in either version of the format. Any bytes may be given.
  *
- * Refused are AGG_ALREADY_OPEN; AGG_LIMIT_OUT_OF_RANGE; and the first fault of the bytes, AGG_BAD_SCHEMA, 20 to 28 or 40 to 46. A file of
- * more than 67,108,864 bytes is read, but its summary cannot be saved again.
+ * Refusals, in this order: AGG_ALREADY_OPEN; AGG_LIMIT_OUT_OF_RANGE; and the first fault of the bytes, AGG_BAD_SCHEMA, 20 to 28 or 40 to
+ * 46. A file of more than 67,108,864 bytes is read, but its summary cannot be saved again.
  */
 uint32_t agg_load(agg_slot *slot, const uint8_t *file, size_t file_len, uint64_t limit, uint64_t seed_low, uint64_t seed_high);
 
@@ -119,44 +118,45 @@ uint32_t agg_load(agg_slot *slot, const uint8_t *file, size_t file_len, uint64_t
 enum { AGG_FOLDED = 0, AGG_EARLY = 1, AGG_KNOWN = 2 };
 typedef struct {
     uint32_t kind; /* AGG_FOLDED, AGG_EARLY, or AGG_KNOWN, and then nothing changed */
-    uint32_t upto; /* of one that is folded: of its origin the batches 1 to this number are known now, without a gap; else 0 */
+    uint32_t upto; /* if it was folded: batches 1 to this number of its origin are known now, without a gap; else 0 */
 } agg_delivery;
 
 /*
- * Feeds a batch file: records in CSV, of which the first is batch,ORIGIN,NUMBER,ROWS. It is taken, whole, or refused, and then nothing
- * changed and `delivered` is as it was. AGG_NOT_OPEN; 30 to 34; AGG_ORIGIN_DISAGREES, of a number that is early with other rows.
+ * Feeds a batch file: records in CSV, the first of which is batch,ORIGIN,NUMBER,ROWS. It is taken whole, or refused, and then nothing
+ * changed and `delivered` is as it was. Refusals: AGG_NOT_OPEN; 30 to 34; AGG_ORIGIN_DISAGREES if its number is early with other rows.
  */
 uint32_t agg_feed(agg_slot *slot, const uint8_t *batch, size_t batch_len, agg_delivery *delivered);
 
 /*
- * Feeds the batch of an origin, 0 to 1,023, and a number, 1 to 4,294,967,295, whose rows are records in CSV, `count` of them, without a
- * head: the same as the batch file of these. As in a batch file, a line without a byte is no record, so that an empty text alone on its
- * line is written in quotes, the three bytes of a byte order mark at the start are passed over, and \N is null, in quotes, too.
+ * Feeds the batch of an origin, 0 to 1,023, and a number, 1 to 4,294,967,295. Its rows are `count` records in CSV, without a head: the same
+ * as their batch file, except for two things. A byte order mark at the start of the rows is skipped. And a count of 1,000,000,000 or more
+ * is AGG_TOO_MANY_ROWS; as the head of a file it is AGG_BAD_BATCH_HEAD. As in a file, an empty line is not a record, so write an empty text
+ * alone on its line in quotes, and \N is null, in quotes, too.
  */
 uint32_t agg_feed_rows(agg_slot *slot, uint32_t origin, uint32_t number, uint32_t count, const uint8_t *rows, size_t rows_len,
                        agg_delivery *delivered);
 
 /*
- * Merges what the summary of another slot knows: afterwards `into` knows what either knew, and `from` is as it was, though the call uses
- * its slot meanwhile. The order in which summaries are merged, and how often, changes nothing.
+ * Merges the summary of another slot: afterwards `into` knows what either knew, and `from` is as it was, though the call uses its slot
+ * meanwhile. The order of merges makes no difference, nor does a repeated one.
  *
- * AGG_NOT_OPEN where either slot has no summary, or both are one slot; AGG_DIFFERENT_QUERY; AGG_ORIGIN_DISAGREES.
+ * Refusals: AGG_NOT_OPEN if either slot has no summary, or both are one slot; AGG_DIFFERENT_QUERY; AGG_ORIGIN_DISAGREES.
  */
 uint32_t agg_merge(agg_slot *into, agg_slot *from);
 
-/* The same of the bytes of a summary file, which are refused as agg_load refuses them. */
+/* The same for the bytes of a summary file, which are refused as agg_load refuses them. */
 uint32_t agg_merge_bytes(agg_slot *slot, const uint8_t *file, size_t file_len);
 
 /*
- * What is long is kept in the slot, and fetched by agg_fetch until another of these calls, or agg_reason, succeeds on it. Each tells in
- * `wanted` how long it is. It takes memory until then: agg_query takes its place by a short text. AGG_NOT_OPEN.
+ * A long result is kept in the slot, for agg_fetch, until another of these calls, or agg_reason, succeeds on it. Each call gives its length
+ * in `wanted`. It takes memory until then: agg_query replaces it by a short text. Refusal: AGG_NOT_OPEN.
  */
 
 /* The summary file: at most 67,108,864 bytes, the same from every program that knows the same batches. AGG_INPUT_TOO_LONG. */
 uint32_t agg_save(agg_slot *slot, size_t *wanted);
 /* The table of the answer, in CSV with a header, or in columns below one another, and how many rows it has beside the header. */
 uint32_t agg_answer(agg_slot *slot, bool aligned, size_t *rows, size_t *wanted);
-/* A line `origin O upto P` for each origin of which something is known, with ` early N ..` behind it. */
+/* A line `origin O upto P` for each origin of which something is known, with ` early N ..` after it. */
 uint32_t agg_known(agg_slot *slot, size_t *wanted);
 /* The canonical text of the query. */
 uint32_t agg_query(agg_slot *slot, size_t *wanted);
@@ -179,24 +179,24 @@ typedef struct {
 } agg_place;
 
 /*
- * The sentence of the last call on the slot that ended with AGG_NO_MEMORY or a status from 10 on, and its place; no bytes where none did.
- * It is for people, and is what agg_tool says on standard error: one line, and behind that of columns or of a query two more, the text and
- * a caret under the place. Lines of a batch are counted as in its file, of which the head is line 1, those of agg_feed_rows, too. Where
- * there was no memory for it, it is a short one. Its words may change. Ask for it before other calls on the slot. It works on a slot
- * without a summary, too, behind a refusal of agg_new or agg_load. AGG_NOT_OPEN of an empty slot.
+ * The sentence on the last call on the slot that ended with AGG_NO_MEMORY or a status from 10 on, and its place; no bytes if none did. It
+ * is for people, and is what agg_tool writes on standard error: one line, and for columns or a query two more, the text and a caret under
+ * the place. Lines of a batch are counted as in its file, where the head is line 1, for agg_feed_rows, too. If memory ran out for it, it is a
+ * short one. Its words may change. Call it before other calls on the slot. It also works on a slot without a summary, after a refusal of
+ * agg_new or agg_load. Refusal: AGG_NOT_OPEN for an empty slot.
  */
 uint32_t agg_reason(agg_slot *slot, agg_place *place, size_t *wanted);
 
 /*
- * Copies what was told last to the `room` bytes at `out`, and tells how long it is. AGG_TOO_SHORT where it does not fit, and then nothing
- * is written there; AGG_NOT_OPEN of an empty slot. It can be fetched again.
+ * Copies the last result to the `room` bytes at `out`, and gives its length in `wanted`. AGG_TOO_SHORT if it does not fit, and then nothing
+ * is written there; AGG_NOT_OPEN for an empty slot. It can be fetched again.
  */
 uint32_t agg_fetch(agg_slot *slot, uint8_t *out, size_t room, size_t *wanted);
 
-/* Gives back the memory of what the slot holds. It is empty then, and can be used again. AGG_NOT_OPEN of an empty one. */
+/* Frees the memory that the slot holds. It is empty afterwards, and can be reused. AGG_NOT_OPEN for an empty one. */
 uint32_t agg_close(agg_slot *slot);
 
-/* The name of a status, as `NoMemory`, or AGG_NO_SUCH_NAME. The longest has 15 bytes in this version. No zero is written behind it. */
+/* The name of a status, as `NoMemory`, or AGG_NO_SUCH_NAME. The longest has 15 bytes in this version. No zero follows it. */
 uint32_t agg_status_name(uint32_t status, uint8_t *out, size_t room, size_t *wanted);
 
 /* The version of the library, as `0.1.0`. */

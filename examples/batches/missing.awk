@@ -1,10 +1,10 @@
 #!/usr/bin/awk -f
-# Lists the batches that are missing, as ORIGIN-NUMBER, a line each: those below an early batch that is known. Installed it is agg_missing.
+# Lists the missing batches below early ones, as ORIGIN-NUMBER, one a line. Installed it is agg_missing.
 #
 #     agg_tool known SUMMARY | awk -f missing.awk
-#     missing.awk SUMMARY                            asks agg_tool itself, or the program that PROGRAM names
+#     missing.awk SUMMARY                            runs agg_tool itself, or the program of PROGRAM
 #
-# Its input has lines `origin O upto P early N N ..`. The status is 0, or that of agg_tool, or 2 where the input is something else.
+# Its input has lines `origin O upto P early N N ..`. The status is 0, or that of agg_tool, or 2 if the input is something else.
 
 # Says why there is no list, and ends.
 function fail(said, status) {
@@ -23,7 +23,7 @@ function command_of(path) {
 # Lists what is missing by the fields of a line.
 function list(fields, count,    number, field) {
     if (fields[1] != "origin" || fields[3] != "upto") {
-        fail("its input is what 'agg_tool known SUMMARY' lists, and not: " fields[1] " " fields[2], 2)
+        fail("expected the output of 'agg_tool known SUMMARY', found: " fields[1] " " fields[2], 2)
     }
     number = fields[4] + 1
     for (field = 6; field <= count; field++) {

@@ -28,7 +28,7 @@ _CODES = {
 
 def _bytes_of(buffer: Any) -> bytes:
     if buffer.__dlpack_device__()[0] != _CPU:
-        raise TypeError("the data frame does not lie in the memory of the processor")
+        raise TypeError("the data frame is not in main memory")
     return ctypes.string_at(buffer.ptr, buffer.bufsize) if buffer.bufsize else b""
 
 
@@ -44,7 +44,7 @@ def _plain(buffer: Any, dtype: Any, first: int, size: int) -> List[Any]:
         return _bits(data, first, size)
     code = _CODES.get((kind, bits))
     if code is None or endianness not in ("=", "|", "<"):
-        raise TypeError(f"a column of kind {kind}, {bits} bits and byte order {endianness} is none of bigint, boolean and text")
+        raise TypeError(f"a column of kind {kind}, {bits} bits and byte order {endianness} is not bigint, boolean or text")
     values = array.array(code)
     width = values.itemsize
     values.frombytes(data[first * width : (first + size) * width])
@@ -125,7 +125,7 @@ def columns_of(columns: Sequence[Column], frame: Any) -> List[List[Any]]:
     frame = frame if is_pandas else frame.__dataframe__()
     found, wanted = list(map(str, frame.columns if is_pandas else frame.column_names())), [column.name for column in columns]
     if sorted(found) != sorted(wanted):
-        raise WrongWidth(f"the data frame has the columns {', '.join(found)}, wanted: {', '.join(wanted)}")
+        raise WrongWidth(f"columns found: {', '.join(found)}, expected: {', '.join(wanted)}")
     if is_pandas:
         return [_pandas_values(frame[name]) for name in wanted]
     chunks = list(frame.get_chunks())

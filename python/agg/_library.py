@@ -139,7 +139,7 @@ class Handle:
         if status == NOT_OPEN:
             raise ValueError("the summary is closed")
         if status < FIRST_REFUSAL:
-            raise errors.NoMemory("there was no memory") if status == NO_MEMORY else refusal(status, "", errors.Place())
+            raise errors.NoMemory("out of memory") if status == NO_MEMORY else refusal(status, "", errors.Place())
         place, wanted = _Place(), ctypes.c_size_t()
         if LIBRARY.agg_reason(self._slot, place, wanted) != DONE:
             raise refusal(status, "", errors.Place())
@@ -150,7 +150,7 @@ class Handle:
         # No pointer is null, and no room empty.
         out, wanted = ctypes.create_string_buffer(max(length, 1)), ctypes.c_size_t()
         if LIBRARY.agg_fetch(self._slot, out, length, wanted) != DONE:
-            raise RuntimeError("the library told another length than it has")
+            raise RuntimeError("the library gave another length than it has")
         told = ctypes.string_at(out, length)
         if length > KEPT_LEN:
             LIBRARY.agg_query(self._slot, wanted)

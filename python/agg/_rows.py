@@ -36,27 +36,27 @@ def _bigint(value: Any) -> str:
             pass
         else:
             if number.bit_length() > 64:
-                raise _NoField("it is out of range, which is -9223372036854775808 to 9223372036854775807")
+                raise _NoField("out of range (-9223372036854775808 to 9223372036854775807)")
             return str(number)
-    raise _NoField(f"a bigint is an int, and this is of type {type(value).__name__}")
+    raise _NoField(f"a bigint is an int, not a {type(value).__name__}")
 
 
 def _boolean(value: Any) -> str:
     if isinstance(value, bool) or (type(value).__module__ == "numpy" and type(value).__name__ in ("bool_", "bool")):
         return _FLAGS[bool(value)]
-    raise _NoField(f"a boolean is a bool, and this is of type {type(value).__name__}")
+    raise _NoField(f"a boolean is a bool, not a {type(value).__name__}")
 
 
 def _text(value: Any) -> str:
     if not isinstance(value, str):
-        raise _NoField(f"a text is a str, and this is of type {type(value).__name__}")
+        raise _NoField(f"a text is a str, not a {type(value).__name__}")
     value = str.__str__(value)
     if value == NULL:
-        raise _NoField("no field stands for the text \\N, which is how a null is written")
+        raise _NoField("the text \\N cannot be fed, since it stands for null")
     try:
         value.encode()
     except UnicodeEncodeError as why:
-        raise _NoField("it has half of a pair of surrogates, which is no character") from why
+        raise _NoField("a text cannot have an unpaired surrogate") from why
     return value
 
 
@@ -117,13 +117,13 @@ def _tuple_of(row: int, record: Any, columns: Sequence[Column]) -> Tuple[Any, ..
                 raise _wrong_width(row, f"there is no {column.name}")
         if len(record) != len(columns):
             other = next(name for name in record if name not in {column.name for column in columns})
-            raise _wrong_width(row, f"{other!r} is no column")
+            raise _wrong_width(row, f"{other!r} is not a column")
         return tuple(record[column.name] for column in columns)
     if isinstance(record, (str, bytes)):
-        raise TypeError(f"row {row} is a tuple, a dict or another sequence of values, and not a {type(record).__name__}")
+        raise TypeError(f"row {row} must be a tuple, a dict or another sequence of values, not a {type(record).__name__}")
     values = tuple(record)
     if len(values) != len(columns):
-        raise _wrong_width(row, f"fields found: {len(values)}, wanted: {len(columns)}")
+        raise _wrong_width(row, f"fields found: {len(values)}, expected: {len(columns)}")
     return values
 
 

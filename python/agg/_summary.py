@@ -93,7 +93,7 @@ class Summary:
     def _open(self, function: Any, texts: Tuple[Any, ...], limit: int) -> None:
         size = _number(limit, 64)
         if size is None:
-            raise LimitOutOfRange(f"{limit} is not 65536 to 1099511627776")
+            raise LimitOutOfRange(f"{limit} is out of range (65536 to 1099511627776 bytes)")
         self._handle = _library.Handle()
         self._handle.change(function, *texts, size, *_seeds())
         self._limit = size

@@ -88,7 +88,7 @@ class RefusedMerge(Refused, ValueError):
 
 
 class BadCommand(RefusedQuery):
-    """A text is no UTF-8."""
+    """A text is not UTF-8."""
 
     status = 10
 

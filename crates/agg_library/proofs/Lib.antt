@@ -1,2 +1,3 @@
 pub mod ArgumentSteps
+pub mod Halves
 pub mod RowLaws

@@ -4,6 +4,7 @@
 //! true.
 
 ghost use Rattle.std.specs.Prelude.{◌≡◌, ◌≤◌, length, IfOk, OnErr, Option, ℤ, true, false};
+ghost use Rattle.std.specs.Int.{bytes_high_first};
 ghost use Rattle.grouping_model.specs.Aggregates.{Partial, Counted, Summed, Number, Truth_value};
 ghost use Rattle.agg_protocol.specs.States.{Denotes, IsState, IsTotal, most_rows, bytes_of, A_count, A_sum, A_number, A_truth};
 
@@ -12,6 +13,9 @@ use byteorder::{BigEndian, ByteOrder};
 
 /// The most rows that a state can count: 2^62 - 1.
 pub const MAX_COUNTED: u64 = (1 << 62) - 1;
+
+// How many numbers half of the bits of a total can be: 2^64.
+const HALF: u128 = 1 << 64;
 
 /// Reads a count. It is `BadState` if it is above `MAX_COUNTED`.
 pub fn read_count(bytes: &[u8]) -> Result<u64, BadState>
@@ -66,13 +70,24 @@ fn is_total(how_many: u64, total: i128) -> bool
     how_many * i128::from(i64::MIN) <= total && total <= how_many * i128::from(i64::MAX)
 }
 
+/// Writes a number of 128 bits, as two of 64: so it takes two moves, and not one a byte.
+fn write_halves(bits: u128, bytes: &mut [u8])
+    requires { length bytes.old ≡ 16 }
+    ensures { bytes.new ≡ bytes_high_first 16 bits }
+{
+    let (high, low) = bytes.split_at_mut(8);
+    BigEndian::write_u64(high, (bits / HALF) as u64);
+    BigEndian::write_u64(low, (bits % HALF) as u64);
+}
+
 /// Writes how many numbers were added, and their total.
 pub fn write_total(how_many: u64, total: i128, bytes: &mut [u8])
     requires { length bytes.old ≡ 24 }
     ensures { bytes.new ≡ bytes_of (Summed how_many total) }
 {
-    BigEndian::write_u64(bytes, how_many);
-    BigEndian::write_i128(&mut bytes[8..], total);
+    let (count, sum) = bytes.split_at_mut(8);
+    BigEndian::write_u64(count, how_many);
+    write_halves(total.cast_unsigned(), sum);
 }
 
 /// Reads a number that may be absent. It is `BadState` if the first byte is neither 0 nor 1, or if a number that is

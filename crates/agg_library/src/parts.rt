@@ -117,19 +117,24 @@ pub fn advance_part<A: Counting>(
     Ok(())
 }
 
-/// Combines the state in `from` into the one in `into`. At an error nothing changes.
-pub fn combine_part<A: Counting>(into: &mut [u8], from: &[u8], most: u64) -> Result<(), BadState>
-    requires { most ≤ most_rows }
-    ensures ok { OnOk result ((p q : Partial) × Denotes most (shape_of A.function) into.old p
-        × Denotes most (shape_of A.function) from.now q
-        × Denotes most (shape_of A.function) into.new (combine A.function p q)) }
-    ensures err { OnErr result ((p q : Partial) → Denotes most (shape_of A.function) into.old p →
-        Denotes most (shape_of A.function) from.now q → most < rows_of (combine A.function p q)) }
-    ensures unchanged { OnErr result (into.new ≡ into.old) }
+/// Writes the state of the arguments of both, those of `first` first, where it counts at most `most` rows.
+pub fn combine_part<A: Counting>(
+    first: &[u8],
+    second: &[u8],
+    both: &mut [u8],
+    most: u64,
+) -> Result<(), BadState>
+    requires most { most ≤ most_rows }
+    requires wide { length both.old ≡ A.WIDTH }
+    ensures ok { OnOk result ((p q : Partial) × Denotes most (shape_of A.function) first.now p
+        × Denotes most (shape_of A.function) second.now q
+        × Denotes most (shape_of A.function) both.new (combine A.function p q)) }
+    ensures err { OnErr result ((p q : Partial) → Denotes most (shape_of A.function) first.now p →
+        Denotes most (shape_of A.function) second.now q → most < rows_of (combine A.function p q)) }
 {
-    let state = read_part::<A>(into, most)?;
-    let other = read_part::<A>(from, most)?;
-    let both = join::<A>(state, other, most)?;
-    A::serialize(&both, into);
+    let state = read_part::<A>(first, most)?;
+    let other = read_part::<A>(second, most)?;
+    let joined = join::<A>(state, other, most)?;
+    A::serialize(&joined, both);
     Ok(())
 }

@@ -185,8 +185,7 @@ impl StateRow {
         // The state of both is kept until the rest is combined, so that an error changes nothing.
         let mut both = [0; WIDEST];
         let both = &mut both[..kind.width()];
-        both.copy_from_slice(into);
-        Self::combine_one(*kind, both, from, most)?;
+        Self::combine_one(*kind, into, from, both, most)?;
         Self::combine_into(kinds, into_rest, from_rest, most)?;
         into.copy_from_slice(both);
         Ok(())
@@ -212,19 +211,25 @@ impl StateRow {
         at_kind!(kind, check_part(part, most))
     }
 
-    // Combines one state of an aggregate into another.
-    fn combine_one(kind: AggKind, into: &mut [u8], from: &[u8], most: u64) -> Result<(), BadState>
-        requires { most ≤ most_rows }
-        ensures ok { OnOk result ((p q : Partial) × states.Denotes most (kind_shape kind) into.old p
-            × states.Denotes most (kind_shape kind) from.now q
-            × states.Denotes most (kind_shape kind) into.new (combine (function_of kind) p q)) }
+    // Writes the state of one aggregate that two others combine to.
+    fn combine_one(
+        kind: AggKind,
+        first: &[u8],
+        second: &[u8],
+        both: &mut [u8],
+        most: u64,
+    ) -> Result<(), BadState>
+        requires most { most ≤ most_rows }
+        requires wide { length both.old ≡ kind_width kind }
+        ensures ok { OnOk result ((p q : Partial) × states.Denotes most (kind_shape kind) first.now p
+            × states.Denotes most (kind_shape kind) second.now q
+            × states.Denotes most (kind_shape kind) both.new (combine (function_of kind) p q)) }
         ensures err { OnErr result
-            ((p q : Partial) → states.Denotes most (kind_shape kind) into.old p →
-            states.Denotes most (kind_shape kind) from.now q →
+            ((p q : Partial) → states.Denotes most (kind_shape kind) first.now p →
+            states.Denotes most (kind_shape kind) second.now q →
             most < rows_of (combine (function_of kind) p q)) }
-        ensures unchanged { OnErr result (into.new ≡ into.old) }
     {
-        at_kind!(kind, combine_part(into, from, most))
+        at_kind!(kind, combine_part(first, second, both, most))
     }
 }
 

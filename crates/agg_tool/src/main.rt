@@ -1,4 +1,4 @@
-//! `agg_tool` groups numbered batches of rows, and merges what several sites know of them: `agg_tool --help`.
+//! `agg_tool` aggregates numbered batches of rows, and merges the summaries of several sites: `agg_tool --help`.
 #![tactic(auto)]
 
 use command_line::{Terminals, command};
@@ -6,12 +6,12 @@ use std::io::{IsTerminal, Write};
 use std::process::ExitCode;
 use std::{env, io};
 
-/// The words of the command line, of which the first is the program's name.
+/// The words of the command line, the program's name first.
 fn words(rt: &HostRuntime) -> io::Result<Vec<String>> {
     Ok(env::args(rt)?.collect(rt.alloc())?)
 }
 
-/// Says why the words could not be read: in one write, where there is memory for that.
+/// Says why the words could not be read, in one write if there is memory for that.
 fn say_unread(rt: &HostRuntime, error: &io::Error) {
     // Nothing is left to do where it can't be written.
     match format!(in rt.alloc(); "error: the command line could not be read: {error}\n") {

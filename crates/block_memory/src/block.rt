@@ -1,4 +1,4 @@
-//! A block of memory, seen as what stands in it.
+//! A block of memory, seen as the list of its cells.
 ghost use Rattle.std.specs.Prelude.{◌≡◌, ◌+◌, ◌<◌, ◌≤◌, ◌^◌, length, IfOk};
 ghost use Rattle.std.specs.Borrow.{sem};
 ghost use Rattle.block_memory.specs.Cells.{IsWritten, Holds, blank_cells, with_bytes, zeros};
@@ -26,7 +26,7 @@ fn word_of(bytes: &[u8]) -> u64
 ///
 /// Contracts see it as the list of its cells: `None` for a byte that was not written yet, and `Some` of one that was.
 /// Only written bytes can be read, and a written byte stays written. Places and lengths count bytes. Only `new` takes
-/// memory, and the block goes back to the allocator when the value is dropped.
+/// memory, and the block is returned to the allocator when the value is dropped.
 pub struct RawBlock {
     start: *mut u8,
     len: usize,
@@ -49,9 +49,9 @@ impl Model for RawBlock {
 }
 
 impl RawBlock {
-    /// Takes a block of `len` bytes, of which none is written: its memory is left as it is found.
+    /// Takes a block of `len` bytes, all uninitialized.
     ///
-    /// The error is a failed allocation, as is any request for 2^63 bytes or more.
+    /// The error is out of memory, as is any request for 2^63 bytes or more.
     pub fn new(alloc: Global, len: usize) -> Result<RawBlock, AllocError>
         requires { 1 ≤ len }
         ensures unwritten { IfOk result (λ b. b ≡ blank_cells len) }
@@ -99,7 +99,7 @@ impl RawBlock {
         self.memory.run_mut(start, at, n)
     }
 
-    /// Writes `src` from `at` on, over whatever stands there. The other bytes stay as they are.
+    /// Writes `src` from `at` on, over whatever is there. The other bytes stay as they are.
     pub fn copy_in(&mut self, at: usize, src: &[u8])
         requires { at + length src.now ≤ length self.old }
         ensures written { self.new ≡ with_bytes self.old at src.now }

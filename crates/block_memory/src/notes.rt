@@ -1,4 +1,4 @@
-//! Notes that stand in no memory.
+//! Notes that take no memory.
 //!
 //! A proof may need facts that no memory holds, such as which parts of a block are in use. They are read off a list of
 //! notes, which has no code at all.

@@ -1,7 +1,7 @@
 //! The memory behind a block: the one file that touches a raw pointer. Each function here has a proof by hand.
 //!
-//! A pointer owns nothing. The right to the memory that it points to is a value of its own, `Memory`. No code can copy
-//! or drop it, so the memory is given back at most once and not reached afterwards. No contract can say that
+//! A pointer owns nothing. The permission to the memory that it points to is a value of its own, `Memory`. No code can copy
+//! or drop it, so the memory is freed at most once and not reached afterwards. No contract can say that
 //! `give_back` gives it back at all; a test shows it by taking blocks that together exceed any memory.
 ghost use Rattle.std.specs.Prelude.{◌≡◌, ◌<◌, ◌^◌, Some, length, slice_set, IfOk};
 ghost use Rattle.std.specs.Borrow.{sem};
@@ -13,7 +13,7 @@ use std::alloc::{AllocError, Allocator, Global};
 use std::marker::Model;
 use std::slice;
 
-/// The right to the memory of a block, and to give it back. It takes no space.
+/// The permission to use the memory of a block, and to free it. It takes no space.
 ///
 /// Its ghost fields say where the memory begins and what its cells hold.
 pub struct Memory {
@@ -31,7 +31,7 @@ impl Model for Memory {
 pub struct Reserved {
     /// Where the block begins.
     pub start: *mut u8,
-    /// The right to its memory.
+    /// The permission to its memory.
     pub memory: Memory,
 }
 

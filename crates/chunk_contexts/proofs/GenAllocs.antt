@@ -56,7 +56,7 @@ counted-longer r cs ds is same longer = record {
   left = is.left;
 }
 
--- where a chunk is not counted for want of memory, blocks were to grow
+-- if a chunk is not counted because memory ran out, blocks had to grow
 pub refused-count : {X : Type 0} (result : Result X ContextError) (s t : RunState) (n : ℕ) → IsErrAnd result (λ e. e ≡ NoMemory) → s ≡ t
     → 0 < run_growth 8 s n → IfErr result (IsRefused (over_most n) (run_growth 8 t n))
 refused-count result s t n is same grows = grind (arith, nat_tests, common_steps)

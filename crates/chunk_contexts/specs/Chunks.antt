@@ -50,7 +50,7 @@ pub record TakesChunk (before after : List ChunkContents) (name : ChunkName) (ro
   pub holds : bytes_of after name ≡ bytes
   pub keeps : Keeps before after name
 
--- why a request is refused: as the kind says, and else for want of memory alone where blocks would have to grow
+-- why a request is refused: as the kind says, else only because memory ran out and blocks had to grow
 abbrev pub IsRefused : Option ContextError → ℕ → ContextError → Type 0
 IsRefused None growth error = (error ≡ NoMemory) × (0 < growth)
 IsRefused (Some refusal) growth error = error ≡ refusal

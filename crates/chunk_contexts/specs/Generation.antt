@@ -1,4 +1,4 @@
--- The rules of space of a `Generation` beside those of `Run`: a block goes back at once when its last chunk is given up. All of this is
+-- The rules of space of a `Generation` beside those of `Run`: a block is freed with its last chunk. All of this is
 -- our own.
 use Rattle.std.specs.Prelude.{◌≡◌, ℕ, ◌+◌, ◌-◌, ◌≤◌, ◌==◌, Bool, true, false, cond, List, [], ◌∷◌, None, length, get_or, slice_set}
 use Rattle.chunk_layout.specs.Every.{Pairwise}

@@ -1,5 +1,5 @@
 -- The rules of space of a `Slab`: chunks of one size, in blocks of 8,192 bytes or of one chunk if that is larger. A block is
--- taken only where none has a free chunk, and goes back as soon as all its chunks are free. (The rules are our own: in
+-- taken only where none has a free chunk, and is freed as soon as all its chunks are free. (The rules are our own: in
 -- PostgreSQL 17, src/backend/utils/mmgr/slab.c, up to ten empty blocks are kept.)
 use Rattle.std.specs.Prelude.{◌≡◌, ℕ, ◌+◌, ◌*◌, ◌/◌, ◌≤◌, ◌==◌, ◌&&◌, ◌||◌, max, nat_lt, Bool, true, false, cond, List, [], ◌∷◌, Option}
 use Rattle.std.specs.Prelude.{Some, None, replicate, length, get_or, slice_set, is_some, IsTrue}

@@ -34,7 +34,7 @@ impl Active {
         self.size - self.used
     }
 
-    /// The block in use after a block was given back: nothing is left if it was this one.
+    /// The block in use after a block was freed: nothing is left if it was this one.
     pub(crate) fn without(self, block: u32) -> Active
         ensures { result ≡ record {
           block = self.block;

@@ -1,4 +1,4 @@
-//! `Bump`: chunks without headers, which go back all together.
+//! `Bump`: chunks without headers, which are freed all together.
 ghost use Rattle.std.specs.Prelude.{◌≡◌};
 ghost use Rattle.chunk_contexts.specs.Run.{RunState};
 ghost use Rattle.chunk_contexts.specs.BumpFields.{bump_of, AreFields};
@@ -10,7 +10,7 @@ use chunk_layout::ChunkName;
 use std::alloc::Global;
 use std::marker::Model;
 
-/// A context for chunks that are given up all together: they lie one after the other and have no headers.
+/// A context for chunks that are freed all together: they lie one after the other and have no headers.
 #[derive(Drop)]
 pub struct Bump {
     runs: Runs,
@@ -84,12 +84,12 @@ impl ChunkContext for Bump {
         self.runs.layout.get_mut(name.place(), name.len as usize)
     }
 
-    /// Refuses: chunks are given up all together.
+    /// Refuses: chunks are freed all together.
     fn free(&mut self, _name: ChunkName) -> Result<(), ContextError> {
         Err(ContextError::NotSupported)
     }
 
-    /// Refuses: chunks are given up all together.
+    /// Refuses: chunks are freed all together.
     fn resize(&mut self, _name: ChunkName, _n: u32) -> Result<ChunkName, ContextError> {
         Err(ContextError::NotSupported)
     }

@@ -1,4 +1,4 @@
-//! What all kinds of context do.
+//! The calls of all kinds of context.
 ghost use Rattle.std.specs.Prelude.{◌≡◌, ◌+◌, ◌<◌, ◌≤◌, ℕ, Bool, not, true, false, List, [], Option, None, IsTrue, IfOk, OnOk, IfErr};
 ghost use Rattle.std.specs.Prelude.{OnErr, length, get_or, is_some};
 ghost use Rattle.std.specs.Borrow.{sem};
@@ -16,7 +16,7 @@ use chunk_layout::ChunkName;
 
 /// A memory context: a finite map from the names of its live chunks to their bytes, each as long as its name says.
 ///
-/// A chunk lies in a block, and no two share a byte. Each kind has its own rule for when blocks are taken and given back, how much room a
+/// A chunk lies in a block, and no two share a byte. Each kind has its own rule for when blocks are taken and freed, how much room a
 /// chunk has, and which requests are refused. The ghost members state it for any state of the context. Calls that return no `Result` take
 /// no memory, nor does `free`, nor `alloc` where `growth_for` is 0.
 ///
@@ -28,7 +28,7 @@ pub trait ChunkContext {
     ghost blocks: { Self → List (Option ℕ) };
 
     /// The room of a chunk of n bytes; why a request of n bytes is refused, however much memory there is; how many bytes of blocks it
-    /// takes, 0 where it is refused; and whether chunks can be given up one by one.
+    /// takes, 0 where it is refused; and whether chunks can be freed one by one.
     ghost room: { Self → ℕ → ℕ };
 
     ghost refusal: { Self → ℕ → Option ContextError };
@@ -110,7 +110,7 @@ pub trait ChunkContext {
         ensures unchanged { OnErr result (self.new ≡ self.old) };
 
     /// Makes a live chunk `n` bytes long: the front that both lengths have is kept, and what is new is zero. The chunk stays
-    /// where it is if it has the room. Else a chunk is taken, the bytes are copied, and the old chunk is given up.
+    /// where it is if it has the room. Else a chunk is taken, the bytes are copied, and the old chunk is freed.
     ///
     /// Refuses `NotSupported` where the kind has no such call, then what the kind refuses for `n` bytes, and gives
     /// `NoMemory` as `alloc` does. Nothing is changed then.

@@ -6,16 +6,16 @@ ghost use Rattle.chunk_contexts.specs.declared.error.ContextError.TheVariants.{N
 use std::alloc::AllocError;
 use thiserror::Error;
 
-/// Why a call of a context is refused. What the call was given is then as it was.
+/// Why a call of a context is refused. A refused call changes nothing.
 #[derive(Clone, Copy, Debug, PartialEq, Eq, Error)]
 pub enum ContextError {
-    /// There is no memory for a block that the call needs.
+    /// Memory ran out for a block that the call needs.
     #[error("out of memory")]
     NoMemory,
-    /// More than 1,073,741,823 bytes were asked for, the most that a chunk has.
+    /// The chunk would have more than 1,073,741,823 bytes, the most of a chunk.
     #[error("chunk too large")]
     TooLarge,
-    /// A slab was asked for a chunk of another size than its own.
+    /// A slab has only chunks of its own size.
     #[error("wrong chunk size")]
     WrongSize,
     /// This kind of context has no such call.

@@ -1,4 +1,4 @@
-//! `Generation`: chunks one after the other, in blocks that go back with their last chunk.
+//! `Generation`: chunks one after the other, in blocks that are freed with their last chunk.
 ghost use Rattle.std.specs.Prelude.{◌≡◌, ◌+◌, ◌<◌, ◌≤◌, ◌^◌, ℕ, IsTrue, IfOk, OnOk, OnErr, length, get_or, slice_set, ◌-◌};
 ghost use Rattle.chunk_layout.specs.Contents.{has, same_place, contents_at, place_of, resized};
 ghost use Rattle.chunk_contexts.specs.Run.{RunState};
@@ -12,8 +12,8 @@ use chunk_layout::{ChunkName, HEADER, Place};
 use std::alloc::{AllocError, Global};
 use std::marker::Model;
 
-/// A context for chunks that are given up about as they were taken: they lie one after the other, and a block goes back at
-/// once when all its chunks are given up.
+/// A context for chunks that are freed about in the order in which they were taken: they lie one after the other, and a block is freed
+/// as soon as all its chunks are.
 #[derive(Drop)]
 pub struct Generation {
     runs: Runs,

@@ -1,4 +1,4 @@
-//! Memory contexts: memory that is taken in blocks and given out in chunks, and goes back as a whole.
+//! Memory contexts: they take memory in blocks, give it out in chunks, and free it as a whole.
 //!
 //! The kinds are those of PostgreSQL's memory manager (its README: `src/backend/utils/mmgr/README`), with this project's own rules of
 //! space.

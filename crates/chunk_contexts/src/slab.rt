@@ -1,4 +1,4 @@
-//! `Slab`: chunks of one size, in blocks that go back as soon as all their chunks are free.
+//! `Slab`: chunks of one size, in blocks that are freed as soon as all their chunks are free.
 ghost use Rattle.std.specs.Prelude.{◌≡◌, ◌≤◌, ◌==◌, Some, None, MatchResult};
 ghost use Rattle.chunk_contexts.specs.Rooms.{over_most};
 ghost use Rattle.chunk_contexts.specs.Slab.{new_slab, slab_refusal_by, SlabState};
@@ -12,7 +12,7 @@ use chunk_layout::ChunkName;
 use std::alloc::Global;
 use std::marker::Model;
 
-/// A context for chunks of one size. A block is taken only where none has a free chunk, and goes back as soon as all its
+/// A context for chunks of one size. A block is taken only if none has a free chunk, and is freed as soon as all its
 /// chunks are free.
 #[derive(Drop)]
 pub struct Slab {

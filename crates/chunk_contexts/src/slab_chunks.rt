@@ -1,4 +1,4 @@
-//! Chunks of one size, in blocks that go back as soon as all their chunks are free.
+//! Chunks of one size, in blocks that are freed as soon as all their chunks are free.
 ghost use Rattle.std.specs.Prelude.{◌≡◌, ◌≢◌, ℕ, ◌+◌, ◌*◌, ◌-◌, ◌<◌, ◌≤◌, ◌^◌, true, false, [], ◌∷◌, ◌++◌, Some, None, IsTrue, is_some};
 ghost use Rattle.std.specs.Prelude.{IfOk, OnOk, OnErr, length, get_or};
 ghost use Rattle.block_memory.specs.Cells.{zeros};
@@ -18,7 +18,7 @@ const MAX_NUMBERS: usize = 0xffff_ffff;
 /// What is kept of the block of a number.
 #[derive(Clone, Copy)]
 pub struct SlabBlock {
-    /// The chunk that was given up last, of those that are free since.
+    /// The chunk that was freed last, of those that are free since.
     pub(crate) free: Option<Place>,
     /// How many chunks were cut from it, and how many of these are live.
     pub(crate) cut: usize,
@@ -59,7 +59,7 @@ fn per_block(room: usize) -> usize
     slab_block(room) / (HEADER + room)
 }
 
-/// Makes a chunk of no bytes in a block that has a free one: the one that was given up last, else the next to be cut.
+/// Makes a chunk of no bytes in a block that has a free one: the one that was freed last, else the next to be cut.
 fn take_chunk(layout: &mut ChunkLayout, entry: &mut SlabBlock, block: u32, size: usize) -> Place
     requires layout { IsSlabLayout size layout.old }
     requires small { size ≤ MOST }

@@ -26,7 +26,7 @@ pub laid-fewer : (bs : Blocks) (head : ℕ) (test : ChunkHeader → Bool) (ss : 
     → IsLayout head bs (filter test ss)
 laid-fewer bs head test ss laid = grind (arith, nat_tests, every_filter, pairwise_filter)
 
--- a block is given back with its chunks
+-- a block is freed with its chunks
 module _ (bs : Blocks) (head b : ℕ) (ss : List ChunkHeader) where
   abbrev rest : List ChunkHeader
   rest = filter (λ s. not (s.place.block == b)) ss

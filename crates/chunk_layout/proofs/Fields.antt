@@ -239,7 +239,7 @@ module _ (x : Inside) (ok : AreFields x) (l : Layout) (e : layout_of x ≡ l) (b
       len,
     )
 
--- a block is given back
+-- a block is freed
 module _ (x : Inside) (ok : AreFields x) (l : Layout) (e : layout_of x ≡ l) (b : ℕ) where
   abbrev gs : Blocks
   gs = x.blocks.items

@@ -44,7 +44,7 @@ module _ (bs : Blocks) (marks after : List Bool) (are : AreVacant (sizes_of bs) 
     ];
   }
 
-  -- a block is given back
+  -- a block is freed
   pub vacant-dropped : (n : ℕ) → n < length bs → length after ≡ length marks
       → ((k : ℕ) → get_or after k false ≡ cond (k == n) true (get_or marks k false)) → AreVacant (sizes_of (set bs n None)) after
   vacant-dropped n low long is = grind (

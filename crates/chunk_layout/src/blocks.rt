@@ -1,4 +1,4 @@
-//! Blocks by their numbers, of which some were given back.
+//! Blocks by their numbers, some of which were freed.
 ghost use Rattle.std.specs.Prelude.{◌≡◌, ◌+◌, ◌-◌, ◌<◌, ◌≤◌, ◌^◌, ◌⊎◌, Some, None, IsSome, IfSome, IfOk, OnErr, length, get_or, slice_set};
 ghost use Rattle.block_memory.specs.Cells.{IsWritten, Holds, zeros};
 ghost use Rattle.block_memory.specs.Words.{word_bytes};

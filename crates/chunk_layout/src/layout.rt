@@ -22,7 +22,7 @@ use std::marker::Model;
 /// How many bytes are copied at once.
 const PART: usize = 256;
 
-/// Blocks, and the chunks that lie in them.
+/// Blocks, and the chunks in them.
 #[derive(Drop)]
 pub struct ChunkLayout {
     head: usize,
@@ -175,7 +175,7 @@ impl ChunkLayout {
         read_word(blocks, place.block as usize, at) as usize
     }
 
-    /// Gives up a chunk. The room is not used again before its block is given back.
+    /// Frees a chunk. The room is not used again before its block is freed.
     pub fn forget(&mut self, place: Place)
         ensures { self.new ≡ record { head = self.old.head; blocks = self.old.blocks; contents = without self.old.contents place } }
     {
@@ -183,7 +183,7 @@ impl ChunkLayout {
     }
 
     /// Takes a block of `len` bytes, and returns its number, which no block had. A new number is made only where each one has a block. The
-    /// only error is a failed allocation, which changes nothing.
+    /// only error is out of memory, which changes nothing.
     pub fn take_block(&mut self, len: usize) -> Result<u32, AllocError>
         requires some { 1 ≤ len }
         requires small { len ≤ 2 ^ 31 }
@@ -200,7 +200,7 @@ impl ChunkLayout {
         Ok(number)
     }
 
-    /// Gives the block of a number back, with the chunks in it.
+    /// Frees the block of a number, with the chunks in it.
     pub fn give_back(&mut self, block: u32)
         requires { block < length self.old.blocks }
         ensures { self.new ≡ record {
@@ -215,7 +215,7 @@ impl ChunkLayout {
         self.notes.add(&ChunkEvent::Returned(block));
     }
 
-    /// Gives up all chunks. Their room is not used again before their blocks are given back.
+    /// Gives up all chunks. Their room is not used again before their blocks are freed.
     fn forget_all(&mut self)
         ensures { self.new ≡ record { head = self.old.head; blocks = self.old.blocks; contents = [] } }
     {
@@ -229,7 +229,7 @@ impl ChunkLayout {
         self.blocks.len() as u32
     }
 
-    /// Gives up all chunks, and gives all blocks back but the one to keep.
+    /// Frees all chunks, and all blocks but the one to keep.
     pub fn clear(&mut self, keep: Option<u32>)
         ensures { self.new ≡ record { head = self.old.head; blocks = only self.old.blocks keep; contents = [] } }
     {

@@ -1,4 +1,4 @@
-//! Chunks that lie in blocks, apart from one another: the account that every kind of memory context keeps.
+//! Disjoint chunks in blocks: the model that every kind of memory context uses.
 //!
 //! A [`ChunkLayout`] owns blocks and knows, by events that take no memory, which parts of them are chunks. It is seen as the sizes of its
 //! blocks and the contents of its chunks (`specs/Contents.antt`): of each its place, its room, whether it is live, and the bytes that were

@@ -65,7 +65,7 @@ impl BlockMarks {
         self.order.len()
     }
 
-    /// Adds a number after the others, without a mark. The only error is a failed allocation.
+    /// Adds a number after the others, without a mark. The only error is out of memory.
     pub fn add(&mut self) -> Result<(), AllocError>
         requires { length self.old < 2 ^ 32 - 1 }
         ensures added { OnOk result (length self.new ≡ length self.old + 1) }

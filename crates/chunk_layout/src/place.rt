@@ -99,7 +99,7 @@ pub enum ChunkEvent {
     },
     /// There is no chunk at this place any more.
     Gone(Place),
-    /// The block of this number was given back, with its chunks.
+    /// The block of this number was freed, with its chunks.
     Returned(u32),
     /// All chunks are gone.
     Cleared,

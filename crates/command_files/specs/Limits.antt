@@ -1,16 +1,17 @@
 -- The limit of a table of groups that a command tells. All of this is our own.
 use Rattle.std.specs.Prelude.{◌≡◌, ◌<◌, ◌⊎◌, ℕ, List, Option, Some, None}
 use Rattle.hash_agg.specs.declared.means.TheConstants.{DEFAULT_LIMIT, MIN_LIMIT, MAX_LIMIT}
-use Rattle.script_io.specs.Digits.{limit_told}
+use Rattle.command_words.specs.Bytes.{bytes_told}
+use Rattle.replies.specs.Refusals.{limit_out_of_range}
 use Rattle.replies.specs.declared.refusal.Refusal.{Refusal}
 use Rattle.replies.specs.declared.refusal.Refusal.TheVariants.{BadCommand}
 
--- the limit that an option tells, if its text is a number of bytes, or the usual one where it is not told
+-- the limit that an option tells, if its text is a number of bytes, with a suffix or none, or the usual one where it is not told
 abbrev pub limit_of : Option (List ℕ) → Option ℕ
 limit_of None = Some DEFAULT_LIMIT
-limit_of (Some text) = limit_told text
+limit_of (Some text) = bytes_told text
 
 -- why a limit is refused: it is no number of bytes, or it is out of range
 abbrev pub IsNoLimit : Option ℕ → Refusal → Type 0
 IsNoLimit None why = why ≡ BadCommand
-IsNoLimit (Some limit) why = (limit < MIN_LIMIT) ⊎ (MAX_LIMIT < limit)
+IsNoLimit (Some limit) why = (why ≡ limit_out_of_range) × ((limit < MIN_LIMIT) ⊎ (MAX_LIMIT < limit))

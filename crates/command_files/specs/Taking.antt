@@ -3,14 +3,13 @@ use Rattle.std.specs.Prelude.{◌≡◌, Bool, ℕ, List, [], ◌∷◌, Option,
 use Rattle.grouping_model.specs.declared.delivered.Delivered.{Delivered}
 use Rattle.batch_reader.specs.File.{read_file}
 use Rattle.replica_merge.specs.Replicas.{Held}
-use Rattle.replies.specs.declared.error.RunError.TheVariants.{InputTooLong, ReadFault}
 use Rattle.replies.specs.declared.refusal.Refusal.{Refusal}
-use Rattle.replies.specs.declared.refusal.Refusal.TheVariants.{NoMemory, Run}
 use Rattle.replies.specs.declared.reply.Reply.{Reply}
 use Rattle.replies.specs.declared.reply.Reply.TheVariants as says
 use Rattle.command_replicas.specs.Results.{Feeds, MergesFile}
 use Rattle.file_sentences.specs.declared.reasons.FileKind.{FileKind}
 use Rattle.file_sentences.specs.declared.reasons.FileKind.TheVariants.{Batch, Summary}
+use Rattle.command_streams.specs.Inputs.{IsUnread}
 use Rattle.command_streams.specs.declared.problem.Problem.{Problem}
 
 -- a replica takes the bytes of a file, over a disk of tapes that may be honest, and the reply: its batch is fed, or the replica of its
@@ -26,13 +25,6 @@ Takes Summary honest file old new (Err why) = MergesFile {T = Unit {0}} honest f
 abbrev pub taken : Result Reply Problem → Result Reply Refusal
 taken (Ok reply) = Ok reply
 taken (Err problem) = Err problem.why
-
--- why a file was not read: memory ran out, it is too long, or the system failed
-abbrev pub IsUnread : Refusal → Type 0
-IsUnread NoMemory = Unit {0}
-IsUnread (Run InputTooLong) = Unit {0}
-IsUnread (Run ReadFault) = Unit {0}
-IsUnread why = ⊥
 
 -- a replica takes a file, whose bytes are absent where it was not read: then it is refused, and the replica stays
 abbrev pub TakesFile : FileKind → (honest : Bool) → Option (List ℕ) → (old new : Held) → Result Reply Refusal → Type 0

@@ -1,41 +1,18 @@
 //! The files that a command reads and writes.
 
-ghost use Rattle.std.specs.Prelude.{IfErr};
-ghost use Rattle.command_files.specs.Taking.{IsUnread};
-
 use clap::ArgMatches;
 use command_replicas::SummaryFile;
 use command_streams::Problem;
-use command_words::Subcommand;
-use file_sentences::{FRONT_BYTES, FrontKind, length_reason, replaced_reason};
+use command_words::{Subcommand, is_stream};
+use file_sentences::{FRONT_BYTES, FrontKind, replaced_reason};
 use out_files::{
     Occupant, Place, Unwritten, front_of, occupant_of, try_place, try_reading, write_file,
     write_new_file,
 };
 use replies::{Refusal, RunError};
-use script_io::{Unread, read_file};
 use std::io;
 use std::io::ErrorKind;
 use std::rt::Files;
-
-/// The bytes of a file, where they are 67,108,864 or fewer.
-pub(crate) fn read<'p, R: Files + AllocGlobal>(
-    rt: &R,
-    path: &'p str,
-) -> Result<Vec<u8>, Problem<'p>>
-    ensures { IfErr result (λ problem. IsUnread problem.why) }
-{
-    match read_file(rt, path) {
-        Ok(bytes) => Ok(bytes),
-        Err(Unread::NoMemory) => Err(Problem::refused(path, Refusal::NoMemory)),
-        Err(Unread::TooLong(length)) => {
-            let why = Refusal::Run(RunError::InputTooLong);
-            let reason = length_reason(rt.alloc(), length);
-            Err(Problem::because(path, why, reason))
-        }
-        Err(Unread::Failed(cause)) => Err(Problem::failed(path, RunError::ReadFault, cause)),
-    }
-}
 
 /// A fault of a file, or `NoMemory` where the system says that it has none.
 fn fault_of(path: &str, error: RunError, cause: io::Error) -> Problem<'_> {
@@ -46,16 +23,25 @@ fn fault_of(path: &str, error: RunError, cause: io::Error) -> Problem<'_> {
     }
 }
 
-/// What is there in the place of OUT, beside the files that are read.
+/// The path of what standard input leads to.
+const STANDARD_INPUT: &str = "/dev/stdin";
+
+/// What is there in the place of OUT, beside the files that are read. Where standard input is one of these, that is the file which it leads
+/// to, if it leads to one.
 pub(crate) fn occupant_of_out<'p, R: Files + AllocGlobal>(
     rt: &R,
     subcommand: Subcommand,
     matches: &ArgMatches<'p>,
     out: &'p str,
 ) -> Result<Occupant, Problem<'p>> {
-    let Ok(paths) = subcommand.files_read(rt.alloc(), matches) else {
+    let Ok(mut paths) = subcommand.files_read(rt.alloc(), matches) else {
         return Err(Problem::refused(out, Refusal::NoMemory));
     };
+    for path in &mut paths {
+        if is_stream(path) {
+            *path = STANDARD_INPUT;
+        }
+    }
     match occupant_of(rt, out, &paths) {
         Ok(found) => Ok(found),
         Err(cause) => Err(fault_of(out, RunError::ReadFault, cause)),
@@ -71,7 +57,7 @@ pub(crate) fn front_kind<'p, R: Files>(rt: &R, path: &'p str) -> Result<FrontKin
     }
 }
 
-/// Tries before the work whether the files that a command reads can be read, and whether OUT can be written, and how.
+/// Tries before the work whether the files that a command reads can be read, and whether OUT can be written, and how. Streams are not tried.
 pub(crate) fn try_files<'p, R: Files + AllocGlobal>(
     rt: &R,
     subcommand: Subcommand,
@@ -82,9 +68,15 @@ pub(crate) fn try_files<'p, R: Files + AllocGlobal>(
         return Err(Problem::refused(out, Refusal::NoMemory));
     };
     for path in &paths {
+        if is_stream(path) {
+            continue;
+        }
         if let Err(cause) = try_reading(rt, path) {
             return Err(fault_of(path, RunError::ReadFault, cause));
         }
+    }
+    if is_stream(out) {
+        return Ok(Place::Device);
     }
     match try_place(rt, out) {
         Ok(place) => Ok(place),

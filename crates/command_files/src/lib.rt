@@ -6,5 +6,6 @@ mod limit;
 mod replicas;
 mod session;
 mod target;
+mod texts;
 
 pub use session::Session;

@@ -4,12 +4,11 @@ ghost use Rattle.std.specs.Prelude.{◌≡◌, Some, IfOk, IfErr, option_copied}
 ghost use Rattle.command_files.specs.Limits.{limit_of, IsNoLimit};
 
 use clap::ArgMatches;
-use command_words::{LIMIT, Subcommand};
+use command_words::{LIMIT, Subcommand, read_bytes};
 use fault_sentences::Quoted;
 use file_sentences::limit_reason;
-use hash_agg::{Fnv1a, Means};
+use hash_agg::{Fnv1a, LimitOutOfRange, MAX_LIMIT, Means};
 use replies::Refusal;
-use script_io::read_limit;
 use std::alloc::{AllocError, Global};
 
 /// The means of the limit that an option tells, or the usual ones where it is not told.
@@ -20,10 +19,13 @@ fn means_told(told: Option<&str>) -> Result<Means<Fnv1a>, Refusal>
     let Some(text) = told else {
         return Ok(Means::usual(Fnv1a));
     };
-    let Some(limit) = read_limit(text.as_bytes()) else {
+    let Some(limit) = read_bytes(text) else {
         return Err(Refusal::BadCommand);
     };
-    match Means::new(limit, Fnv1a) {
+    if limit > u128::from(MAX_LIMIT) {
+        return Err(Refusal::from(LimitOutOfRange));
+    }
+    match Means::new(limit as u64, Fnv1a) {
         Ok(means) => Ok(means),
         Err(error) => Err(Refusal::from(error)),
     }
@@ -52,5 +54,11 @@ pub(crate) fn said_of_limit(
         return limit_reason(alloc, text);
     }
     let given = Quoted(text.as_bytes());
-    format!(in alloc; "{given} is out of range, which is 65,536 to 1,099,511,627,776 bytes")
+    let has_suffix = text.ends_with(|last: char| last.is_ascii_alphabetic());
+    match read_bytes(text) {
+        Some(bytes) if has_suffix => format!(in alloc;
+            "{given}, which is {bytes} bytes, is out of range (65,536 to 1,099,511,627,776 bytes)"
+        ),
+        _ => format!(in alloc; "{given} is out of range (65,536 to 1,099,511,627,776 bytes)"),
+    }
 }

@@ -5,48 +5,66 @@ ghost use Rattle.summary_codec.specs.Reading.{IsSaved};
 ghost use Rattle.command_replicas.specs.Commands.{IsTooLong};
 ghost use Rattle.command_files.specs.Taking.{Takes};
 
-use crate::files::read;
+use crate::texts::{TextOption, read_text};
 use clap::ArgMatches;
 use command_replicas::SummaryFile;
-use command_streams::Problem;
-use command_words::{COLUMNS, QUERY, value};
+use command_streams::{Inputs, Problem};
+use command_words::{COLUMNS, COLUMNS_FILE, QUERY, QUERY_FILE, input_name};
 use file_sentences::{FileKind, columns_reason, query_reason, saving_reason, summary_reason};
 use hash_agg::{Fnv1a, Means, TapeDisk, Work};
 use replica_merge::Replica;
 use replies::{Refusal, Reply};
 use std::alloc::Global;
+use std::io::Read;
 use std::rt::Files;
 
 /// The replica that a file is the summary of, and the bytes of that.
-pub(crate) fn open_replica<'p, R: Files + AllocGlobal>(
-    rt: &R,
+pub(crate) fn open_replica<'p, R: Files + AllocGlobal, I: Read>(
+    inputs: &mut Inputs<'_, R, I>,
     path: &'p str,
 ) -> Result<(Replica, Vec<u8>), Problem<'p>> {
-    let file = read(rt, path)?;
-    match command_replicas::load(rt.alloc(), &file) {
+    let alloc = inputs.rt.alloc();
+    let file = inputs.read(path)?;
+    match command_replicas::load(alloc, &file) {
         Ok(replica) => Ok((replica, file)),
         Err(why) => {
-            let reason = summary_reason(rt.alloc(), &file, why);
-            Err(Problem::because(path, why, reason))
+            let reason = summary_reason(alloc, &file, why);
+            Err(Problem::because(input_name(path), why, reason))
         }
     }
 }
 
-/// The replica of the texts of a command line, which knows nothing.
-pub(crate) fn new_replica<'p>(
-    alloc: Global,
+/// The columns of a command line.
+const COLUMNS_TEXT: TextOption = TextOption {
+    id: COLUMNS,
+    name: "--columns",
+    file: COLUMNS_FILE,
+};
+
+/// The query of a command line.
+const QUERY_TEXT: TextOption = TextOption {
+    id: QUERY,
+    name: "--query",
+    file: QUERY_FILE,
+};
+
+/// The replica of the texts that a command line tells, or files that it names, which knows nothing.
+pub(crate) fn new_replica<'p, R: Files + AllocGlobal, I: Read>(
+    inputs: &mut Inputs<'_, R, I>,
     matches: &ArgMatches<'p>,
 ) -> Result<Replica, Problem<'p>> {
-    let (columns, query) = (value(matches, COLUMNS), value(matches, QUERY));
-    match command_replicas::create(alloc, columns, query) {
+    let columns = read_text(inputs, matches, COLUMNS_TEXT)?;
+    let query = read_text(inputs, matches, QUERY_TEXT)?;
+    let alloc = inputs.rt.alloc();
+    match command_replicas::create(alloc, columns.text(), query.text()) {
         Ok(replica) => Ok(replica),
         Err(Refusal::BadSchema) => {
-            let reason = columns_reason(alloc, columns);
-            Err(Problem::because("--columns", Refusal::BadSchema, reason))
+            let reason = columns_reason(alloc, columns.text());
+            Err(Problem::because(columns.subject, Refusal::BadSchema, reason))
         }
         Err(why) => {
-            let reason = query_reason(alloc, columns, query, why);
-            Err(Problem::because("--query", why, reason))
+            let reason = query_reason(alloc, columns.text(), query.text(), why);
+            Err(Problem::because(query.subject, why, reason))
         }
     }
 }

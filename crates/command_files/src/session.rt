@@ -1,19 +1,22 @@
-//! What each command does.
+//! The commands on files.
 
 ghost use Rattle.std.specs.Prelude.{◌≡◌, Bool, ℕ, List, Option, length, OnOk};
 ghost use Rattle.command_streams.specs.Stopping.{EndsRefused};
 ghost use Rattle.command_files.specs.Taking.{TakesFile, TakesAll, taken};
 
-use crate::files::read;
 use crate::limit::{means_of, said_of_limit};
 use crate::replicas::{new_replica, open_replica, summary_of, take};
 use crate::target::Target;
 use clap::ArgMatches;
+use command_replicas::SummaryFile;
 use command_streams::{
-    Diagnostic, OutputStatus, Problem, Streams, open_disk, reason_of, remove_disk, reply_refused,
-    system_seed, tape_reason,
+    Diagnostic, Inputs, OutputStatus, Problem, Streams, ending_of, open_disk, reason_of,
+    remove_disk, reply_refused, system_seed, tape_reason,
 };
-use command_words::{BATCH, COMPLETE, EXPLAIN, FORMAT, IN, OUT, PROGRESS, Subcommand, value};
+use command_words::{
+    BATCH, COMPLETE, EXPLAIN, FORMAT, IN, OUT, PROGRESS, Subcommand, input_name, is_stream,
+    output_name, value,
+};
 use file_sentences::{
     CutShort, Explained, FileKind, PassedOver, Progress, Standing, WrittenOver, file_reason,
     text_of,
@@ -22,9 +25,9 @@ use hash_agg::{Fnv1a, Means, Work};
 use holding_sentences::{answer_line, holding_lines, waiting_lines};
 use replica_merge::{Delivered, Replica};
 use replies::{ExitKind, Format, KnownFormat, Refusal, Reply, known_table, put_reply, table};
-use script_io::put_all;
+use script_io::{Fused, put_all};
 use spill_tapes::{MemDisk, SpillDisk, SystemFile};
-use std::io::Write;
+use std::io::{Read, Write};
 use std::random::RandomSource;
 use std::rt::Files;
 
@@ -47,6 +50,11 @@ fn known_format_named(text: &str) -> KnownFormat {
     }
 }
 
+/// That there was no memory for what the summary IN has.
+fn no_memory_for<'p>(matches: &ArgMatches<'p>) -> Problem<'p> {
+    Problem::refused(input_name(value(matches, IN)), Refusal::NoMemory)
+}
+
 /// Whether the last line of a batch file has no end, where a reply tells that it was taken.
 fn is_cut(file: &[u8], reply: &Reply<'_>) -> bool {
     let is_taken = matches!(
@@ -56,13 +64,20 @@ fn is_cut(file: &[u8], reply: &Reply<'_>) -> bool {
     is_taken && !matches!(file.last(), Some(b'\n' | b'\r'))
 }
 
-/// A command that runs: the files that it reaches, its streams, its disk of tapes and whether that lies in a file, what its grouping
-/// took, how many files were taken or passed over, what OUT is to it and whether that was written, and whether an answer lacks batches
-/// that it was to have.
+/// Writes a reply to standard error.
+fn put_beside<E: Write>(errors: &mut E, reply: &Reply<'_>) {
+    // If it can't be written, nothing is left to do.
+    let _ = put_reply(&mut Fused::new(&mut *errors), reply);
+}
+
+/// A running command: its files, its streams, whether OUT is standard output, its tape disk and whether that is in a file, what its
+/// aggregations took, how many files were taken or skipped, its OUT and whether that was written, and whether an answer lacks batches
+/// that it should have.
 #[derive(Drop)]
-pub struct Session<'c, R: Files, W, E> {
-    rt: &'c R,
+pub struct Session<'c, R: Files, I, W, E> {
+    inputs: Inputs<'c, R, I>,
     streams: Streams<'c, W, E>,
+    is_piped: bool,
     disk: SpillDisk<SystemFile<R::File>>,
     in_file: bool,
     work: Work,
@@ -75,13 +90,21 @@ pub struct Session<'c, R: Files, W, E> {
     is_short: bool,
 }
 
-impl<'c, R: Files + AllocGlobal + RandomSource, W: Write, E: Write> Session<'c, R, W, E> {
-    /// Nothing was done yet. What is spilled lies in memory.
-    pub fn new(rt: &'c R, streams: Streams<'c, W, E>) -> Session<'c, R, W, E> {
+impl<'c, R: Files + AllocGlobal + RandomSource, I: Read, W: Write, E: Write> Session<
+    'c,
+    R,
+    I,
+    W,
+    E,
+> {
+    /// A command that has done nothing yet. It spills to memory.
+    pub fn new(inputs: Inputs<'c, R, I>, streams: Streams<'c, W, E>) -> Session<'c, R, I, W, E> {
+        let alloc = inputs.rt.alloc();
         Session {
-            rt,
+            inputs,
             streams,
-            disk: SpillDisk::Memory(MemDisk::new(rt.alloc())),
+            is_piped: false,
+            disk: SpillDisk::Memory(MemDisk::new(alloc)),
             in_file: false,
             work: Work::none(),
             taken: 0,
@@ -94,8 +117,12 @@ impl<'c, R: Files + AllocGlobal + RandomSource, W: Write, E: Write> Session<'c, 
         }
     }
 
-    /// Writes a reply.
+    /// Writes a reply: to standard error, where OUT is standard output.
     fn reply(&mut self, reply: &Reply<'_>) -> Result<(), Problem<'static>> {
+        if self.is_piped {
+            put_beside(self.streams.errors, reply);
+            return Ok(());
+        }
         match put_reply(self.streams.writer, reply) {
             Ok(()) => Ok(()),
             Err(_) => Err(self.streams.output_fault()),
@@ -105,6 +132,15 @@ impl<'c, R: Files + AllocGlobal + RandomSource, W: Write, E: Write> Session<'c, 
     /// Writes a text.
     fn print(&mut self, text: &[u8]) -> Result<(), Problem<'static>> {
         match put_all(self.streams.writer, text) {
+            Ok(()) => Ok(()),
+            Err(_) => Err(self.streams.output_fault()),
+        }
+    }
+
+    /// Writes a summary file to standard output, and sends it out.
+    fn print_summary(&mut self, file: &SummaryFile) -> Result<(), Problem<'static>> {
+        self.print(file.bytes())?;
+        match self.streams.writer.flush() {
             Ok(()) => Ok(()),
             Err(_) => Err(self.streams.output_fault()),
         }
@@ -157,14 +193,17 @@ impl<'c, R: Files + AllocGlobal + RandomSource, W: Write, E: Write> Session<'c, 
             self.in_file = false;
             let alloc = self.streams.alloc;
             let spill = subcommand.spill(matches);
-            remove_disk(self.rt, alloc, spill, self.streams.errors);
+            remove_disk(self.inputs.rt, alloc, spill, self.streams.errors);
         }
     }
 
     /// Writes the summary file of a replica.
     fn save<'p>(&mut self, replica: &Replica, path: &'p str) -> Result<(), Problem<'p>> {
-        let file = summary_of(self.rt.alloc(), replica, path)?;
-        if self.target.write(self.rt, path, &file)? {
+        let rt = self.inputs.rt;
+        let file = summary_of(rt.alloc(), replica, path)?;
+        if self.is_piped {
+            self.print_summary(&file)?;
+        } else if self.target.write(rt, path, &file)? {
             self.streams.say(&WrittenOver { out: path });
         }
         self.is_written = true;
@@ -184,10 +223,10 @@ impl<'c, R: Files + AllocGlobal + RandomSource, W: Write, E: Write> Session<'c, 
         ensures { result.why ≡ why }
     {
         let reason = match (why, spill) {
-            (Refusal::TapeFault, Some(spill)) => tape_reason(self.rt, spill),
-            _ => file_reason(self.rt.alloc(), kind, replica, file, why),
+            (Refusal::TapeFault, Some(spill)) => tape_reason(self.inputs.rt, spill),
+            _ => file_reason(self.inputs.rt.alloc(), kind, replica, file, why),
         };
-        Problem::because(path, why, reason)
+        Problem::because(input_name(path), why, reason)
     }
 
     /// Takes the file of a place into a replica, and gives the reply.
@@ -202,15 +241,18 @@ impl<'c, R: Files + AllocGlobal + RandomSource, W: Write, E: Write> Session<'c, 
     ) -> Result<Reply<'static>, Problem<'p>>
         ensures { (honest : Bool) × (file : Option (List ℕ)) × TakesFile kind honest file replica.old replica.new (taken result) }
     {
-        let file = match read(self.rt, path) {
+        let file = match self.inputs.read(path) {
             Ok(file) => file,
             Err(problem) => return Err(problem),
         };
+        let alloc = self.inputs.rt.alloc();
         let (disk, work) = (&mut self.disk, &mut self.work);
-        match take(self.rt.alloc(), kind, replica, &file, means, disk, work) {
+        match take(alloc, kind, replica, &file, means, disk, work) {
             Ok(reply) => {
                 if is_cut(&file, &reply) {
-                    self.streams.say(&CutShort { path });
+                    self.streams.say(&CutShort {
+                        path: input_name(path),
+                    });
                 }
                 self.target.keep_old(place, file);
                 Ok(reply)
@@ -236,7 +278,7 @@ impl<'c, R: Files + AllocGlobal + RandomSource, W: Write, E: Write> Session<'c, 
         for path in paths {
             place = place.saturating_add(1);
             match self.take_file(kind, replica, path, place, means, spill) {
-                Ok(reply) => self.reply_to(path, &reply)?,
+                Ok(reply) => self.reply_to(input_name(path), &reply)?,
                 Err(problem) => self.pass_over(problem, place)?,
             }
         }
@@ -246,9 +288,9 @@ impl<'c, R: Files + AllocGlobal + RandomSource, W: Write, E: Write> Session<'c, 
     /// Lists what a replica knows.
     fn list<'p>(&mut self, replica: &Replica, matches: &ArgMatches<'p>) -> Result<(), Problem<'p>> {
         let format = known_format_named(value(matches, FORMAT));
-        match known_table(self.rt.alloc(), replica, format) {
+        match known_table(self.inputs.rt.alloc(), replica, format) {
             Ok(lines) => self.print(&lines),
-            Err(_) => Err(Problem::refused(value(matches, IN), Refusal::NoMemory)),
+            Err(_) => Err(no_memory_for(matches)),
         }
     }
 
@@ -274,14 +316,14 @@ impl<'c, R: Files + AllocGlobal + RandomSource, W: Write, E: Write> Session<'c, 
         replica: &Replica,
         matches: &ArgMatches<'p>,
     ) -> Result<(), Problem<'p>> {
-        let (alloc, format) = (self.rt.alloc(), format_named(value(matches, FORMAT)));
+        let (alloc, format) = (self.inputs.rt.alloc(), format_named(value(matches, FORMAT)));
         // Nothing is printed before there was memory for all.
         match (waiting_lines(alloc, replica), table(alloc, replica, format)) {
             (Ok(lines), Ok((_, table))) => {
                 self.print(&table)?;
                 self.tell_waiting(&lines, format, matches)
             }
-            _ => Err(Problem::refused(value(matches, IN), Refusal::NoMemory)),
+            _ => Err(no_memory_for(matches)),
         }
     }
 
@@ -356,13 +398,13 @@ impl<'c, R: Files + AllocGlobal + RandomSource, W: Write, E: Write> Session<'c, 
         matches: &ArgMatches<'p>,
     ) -> Result<Replica, Problem<'p>> {
         if matches!(subcommand, Subcommand::New) {
-            let replica = new_replica(self.rt.alloc(), matches)?;
+            let replica = new_replica(&mut self.inputs, matches)?;
             return match self.try_first(subcommand, matches) {
                 Ok(()) => Ok(replica),
                 Err(problem) => Err(problem),
             };
         }
-        let (replica, file) = open_replica(self.rt, value(matches, IN))?;
+        let (replica, file) = open_replica(&mut self.inputs, value(matches, IN))?;
         self.target.keep_old(0, file);
         Ok(replica)
     }
@@ -399,7 +441,7 @@ impl<'c, R: Files + AllocGlobal + RandomSource, W: Write, E: Write> Session<'c, 
     ) -> Option<OutputStatus<'p>> {
         match subcommand.out(matches) {
             Some(out) => Some(OutputStatus {
-                out,
+                out: output_name(out),
                 is_written: self.is_written,
             }),
             None => None,
@@ -411,6 +453,12 @@ impl<'c, R: Files + AllocGlobal + RandomSource, W: Write, E: Write> Session<'c, 
         ensures { EndsRefused problem.entry.why result }
     {
         self.complain(&problem, output);
+        if self.is_piped {
+            if !problem.is_unread() {
+                let _ = self.reply(&Reply::Refused(problem.why));
+            }
+            return ending_of(problem.why);
+        }
         reply_refused(self.streams.writer, problem.why)
     }
 
@@ -461,10 +509,12 @@ impl<'c, R: Files + AllocGlobal + RandomSource, W: Write, E: Write> Session<'c, 
         }
     }
 
-    /// Runs a command on files, and tells how it ended.
+    /// Runs a command on files, and answers how it ended.
     pub fn run(mut self, subcommand: Subcommand, matches: &ArgMatches<'_>) -> ExitKind {
-        let rt = self.rt;
-        let exit = match self.target.look(rt, subcommand, matches) {
+        let rt = self.inputs.rt;
+        self.is_piped = matches!(subcommand.out(matches), Some(out) if is_stream(out));
+        let is_terminal = self.streams.terminals.output;
+        let exit = match self.target.look(rt, subcommand, matches, is_terminal) {
             Ok(Some(standing)) if standing.fate.stops() => {
                 self.streams.say(&standing);
                 return ExitKind::BadUsage;
@@ -488,7 +538,7 @@ impl<'c, R: Files + AllocGlobal + RandomSource, W: Write, E: Write> Session<'c, 
         if !subcommand.aggregates() {
             return Ok(means);
         }
-        let seed = system_seed(self.rt)?;
+        let seed = system_seed(self.inputs.rt)?;
         Ok(means.with_seed(seed))
     }
 
@@ -502,7 +552,10 @@ impl<'c, R: Files + AllocGlobal + RandomSource, W: Write, E: Write> Session<'c, 
         let Some(out) = subcommand.out(matches) else {
             return Ok(());
         };
-        if self.target.try_first(self.rt, subcommand, matches, out)? {
+        if self
+            .target
+            .try_first(self.inputs.rt, subcommand, matches, out)?
+        {
             self.streams.say(&WrittenOver { out });
         }
         Ok(())
@@ -518,8 +571,9 @@ impl<'c, R: Files + AllocGlobal + RandomSource, W: Write, E: Write> Session<'c, 
     ) -> ExitKind {
         let terminals = self.streams.terminals;
         // Replies on the same terminal tell as much.
+        let are_replies_seen = terminals.output || self.is_piped;
         self.tells_progress = subcommand.is_told(matches, PROGRESS)
-            || (terminals.errors && !terminals.output);
+            || (terminals.errors && !are_replies_seen);
         if subcommand.aggregates() {
             if let Err(problem) = self.try_first(subcommand, matches) {
                 let output = self.output_status(subcommand, matches);
@@ -527,7 +581,7 @@ impl<'c, R: Files + AllocGlobal + RandomSource, W: Write, E: Write> Session<'c, 
             }
         }
         let spill = subcommand.spill(matches);
-        match open_disk(self.rt, spill) {
+        match open_disk(self.inputs.rt, spill) {
             Ok(disk) => self.disk = disk,
             Err(problem) => {
                 let output = self.output_status(subcommand, matches);
@@ -553,7 +607,7 @@ impl<'c, R: Files + AllocGlobal + RandomSource, W: Write, E: Write> Session<'c, 
     fn tell_passed(&mut self, subcommand: Subcommand, matches: &ArgMatches<'_>) {
         if let Some(out) = subcommand.out(matches) {
             self.streams.say(&PassedOver {
-                out,
+                out: output_name(out),
                 passed: self.passed,
                 files: self.files,
             });

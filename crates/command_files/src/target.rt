@@ -4,7 +4,7 @@ use crate::files::{front_kind, occupant_of_out, try_files, write_out};
 use clap::ArgMatches;
 use command_replicas::SummaryFile;
 use command_streams::Problem;
-use command_words::{FORCE, NO_CLOBBER, Subcommand};
+use command_words::{FORCE, NO_CLOBBER, Subcommand, is_stream, output_name};
 use file_sentences::{Fate, Standing};
 use out_files::{Occupant, Place};
 use replies::Refusal;
@@ -89,16 +89,24 @@ impl Target {
 
     /// Looks at what is there in the place of OUT, before anything else is read, and answers what is to be told of it. Where that can't be
     /// found out, it is a problem to a command that keeps a file, and for want of memory to all; else OUT can't be written either, which
-    /// is found out when that is tried.
+    /// is found out when that is tried. Of standard output it is asked alone whether it is a terminal.
     pub(crate) fn look<'p, R: Files + AllocGlobal>(
         &mut self,
         rt: &R,
         subcommand: Subcommand,
         matches: &ArgMatches<'p>,
+        is_terminal: bool,
     ) -> Result<Option<Standing<'p>>, Problem<'p>> {
         let Some(out) = subcommand.out(matches) else {
             return Ok(None);
         };
+        if is_stream(out) {
+            let is_shown = is_terminal && !subcommand.is_told(matches, FORCE);
+            return Ok(is_shown.then_some(Standing {
+                out: output_name(out),
+                fate: Fate::Shown,
+            }));
+        }
         let occupant = match occupant_of_out(rt, subcommand, matches, out) {
             Ok(occupant) => occupant,
             Err(problem)

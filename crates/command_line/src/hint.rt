@@ -1,17 +1,18 @@
-//! What may be meant by words that are no command line.
+//! What may be meant by an invalid command line.
 
 use clap::error::ErrorKind;
+use command_words::STREAM;
 use fault_sentences::Plain;
 use std::fmt;
 
-/// What is said before what the parser of words says.
+/// What is said before the sentence of the command line parser.
 #[derive(Clone, Copy, PartialEq, Eq)]
 pub(crate) enum Hint<'w> {
     /// Nothing more is known.
     Nothing,
-    /// `feed` has two files, and wants three: the one that is written and read may be meant twice.
+    /// `feed` has two files and needs three: one may be meant as OUT and IN.
     FeedTwice { summary: &'w str, batch: &'w str },
-    /// `script` has the name of a file, and reads standard input.
+    /// `script` was given a file name, but reads standard input.
     ScriptFile(&'w str),
 }
 
@@ -21,20 +22,26 @@ impl fmt::Display for Hint<'_> {
             Hint::Nothing => Ok(()),
             Hint::FeedTwice { summary, batch } => {
                 let (summary, batch) = (Plain(summary), Plain(batch));
-                writeln!(f, "2 files, wanted 3: feed {summary} {summary} {batch}?\n")
+                writeln!(
+                    f,
+                    "2 files, expected 3: did you mean feed {summary} {summary} {batch}?\n"
+                )
             }
             Hint::ScriptFile(file) => {
                 let file = Plain(file);
-                writeln!(f, "a script is read from standard input: script < {file}\n")
+                writeln!(
+                    f,
+                    "a script is read from standard input: use script < {file}\n"
+                )
             }
         }
     }
 }
 
-/// The options that a value follows as a word of its own.
+/// The options whose value is a word of its own.
 const VALUED: [&str; 2] = ["--limit", "--spill"];
 
-/// The words behind a command's name that are its files, up to three, and how many there are.
+/// The first two files of a command, and how many it has.
 fn files_of(words: &[String]) -> ([&str; 2], usize) {
     let mut files = [""; 2];
     let mut count: usize = 0;
@@ -45,7 +52,7 @@ fn files_of(words: &[String]) -> ([&str; 2], usize) {
             is_value = false;
         } else if VALUED.contains(&word) {
             is_value = true;
-        } else if !word.starts_with('-') {
+        } else if word == STREAM || !word.starts_with('-') {
             if let Some(file) = files.get_mut(count) {
                 *file = word;
             }
@@ -55,7 +62,7 @@ fn files_of(words: &[String]) -> ([&str; 2], usize) {
     (files, count)
 }
 
-/// What may be meant by the words of a command line, of which the first is the program's name, that the parser refuses so.
+/// What may be meant by a command line that the parser refused with this kind of error. The first word is the program's name.
 pub(crate) fn hint_of(words: &[String], kind: ErrorKind) -> Hint<'_> {
     let Some((_, [name, rest @ ..])) = words.split_first() else {
         return Hint::Nothing;

@@ -1,5 +1,5 @@
-//! The commands of `agg_tool`: its command line, the files that it reads and writes, what it says on which stream, and its
-//! status. What the commands make of bytes, and what they say, is proved below, in `script_machine`, `command_replicas` and `replies`.
+//! The commands of `agg_tool`: its command line, files, streams and exit status. What the commands do to bytes, and their replies, is
+//! proved below, in `script_machine`, `command_replicas` and `replies`.
 #![tactic(auto)]
 
 mod hint;
@@ -15,9 +15,9 @@ use command_files::Session;
 use command_packs::run_pack;
 use command_scripts::run_script;
 pub use command_streams::Terminals;
-use command_streams::{Problem, Streams, say};
-use command_words::{SPILL, Subcommand, parse_words};
-use replies::{ExitKind, status};
+use command_streams::{Inputs, Problem, Streams, reason_of, say};
+use command_words::{SPILL, STREAM, StreamFault, Subcommand, parse_words, stream_fault};
+use replies::{ExitKind, Refusal, status};
 use script_io::Fused;
 use std::alloc::Global;
 use std::io::{BufWriter, Read, Write};
@@ -38,6 +38,13 @@ fn write_error<E: Write>(alloc: Global, hint: &Hint<'_>, error: &Error, errors: 
             let _ = write!(errors, "{error}");
         }
     }
+}
+
+/// Ends a command for whose words there is no memory.
+fn refuse_for_memory<W: Write, E: Write>(streams: &mut Streams<'_, W, E>) -> ExitKind {
+    let _ = writeln!(streams.writer, "refused NoMemory");
+    let _ = writeln!(streams.errors, "error: out of memory");
+    ExitKind::Refused
 }
 
 /// Says why the words are no command line, or shows help or the version.
@@ -62,17 +69,115 @@ fn end_without_command<W: Write, E: Write>(
     }
 }
 
+/// Ends a command whose words name streams that there are not.
+fn refuse_streams<W: Write, E: Write>(
+    fault: StreamFault,
+    streams: &mut Streams<'_, W, E>,
+) -> ExitKind {
+    let alloc = streams.alloc;
+    let reason = match format!(in alloc; "{fault}") {
+        Ok(said) => Ok(reason_of(alloc, Some(said))),
+        Err(error) => Err(error),
+    };
+    streams.say(&Problem::because(STREAM, Refusal::BadCommand, reason));
+    ExitKind::BadUsage
+}
+
 /// Runs a command on files, by its name.
-fn run_subcommand<'c, R: Files + AllocGlobal + RandomSource, W: Write, E: Write>(
+fn run_subcommand<'c, R: Files + AllocGlobal + RandomSource, I: Read, W: Write, E: Write>(
     rt: &'c R,
+    reader: &'c mut Fused<I>,
+    writer: &'c mut Fused<W>,
+    errors: &'c mut E,
+    terminals: Terminals,
     name: &str,
     matches: &ArgMatches<'_>,
-    streams: Streams<'c, W, E>,
 ) -> ExitKind {
+    let alloc = rt.alloc();
+    let inputs = Inputs { rt, reader };
+    let streams = Streams {
+        alloc,
+        writer,
+        errors,
+        terminals,
+    };
     match Subcommand::named(name) {
-        Some(subcommand) => Session::new(rt, streams).run(subcommand, matches),
+        Some(subcommand) => Session::new(inputs, streams).run(subcommand, matches),
         // The parser knows no other.
         None => ExitKind::BadUsage,
+    }
+}
+
+/// Packs a plain CSV.
+fn run_packing<'c, R: Files + AllocGlobal, I: Read, W: Write, E: Write>(
+    rt: &'c R,
+    reader: &'c mut Fused<I>,
+    matches: &ArgMatches<'_>,
+    streams: &mut Streams<'_, W, E>,
+) -> ExitKind {
+    run_pack(Inputs { rt, reader }, matches, streams)
+}
+
+/// Runs a command whose words name streams that there are.
+fn run_found<R: Files + AllocGlobal + RandomSource, I: Read, W: Write, E: Write>(
+    rt: &R,
+    name: &str,
+    matches: &ArgMatches<'_>,
+    reader: &mut I,
+    writer: &mut Fused<W>,
+    errors: &mut E,
+    terminals: Terminals,
+) -> ExitKind {
+    let alloc = rt.alloc();
+    if name == "script" {
+        let mut streams = Streams {
+            alloc,
+            writer,
+            errors,
+            terminals,
+        };
+
+        return run_script(rt, matches.get_str(SPILL), reader, &mut streams);
+    }
+    let mut input = Fused::new(&mut *reader);
+    if name == "pack" {
+        let mut streams = Streams {
+            alloc,
+            writer,
+            errors,
+            terminals,
+        };
+
+        return run_packing(rt, &mut input, matches, &mut streams);
+    }
+    run_subcommand(rt, &mut input, writer, errors, terminals, name, matches)
+}
+
+/// Runs the command of a name.
+fn run_named<R: Files + AllocGlobal + RandomSource, I: Read, W: Write, E: Write>(
+    rt: &R,
+    name: &str,
+    matches: &ArgMatches<'_>,
+    reader: &mut I,
+    writer: &mut Fused<W>,
+    errors: &mut E,
+    terminals: Terminals,
+) -> ExitKind {
+    let alloc = rt.alloc();
+    let found = stream_fault(alloc, name, matches);
+    if let Ok(None) = found {
+        return run_found(rt, name, matches, reader, writer, errors, terminals);
+    }
+    let mut streams = Streams {
+        alloc,
+        writer,
+        errors,
+        terminals,
+    };
+
+    match found {
+        Ok(Some(fault)) => refuse_streams(fault, &mut streams),
+        _ => refuse_for_memory(&mut streams),
     }
 }
 
@@ -86,23 +191,24 @@ fn run_words<R: Files + AllocGlobal + RandomSource, I: Read, W: Write, E: Write>
     terminals: Terminals,
 ) -> ExitKind {
     let alloc = rt.alloc();
-    let mut streams = Streams {
-        alloc,
-        writer,
-        errors,
-        terminals,
-    };
     match parse_words(alloc, words) {
         Ok(matches) => match matches.subcommand() {
-            Some(("script", matches)) => {
-                run_script(rt, matches.get_str(SPILL), reader, &mut streams)
+            Some((name, matches)) => {
+                run_named(rt, name, matches, reader, writer, errors, terminals)
             }
-            Some(("pack", matches)) => run_pack(rt, matches, reader, &mut streams),
-            Some((name, matches)) => run_subcommand(rt, name, matches, streams),
             // The parser wants a command.
             None => ExitKind::BadUsage,
         },
-        Err(error) => end_without_command(&error, words, &mut streams),
+        Err(error) => {
+            let mut streams = Streams {
+                alloc,
+                writer,
+                errors,
+                terminals,
+            };
+
+            end_without_command(&error, words, &mut streams)
+        }
     }
 }
 

@@ -5,16 +5,15 @@ ghost use Rattle.grouping_model.specs.declared.limits.TheConstants.{LAST_ORIGIN}
 
 use clap::ArgMatches;
 use command_streams::{Problem, reason_of};
-use command_words::{DELIMITER, HEADER, IN, NULL, NUMBER, ORIGIN, PLAIN, SKIP_COLUMNS, value};
+use command_words::{
+    DELIMITER, HEADER, IN, NULL, NUMBER, ORIGIN, PLAIN, SKIP_COLUMNS, STREAM, value,
+};
 use fault_sentences::Quoted;
 use grouping_model::limits::{LAST_NUMBER, LAST_ORIGIN};
 use plain_batches::Layout;
 use replies::Refusal;
 use script_io::read_digits;
 use std::alloc::{AllocError, Global};
-
-/// What stands for standard input in the place of a file.
-pub(crate) const STANDARD_INPUT: &str = "-";
 
 /// The most digits of an origin or a number, leading zeros included.
 const MAX_DIGITS: usize = 10;
@@ -63,18 +62,9 @@ fn refused<'p>(
     Problem::because(option, Refusal::BadCommand, reason)
 }
 
-/// The summary and the plain CSV. Standard input is one of them at most.
-pub(crate) fn files_of<'p>(
-    alloc: Global,
-    matches: &ArgMatches<'p>,
-) -> Result<(&'p str, &'p str), Problem<'p>> {
-    let summary = value(matches, IN);
-    let csv = matches.get_str(PLAIN).unwrap_or(STANDARD_INPUT);
-    if summary == STANDARD_INPUT && csv == STANDARD_INPUT {
-        let said = format!(in alloc; "standard input is one file, and IN and CSV are two");
-        return Err(refused(alloc, STANDARD_INPUT, said));
-    }
-    Ok((summary, csv))
+/// The summary and the plain CSV, which is standard input where it is not told.
+pub(crate) fn files_of<'p>(matches: &ArgMatches<'p>) -> (&'p str, &'p str) {
+    (value(matches, IN), matches.get_str(PLAIN).unwrap_or(STREAM))
 }
 
 /// The origin and the number of the batch.
@@ -88,12 +78,12 @@ pub(crate) fn head_of<'p>(
     let (origin, number) = (value(matches, ORIGIN), value(matches, NUMBER));
     let Some(origin) = read_origin(origin) else {
         let shown = Quoted(origin.as_bytes());
-        let said = format!(in alloc; "{shown}, and an origin is 0 to {LAST_ORIGIN}");
+        let said = format!(in alloc; "{shown} is not an origin (0 to {LAST_ORIGIN})");
         return Err(refused(alloc, "--origin", said));
     };
     let Some(number) = read_number(number) else {
         let shown = Quoted(number.as_bytes());
-        let said = format!(in alloc; "{shown}, and a number is 1 to {LAST_NUMBER}");
+        let said = format!(in alloc; "{shown} is not a batch number (1 to {LAST_NUMBER})");
         return Err(refused(alloc, "--number", said));
     };
     Ok((origin, number))
@@ -108,7 +98,7 @@ pub(crate) fn layout_of<'p>(
     let Some(delimiter) = read_delimiter(told) else {
         let shown = Quoted(told.as_bytes());
         let said = format!(in alloc;
-            "{shown}, and it is one byte, as ; or tab, and no letter, digit or quote"
+            "{shown} is not a delimiter: give one byte, as ; or tab, but no letter, digit or quote"
         );
         return Err(refused(alloc, "--delimiter", said));
     };

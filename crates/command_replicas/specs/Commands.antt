@@ -31,7 +31,7 @@ pub record IsNew (columns query : List ℕ) (held : Held) : Type 0 where
   pub query_is : Accepts held.query.columns query held.query
   pub empty : held.parts ≡ []
 
--- why two texts make no replica: the first tells no columns, or else the second is no query over them
+-- why two texts make no replica: the first tells no columns, or else the second is not a query over them
 abbrev pub IsNotNew : (columns query : List ℕ) → Refusal → Type 0
 IsNotNew columns query BadSchema = (found : List Column) → ¬ (IsSchemaText columns found)
 IsNotNew columns query why = (found : List Column) × IsSchemaText columns found × IsNoQuery found query why
@@ -40,7 +40,7 @@ IsNotNew columns query why = (found : List Column) × IsSchemaText columns found
 abbrev pub IsReadOf : List Kind → Option BatchFile → packed.Batch → Type 0
 IsReadOf kinds file batch = IsSomeAnd file (λ read. IsRead kinds read.head.origin read.head.number read.head.told read.records batch)
 
--- a replica takes the batch of a batch file, over a disk of tapes that may be honest
+-- a replica takes the batch of a batch file, over a tape disk that may be honest
 abbrev pub TakesFile : (honest : Bool) → Option BatchFile → (old new : Held) → Delivered → Type 0
 TakesFile honest file old new delivered = IsSomeAnd file (λ read. Takes honest read.head.origin read.head.number read.head.told read.records
     old new delivered)
@@ -76,7 +76,7 @@ FileDisagrees file held of at = OfBatchFile held file (λ origin number packed. 
 abbrev pub FileAgrees : Option BatchFile → Held → Type 0
 FileAgrees file held = OfBatchFile held file (λ origin number packed. ¬ (Disagrees (part_of held.parts origin) number packed))
 
--- why a file is no batch file of these columns: its head is bad, or else it is refused as a feed is
+-- why a file is not a batch file of these columns: its head is bad, or else it is refused as a feed is
 abbrev pub IsNoBatchFile : List Kind → Option BatchFile → Refusal → Type 0
 IsNoBatchFile kinds None why = why ≡ Batch batch.BadBatchHead
 IsNoBatchFile kinds (Some read) why = IsNoBatch kinds read.head.origin read.head.number read.head.told read.records why
@@ -85,7 +85,7 @@ IsNoBatchFile kinds (Some read) why = IsNoBatch kinds read.head.origin read.head
 abbrev pub IsOtherFile : Option BatchFile → Held → Type 0
 IsOtherFile file held = IsSomeAnd file (λ read. IsOtherBatch read.head.origin read.head.number read.head.told read.records held)
 
--- why bytes are no summary file: their first fault, unless memory ran out
+-- why bytes are not a summary file: their first fault, unless memory ran out
 abbrev pub IsNoSummary : List ℕ → Refusal → Type 0
 IsNoSummary file NoMemory = Unit {0}
 IsNoSummary file (Summary error) = HasFault file error
@@ -96,7 +96,7 @@ abbrev pub FileMergeIsCounted : List ℕ → Held → Query → Setting → Work
 FileMergeIsCounted file held query setting old writes new written = (other : Held) × IsSummary file other.query other.parts
     × MergeIsCounted held.parts other.parts query setting old writes new written
 
--- why a file is not merged into a replica: it is no summary file, or its replica is not merged
+-- why a file is not merged into a replica: it is not a summary file, or its replica is not merged
 abbrev pub IsNotMerged : List ℕ → Held → Refusal → Type 0
 IsNotMerged file old why = IsNoSummary file why ⊎ ((other : Held) × IsSummary file other.query other.parts × IsApart old other why)
 

@@ -42,7 +42,7 @@ feed_same honest file old new (Err why) (inl unread) = unread.same
 feed_same honest file old new (Err why) (inr (refused, named, fed)) =
     (delivery_refused honest old new fed.batch (Err refused) fed.delivers).1
 
--- why the file is no batch file, where what is refused is of the batch
+-- why the file is not a batch file, where what is refused is of the batch
 pub feed_why : (honest : Bool) (file : Option BatchFile) (old new : Held) (result : Result Delivered Refusal)
     → Feeds honest file old new result → IfErr result (λ why. IsOfBatch why → IsNoBatchFile (kinds old.query.columns) file why)
 feed_why honest file old new (Ok delivered) f = tt

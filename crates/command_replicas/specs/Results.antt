@@ -25,7 +25,7 @@ pub record IsUnread (file : Option BatchFile) (old new : Held) (why : Refusal) :
   pub named : why ≡ batch_refusal error
   pub same : new ≡ old
 
--- a batch file is fed to a replica, over a disk of tapes that may be honest: it is read as a batch, or it is refused, and the batch is
+-- a batch file is fed to a replica, over a tape disk that may be honest: it is read as a batch, or it is refused, and the batch is
 -- delivered, or it is refused
 abbrev pub Feeds : (honest : Bool) → Option BatchFile → (old new : Held) → Result Delivered Refusal → Type 0
 Feeds honest file old new (Ok delivered) = IsFed honest file old new (Ok delivered)
@@ -44,7 +44,7 @@ pub record IsUnmerged (file : List ℕ) (old new : Held) (why : Refusal) : Type 
   pub apart : IsApart old other why
   pub same : new ≡ old
 
--- a summary file is merged into a replica, over a disk of tapes that may be honest: it is loaded, or it is refused, and the two replicas
+-- a summary file is merged into a replica, over a tape disk that may be honest: it is loaded, or it is refused, and the two replicas
 -- are merged, or they are not
 abbrev pub MergesFile : {T : Type 0} → (honest : Bool) → List ℕ → (old new : Held) → Result T Refusal → Type 0
 MergesFile honest file old new (Ok done) = (other : Held) × IsLoaded file other × MergesHeld honest old other new

@@ -1,4 +1,4 @@
-//! Batch files that are fed to a replica.
+//! Feeding batch files to a replica.
 
 ghost use Rattle.batch_reader.specs.File.{read_file};
 ghost use Rattle.hash_agg.specs.Ran.{Ran};
@@ -12,8 +12,8 @@ use replica_merge::{Delivered, Replica};
 use replies::Refusal;
 use std::alloc::Global;
 
-/// Feeds the batch of a batch file to a replica, as `feed` does in a script, by `means` and over a disk of tapes. A batch that is
-/// refused changes nothing. What the aggregation of batches that are folded took is added to `work`.
+/// Feeds the batch of a batch file to a replica, as `feed` does in a script, by `means` and over a tape disk. A refused batch changes
+/// nothing. The cost of aggregating the folded batches is added to `work`.
 ///
 /// # Errors
 ///

@@ -8,13 +8,13 @@ ghost use Rattle.replies.specs.declared.refusal.Refusal.{Refusal};
 ghost use Rattle.command_replicas.specs.Outcomes.{AfterFeed, AfterMergedFile};
 ghost use Rattle.command_replicas.specs.Results.{Feeds, MergesFile};
 
-/// What holds after a batch file was fed, by what `feed` tells.
+/// What holds after a batch file was fed, by the contract of `feed`.
 pub fn fed_file()
     ensures { (honest : Bool) (file : Option BatchFile) (old new : Held) (result : Result Delivered Refusal) →
         Feeds honest file old new result → AfterFeed honest file old new result }
 {}
 
-/// What holds after a summary file was merged, by what `merge` tells.
+/// What holds after a summary file was merged, by the contract of `merge`.
 pub fn merged_file()
     ensures { (honest : Bool) (file : List ℕ) (old new : Held) (result : Result (Unit {0}) Refusal) →
         MergesFile honest file old new result → AfterMergedFile honest file old new result }

@@ -1,5 +1,5 @@
-//! What the program's commands make of files: replicas out of summary files and batch files, and summary files out of replicas. All of
-//! it is over bytes; who reads and writes the files is the program.
+//! The commands on files, over bytes: replicas from summary files and batch files, and summary files from replicas. The program reads and
+//! writes the files.
 #![tactic(auto)]
 
 mod feeding;

@@ -18,8 +18,7 @@ use replica_merge::Replica;
 use replies::{Refusal, RunError};
 use std::alloc::Global;
 
-/// A replica that knows nothing, of the query that one text says over the columns that another tells, as `columns` and
-/// `query` do in a script.
+/// An empty replica of a query over columns, both given as texts, as `columns` and `query` make it in a script.
 ///
 /// # Errors
 ///
@@ -33,16 +32,16 @@ pub fn create(alloc: Global, columns: &str, query: &str) -> Result<Replica, Refu
     Ok(Replica::new(alloc, query))
 }
 
-/// The replica that a summary file of either version is of: what a replica saved is that replica. Any bytes are read: those that are no
-/// summary file are refused by their first fault. Want of memory is `NoMemory`.
+/// The replica of a summary file of either version: a saved replica is loaded as itself. Any bytes are read, and refused by their first
+/// fault if they are not a summary file. Out of memory is `NoMemory`.
 pub fn load(alloc: Global, file: &[u8]) -> Result<Replica, Refusal>
     ensures loads { LoadsFile file.now result }
 {
     Ok(Replica::load(alloc, file)?)
 }
 
-/// The summary file of a replica: the one spelling of its query and of what it knows, in the second version. A file that would be longer
-/// than the 67,108,864 bytes that are read is `InputTooLong`, and is not made. Want of memory is `NoMemory`.
+/// The summary file of a replica: the one spelling of its query and of what it knows, in the second version. A file longer than
+/// 67,108,864 bytes is refused as `InputTooLong`, and is not made. Out of memory is `NoMemory`.
 pub fn save(replica: &Replica) -> Result<SummaryFile, Refusal>
     ensures file { IfOk result (λ file. IsSaved file replica.now.query replica.now.parts) }
     ensures short { IfOk result (λ file. length file ≤ MAX_INPUT_LEN) }

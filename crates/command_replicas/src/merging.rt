@@ -1,4 +1,4 @@
-//! Summary files that are merged into a replica.
+//! Merging summary files into a replica.
 
 ghost use Rattle.hash_agg.specs.Ran.{Ran};
 ghost use Rattle.replies.specs.Refusals.{refusal_ended};
@@ -10,9 +10,8 @@ use replica_merge::Replica;
 use replies::Refusal;
 use std::alloc::Global;
 
-/// Merges the replica that a summary file is of into another, as `merge` does in a script: afterwards this knows what either
-/// knew. It is done by `means` and over a disk of tapes, and what the aggregations of early batches that follow now took is
-/// added to `work`. A file that is refused changes nothing.
+/// Merges the replica of a summary file into another, as `merge` does in a script: afterwards the second knows what either knew. It
+/// aggregates by `means` and over a tape disk, and adds the cost to `work`. A refused file changes nothing.
 ///
 /// # Errors
 ///

@@ -5,8 +5,8 @@ ghost use Rattle.command_replicas.specs.Commands.{IsReadable};
 
 use std::marker::Model;
 
-/// The bytes of a summary file of what a replica knows, at most 67,108,864, which can be read again: [`save`](crate::save) alone makes
-/// one, so that what takes one writes nothing else.
+/// The bytes of a replica's summary file, at most 67,108,864, which can be loaded again. Only [`save`](crate::save) makes one, so a
+/// function that takes one writes nothing else.
 #[derive(Drop)]
 pub struct SummaryFile {
     bytes: Vec<u8>,

@@ -1,4 +1,4 @@
-//! The command of scripts, with a sentence for each refused command.
+//! The command `script`, with a sentence for each refused command.
 #![tactic(auto)]
 
 ghost use Rattle.command_streams.specs.Stopping.{EndsRefused};
@@ -20,7 +20,7 @@ use std::random::RandomSource;
 use std::rt::Files;
 use std::{fmt, io};
 
-/// What is said of a refused command.
+/// The sentence on a refused command.
 #[derive(Drop)]
 struct Complaint {
     line: u64,
@@ -47,12 +47,12 @@ struct Complaints<'e, R, E> {
     rt: &'e R,
     errors: &'e mut E,
     place: ScriptPlace,
-    /// The file for what is spilled, if there is one.
+    /// The spill file, if there is one.
     spill: Option<&'e str>,
 }
 
 impl<R: Files + AllocGlobal, E: Write> Complaints<'_, R, E> {
-    /// Why the command here is refused, where it is a text.
+    /// Why the command here is refused, if the reason is a single line.
     fn said(
         &self,
         script: &[u8],
@@ -74,7 +74,7 @@ impl<R: Files + AllocGlobal, E: Write> Complaints<'_, R, E> {
         Ok(Some(said))
     }
 
-    /// Why a command is refused that begins a line of the script.
+    /// Why the command at a line of the script is refused.
     fn reason(
         &mut self,
         script: &[u8],
@@ -104,7 +104,7 @@ impl<R: Files + AllocGlobal, E: Write> Observer for Complaints<'_, R, E> {
     }
 }
 
-/// What stopped a script, and what the system said of it.
+/// What stopped a script, and the system's cause.
 #[derive(Clone, Copy)]
 struct Stopped {
     error: RunError,
@@ -122,8 +122,8 @@ impl fmt::Display for Stopped {
     }
 }
 
-/// Says what stopped a script, if something did, given what the system said of its reader and of its writer. Nothing is said where nobody
-/// reads its replies any more.
+/// Says what stopped a script, if something did, with the system's error of its reader or writer. If the reader of the replies has closed
+/// them, nothing is said.
 fn say_end<E: Write>(
     alloc: Global,
     run: &Result<Outcome, RunError>,
@@ -145,7 +145,7 @@ fn say_end<E: Write>(
     say(alloc, errors, &Stopped { error, cause });
 }
 
-/// Runs the script that a reader has left over a disk of tapes, which may lie in a file, with a seed of its tables of groups.
+/// Runs the script that a reader has left over a tape disk, which may be in a file, with a seed of its group tables.
 fn run_over<R: Files + AllocGlobal, I: Read, W: Write, E: Write, D: TapeDisk>(
     rt: &R,
     spill: Option<&str>,
@@ -178,7 +178,7 @@ fn stop<W: Write, E: Write>(problem: Problem<'_>, streams: &mut Streams<'_, W, E
     reply_refused(streams.writer, problem.why)
 }
 
-/// Runs the script that a reader has left over a disk of tapes. Where there is no seed, nothing is read or replied.
+/// Runs the script that a reader has left over a tape disk. Without a seed nothing is read or replied.
 fn run_seeded<R: Files + AllocGlobal + RandomSource, I: Read, W: Write, E: Write, D: TapeDisk>(
     rt: &R,
     spill: Option<&str>,
@@ -206,7 +206,7 @@ fn run_seeded<R: Files + AllocGlobal + RandomSource, I: Read, W: Write, E: Write
     }
 }
 
-/// Runs the script that a reader has left. What is spilled lies in memory, or in a new file where its path is told.
+/// Runs the script that a reader has left. It spills to memory, or to a new file if a path is given.
 pub fn run_script<R: Files + AllocGlobal + RandomSource, I: Read, W: Write, E: Write>(
     rt: &R,
     spill: Option<&str>,

@@ -8,7 +8,7 @@ use Rattle.replies.specs.declared.ending.ExitKind.TheVariants.{Fault}
 use Rattle.replies.specs.declared.refusal.Refusal.{Refusal}
 use Rattle.replies.specs.declared.refusal.Refusal.TheVariants.{TapeFault}
 
--- how a command ends that a refusal stops: where the file of what is spilled failed, as where any other did
+-- how a command ends that a refusal stops: where the spill file failed, as where any other did
 abbrev pub ending_of : Refusal → ExitKind
 ending_of TapeFault = Fault
 ending_of why = refusal_ending why

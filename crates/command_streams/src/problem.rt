@@ -1,4 +1,4 @@
-//! Why a command stopped, or passed over a file.
+//! Why a command stopped or skipped a file.
 
 ghost use Rattle.std.specs.Prelude.{◌≡◌, ◌↔◌, IsTrue};
 ghost use Rattle.replies.specs.declared.ending.ExitKind.TheVariants.{Fault};
@@ -18,11 +18,11 @@ pub struct Problem<'p> {
     /// A file, an option of the command line, or a stream.
     pub subject: &'p str,
     pub why: Refusal,
-    /// What the system said of it.
+    /// The system's error.
     cause: Option<io::Error>,
-    /// Why, of the bytes in which it is, in the place of what is said of all such refusals.
+    /// A reason that quotes the faulty bytes. It replaces the general sentence of the refusal.
     reason: Option<Reason>,
-    /// Whether it is standard output.
+    /// Whether the subject is standard output.
     is_output: bool,
 }
 
@@ -40,7 +40,7 @@ impl<'p> Problem<'p> {
         }
     }
 
-    /// Something was refused for a reason, where one was found and there was memory to say it.
+    /// Something was refused, with a reason if one was found and memory sufficed to say it.
     pub fn because<E: Drop>(
         subject: &'p str,
         why: Refusal,
@@ -57,7 +57,7 @@ impl<'p> Problem<'p> {
         }
     }
 
-    /// The system failed, which told the cause.
+    /// The system failed, with this cause.
     pub fn failed(subject: &'p str, error: RunError, cause: io::Error) -> Problem<'p>
         ensures { result.why ≡ Run error }
     {
@@ -83,7 +83,7 @@ impl<'p> Problem<'p> {
         }
     }
 
-    /// Whether a file or a stream could not be read or written: also the file of what is spilled.
+    /// Whether a file or a stream could not be read or written. The spill file counts, too.
     pub fn is_fault(&self) -> bool
         ensures { IsTrue result ↔ (ending_of self.now.why ≡ Fault) }
     {
@@ -93,13 +93,13 @@ impl<'p> Problem<'p> {
         )
     }
 
-    /// Whether nobody reads standard output any more, of which nothing is said.
+    /// Whether the reader of standard output has closed it. Then no sentence is written.
     pub fn is_unread(&self) -> bool {
         self.is_output && is_closed(&self.cause)
     }
 }
 
-/// Whether a stream failed since nobody reads it any more.
+/// Whether a stream failed because its reader closed it.
 pub fn is_closed(cause: &Option<io::Error>) -> bool {
     match cause {
         Some(error) => error.kind() == ErrorKind::BrokenPipe,
@@ -107,7 +107,7 @@ pub fn is_closed(cause: &Option<io::Error>) -> bool {
     }
 }
 
-/// A reason that is one text.
+/// A reason without a picture.
 pub fn reason_of(alloc: Global, said: Option<String>) -> Option<Reason> {
     match said {
         Some(said) => Some(Reason::whole(alloc, said)),
@@ -115,14 +115,14 @@ pub fn reason_of(alloc: Global, said: Option<String>) -> Option<Reason> {
     }
 }
 
-/// What became of OUT.
+/// Whether OUT was written.
 #[derive(Clone, Copy)]
 pub struct OutputStatus<'o> {
     pub out: &'o str,
     pub is_written: bool,
 }
 
-/// What is said of a problem, and of OUT, if a command writes one.
+/// The sentence on a problem, and on OUT if the command writes one.
 #[derive(Clone, Copy)]
 pub struct Diagnostic<'t, 'p> {
     pub problem: &'t Problem<'p>,

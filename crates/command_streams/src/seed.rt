@@ -1,4 +1,4 @@
-//! The seed of the tables of groups of a command.
+//! The seed of the group tables of a command.
 
 use crate::problem::Problem;
 use fault_sentences::Reason;
@@ -8,13 +8,13 @@ use std::alloc::{AllocError, Global};
 use std::io;
 use std::random::RandomSource;
 
-/// Says why there is no seed.
+/// The reason why there is no seed.
 fn seed_reason(alloc: Global, cause: io::Error) -> Result<Option<Reason>, AllocError> {
-    let said = format!(in alloc; "the system gives none for the tables of groups ({cause})")?;
+    let said = format!(in alloc; "the system gave none for the group tables ({cause})")?;
     Ok(Some(Reason::whole(alloc, said)))
 }
 
-/// A seed of the system's random bytes, so that nobody can choose keys that lie in one place of a table.
+/// A seed of random bytes of the system, so that nobody can choose keys that collide in a table.
 pub fn system_seed<R: RandomSource + AllocGlobal>(rt: &R) -> Result<Seed, Problem<'static>> {
     let mut bytes = [0; 16];
     match rt.fill_bytes(&mut bytes) {

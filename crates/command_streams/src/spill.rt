@@ -1,4 +1,4 @@
-//! The disk of tapes that a command takes.
+//! The tape disk that a command takes.
 
 use crate::problem::Problem;
 use crate::streams::say;
@@ -11,13 +11,13 @@ use std::io::Write;
 use std::rt::Files;
 use std::{fmt, fs, io};
 
-/// Says why the file for what is spilled was not made.
+/// The reason why the spill file was not created.
 fn spill_reason(alloc: Global, cause: io::Error) -> Result<Option<Reason>, AllocError> {
-    let said = format!(in alloc; "the new file for what is spilled can't be made ({cause})")?;
+    let said = format!(in alloc; "the spill file cannot be created ({cause})")?;
     Ok(Some(Reason::whole(alloc, said)))
 }
 
-/// A disk of tapes: in a new file where its path is told, else in memory.
+/// A tape disk: in a new file if a path is given, else in memory.
 pub fn open_disk<'p, R: Files + AllocGlobal>(
     rt: &R,
     path: Option<&'p str>,
@@ -35,8 +35,7 @@ pub fn open_disk<'p, R: Files + AllocGlobal>(
     }
 }
 
-/// Says that the file for what is spilled failed, and what the system says of it, where that is found out by a page more. The file has what
-/// it had.
+/// The reason why the spill file failed. The system's cause is found by writing one more page, and removing it again.
 pub fn tape_reason<R: Files + AllocGlobal>(
     rt: &R,
     path: &str,
@@ -44,15 +43,13 @@ pub fn tape_reason<R: Files + AllocGlobal>(
     let alloc = rt.alloc();
     let shown = Plain(path);
     let said = match append_fault(rt, path) {
-        Some(cause) => format!(in alloc;
-            "{shown}, the file of --spill, can't be written ({cause})"
-        )?,
-        None => format!(in alloc; "{shown}, the file of --spill, could not be read or written")?,
+        Some(cause) => format!(in alloc; "the spill file {shown} cannot be written ({cause})")?,
+        None => format!(in alloc; "the spill file {shown} could not be read or written")?,
     };
     Ok(Some(Reason::whole(alloc, said)))
 }
 
-/// A file for what is spilled that stays.
+/// A spill file that could not be removed.
 #[derive(Clone, Copy)]
 struct Left<'p> {
     path: &'p str,
@@ -62,14 +59,11 @@ struct Left<'p> {
 impl fmt::Display for Left<'_> {
     fn fmt<W: fmt::Write>(&self, f: &mut fmt::Formatter<W>) -> fmt::Result {
         let (path, cause) = (Plain(self.path), self.cause);
-        write!(
-            f,
-            "{path}: the file for what is spilled can't be removed ({cause})"
-        )
+        write!(f, "{path}: the spill file cannot be removed ({cause})")
     }
 }
 
-/// Removes the file in which the tapes lay, if they did in one. A sentence says so where it can't be removed.
+/// Removes the spill file, if there is one. If it can't be removed, a sentence says so.
 pub fn remove_disk<R: Files, E: Write>(rt: &R, alloc: Global, path: Option<&str>, errors: &mut E) {
     let Some(path) = path else {
         return;

@@ -10,7 +10,7 @@ use replies::{ExitKind, Refusal, Reply, put_reply, refusal_ending};
 use script_io::Fused;
 use std::io::Write;
 
-/// How a command ends that a refusal stops: where the file of what is spilled failed, as where any other did.
+/// How a command ends that a refusal stops. A fault of the spill file counts as one of any other file.
 pub fn ending_of(why: Refusal) -> ExitKind
     ensures { result ≡ ending_of why }
 {
@@ -20,7 +20,7 @@ pub fn ending_of(why: Refusal) -> ExitKind
     }
 }
 
-/// Replies that a command was refused, and tells how it ends: as its refusal tells, or by a fault where the reply could not be written.
+/// Replies that a command was refused, and answers how it ends: by its refusal, or by a fault if the reply could not be written.
 pub fn reply_refused<W: Write>(writer: &mut Fused<W>, why: Refusal) -> ExitKind
     ensures { RepliesRefused (said_text (Refused why)) (written W.contents writer.old) (written W.contents writer.new) why result }
 {

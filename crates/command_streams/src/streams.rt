@@ -1,4 +1,4 @@
-//! The streams of a command, and what is said on them.
+//! The streams of a command, and the sentences on them.
 
 use crate::problem::Problem;
 use script_io::Fused;
@@ -6,12 +6,12 @@ use std::alloc::Global;
 use std::fmt::Display;
 use std::io::Write;
 
-/// Which streams a person looks at.
+/// Which streams are terminals.
 #[derive(Clone, Copy)]
 pub struct Terminals {
-    /// Standard output is a terminal: replies go out as they come.
+    /// Standard output is a terminal: replies are written at once.
     pub output: bool,
-    /// Standard error is a terminal: it is told how far a command is.
+    /// Standard error is a terminal: progress is reported there.
     pub errors: bool,
 }
 
@@ -25,9 +25,9 @@ impl Terminals {
     }
 }
 
-/// Says a sentence, which ends a line, in one write. Where there is no memory for that it goes out in pieces.
+/// Writes a sentence and a line feed, in one write. If there is no memory for that, it is written in pieces.
 pub fn say<E: Write, T: Display>(alloc: Global, errors: &mut E, sentence: &T) {
-    // Nothing is left to do where the sentence can't be written.
+    // If the sentence can't be written, nothing is left to do.
     match format!(in alloc; "{sentence}\n") {
         Ok(line) => {
             let _ = errors.write_all(line.as_bytes());
@@ -38,7 +38,7 @@ pub fn say<E: Write, T: Display>(alloc: Global, errors: &mut E, sentence: &T) {
     }
 }
 
-/// What a command writes to.
+/// The streams of a command.
 #[derive(Drop)]
 pub struct Streams<'s, W, E> {
     pub alloc: Global,
@@ -48,7 +48,7 @@ pub struct Streams<'s, W, E> {
 }
 
 impl<W: Write, E: Write> Streams<'_, W, E> {
-    /// Says a sentence.
+    /// Writes a sentence.
     pub fn say<T: Display>(&mut self, sentence: &T) {
         say(self.alloc, self.errors, sentence);
     }

@@ -1,1 +1,4 @@
+pub mod Bytes
+pub mod LineEnd
+pub mod Streams
 pub mod Subcommands

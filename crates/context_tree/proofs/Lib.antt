@@ -7,3 +7,4 @@ pub mod Walks
 pub mod Clearing
 pub mod TreeLaws
 pub mod Bounds
+pub mod RootLaws

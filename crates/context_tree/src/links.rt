@@ -29,10 +29,11 @@ pub struct Link {
     pub parent: Option<u32>,
 }
 
-/// The links of the contexts by their slots. The root is in slot 0, for which there is room in the value itself.
+/// The links of the contexts by their slots. The root is in slot 0. There is room in the value itself for the root and three more, as many
+/// as a table of groups has.
 #[derive(Drop)]
 pub struct Links {
-    links: SmallVec<Option<Link>, 1>,
+    links: SmallVec<Option<Link>, 4>,
     free: BlockMarks,
 }
 

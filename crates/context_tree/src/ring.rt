@@ -21,7 +21,7 @@ pub struct Near {
 /// A slot knows the one after it and the one before it, as a context of PostgreSQL knows its neighbours among its siblings.
 #[derive(Drop)]
 pub struct Ring {
-    near: SmallVec<Near, 1>,
+    near: SmallVec<Near, 4>,
 }
 
 impl Model for Ring {

@@ -45,7 +45,7 @@ pub struct Tree {
     links: Links,
     /// The slots of the contexts in preorder.
     ring: Ring,
-    contexts: SmallVec<Context, 1>,
+    contexts: SmallVec<Context, 4>,
     last: u64,
     /// The bytes of the blocks of all contexts.
     held: u64,
@@ -68,7 +68,7 @@ fn replace(contexts: &mut [Context], slot: usize, context: Context)
 }
 
 /// Puts a context into a slot, or into a new one behind the last.
-fn put_context(contexts: &mut SmallVec<Context, 1>, slot: usize, context: Context)
+fn put_context(contexts: &mut SmallVec<Context, 4>, slot: usize, context: Context)
     requires low { slot ≤ length contexts.old.items }
     requires room { HasRoomFor contexts.old 1 }
     ensures { contexts.new.items ≡ placed contexts.old.items slot context }
@@ -429,8 +429,21 @@ impl Tree {
         ensures value { Answers id self.now (held_below self.now id) result }
     {
         self.check(id)?;
-        let sum = sum_below(&self.links, &self.ring, &self.contexts, id.slot);
+        self.is_bounded();
+        let sum = self.sum_from(id.slot);
         Ok(u128::from(sum))
+    }
+
+    /// The bytes of the blocks of the context in a slot and of all its descendants. Those of the root are all.
+    fn sum_from(&self, slot: u32) -> u64
+        requires { IsTrue (is_some (get_or self.now.links slot None)) }
+        ensures { result ≡ held_from self.now.links slot 0 self.now.contexts }
+    {
+        self.links.is_forest();
+        if slot == ROOT {
+            return self.held;
+        }
+        sum_below(&self.links, &self.ring, &self.contexts, slot)
     }
 
     /// How many bytes of blocks `alloc` of `n` bytes would take now: 0 where it would be refused for what it asks.

@@ -8,4 +8,6 @@ use Rattle.replica_merge.specs.Replicas.{Held}
 use Rattle.engine.specs.Sessions.{SessionState}
 
 abbrev pub coded_session : Coded SessionState
-coded_session = code_by (Held × ℕ) (coded× coded_held coded_ℕ) (λ s. (s.held, s.limit)) (λ p. record { held = p.0; limit = p.1 }) (λ _. refl)
+coded_session = code_by (Held × (ℕ × (ℕ × ℕ))) (coded× coded_held (coded× coded_ℕ (coded× coded_ℕ coded_ℕ)))
+    (λ s. (s.held, (s.limit, (s.seed.low, s.seed.high))))
+    (λ p. record { held = p.0; limit = p.1.0; seed = record { low = p.1.1.0; high = p.1.1.1 } }) (λ _. refl)

@@ -1,4 +1,5 @@
 pub mod Sessions
 pub mod Coding
+pub mod Places
 pub mod Statuses
 pub mod Calls

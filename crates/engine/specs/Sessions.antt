@@ -1,8 +1,10 @@
 -- What a session holds. All of this is our own.
 use Rattle.std.specs.Prelude.{ℕ}
+use Rattle.key_hashes.specs.declared.sip_hash.Seed.{Seed}
 use Rattle.replica_merge.specs.Replicas.{Held}
 
--- a replica, and the limit of its aggregations
+-- a replica, and the limit and the seed of its aggregations
 pub record SessionState : Type 0 where
   pub held : Held
   pub limit : ℕ
+  pub seed : Seed

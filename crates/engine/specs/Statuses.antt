@@ -1,5 +1,5 @@
--- The statuses by which a caller from outside is answered: which stands for a refusal, its number, which never changes, and its name, which
--- is the refusal's. All of this is our own.
+-- The statuses that calls return: the status of each refusal, its number, which never changes, and its name, which is the refusal's. All
+-- of this is our own.
 use Rattle.std.specs.Prelude.{ℕ, ◌==◌, List, [], ◌∷◌, codes, find, Option, Result, Ok, Err}
 use Rattle.query_checks.specs.declared.error.QueryError.{QueryError}
 use Rattle.query_checks.specs.declared.error.QueryError.TheVariants as query
@@ -56,7 +56,7 @@ status_number says.InputTooLong = 70
 status_number says.ReadFault = 71
 status_number says.WriteFault = 72
 
--- all statuses, by rising number
+-- all statuses, by ascending number
 abbrev pub all_statuses : List Status
 all_statuses =
     says.Done ∷ says.NoMemory ∷ says.TooShort ∷ says.NotOpen ∷ says.AlreadyOpen ∷ says.BadCommand ∷ says.NoSuchName ∷
@@ -168,12 +168,12 @@ status_of refuse.BadCommand = says.BadCommand
 status_of refuse.NoSuchName = says.NoSuchName
 status_of refuse.NameTaken = says.NameTaken
 
--- an outcome, as it is told from outside
+-- an outcome, as callers get it
 abbrev pub told_by : {T : Type 0} → Result T Refusal → Result T Status
 told_by (Ok done) = Ok done
 told_by (Err why) = Err (status_of why)
 
--- the number that tells of an outcome, which is 0 where all was done
+-- the number of an outcome, which is 0 for success
 abbrev pub number_told : {T : Type 0} → Result T Status → ℕ
 number_told (Ok done) = 0
 number_told (Err status) = status_number status

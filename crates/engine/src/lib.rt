@@ -1,5 +1,4 @@
-//! A summary inside another program: a session, which is a replica with its executor, and the statuses by which a caller from outside is
-//! answered.
+//! A summary inside another program: a session, which is a replica with its executor, and the statuses that its calls return.
 #![tactic(auto)]
 
 mod place;

@@ -1,5 +1,9 @@
 //! The place of a refusal.
 
+ghost use Rattle.std.specs.Prelude.{◌≡◌};
+ghost use Rattle.replies.specs.declared.refusal.Refusal.TheVariants.{Query, Batch};
+ghost use Rattle.engine.specs.Places.{place_of, numbers};
+
 use batch_reader::BatchError;
 use group_parser::ParseError;
 use replies::Refusal;
@@ -8,8 +12,8 @@ use replies::Refusal;
 #[repr(C)]
 #[derive(Clone, Copy, Debug, PartialEq, Eq)]
 pub struct Place {
-    /// What the numbers are: 0 none is known; 1 a byte of the query's text, counted from 0; 2 a row; 3 a row and a column, both
-    /// counted from 0; 4 an origin; 5 an origin and the number of a batch.
+    /// What the numbers mean: 0 no place is known; 1 a byte of the query's text, from 0; 2 a row, from 0; 3 a row and a column, both from
+    /// 0; 4 an origin; 5 an origin and the number of a batch.
     pub kind: u32,
     /// The first number, or 0.
     pub first: u64,
@@ -26,21 +30,49 @@ impl Place {
     };
 
     /// The place of a refusal.
-    pub fn of(why: Refusal) -> Place {
-        let (kind, first, second) = match why {
-            Refusal::Query(ParseError::Syntax { at }) => (1, at as u64, 0),
-            Refusal::Batch(BatchError::WrongWidth { row }) => (2, row as u64, 0),
-            Refusal::Batch(BatchError::BadField { row, column }) => (3, row as u64, column as u64),
+    pub fn of(why: Refusal) -> Place
+        ensures { result ≡ place_of why }
+    {
+        match why {
+            Refusal::Query(error) => Place::of_query(error),
+            Refusal::Batch(error) => Place::of_batch(error),
             Refusal::OriginDisagrees {
                 origin,
                 number: None,
-            } => (4, u64::from(origin), 0),
+            } => Place::numbers(4, u64::from(origin), 0),
             Refusal::OriginDisagrees {
                 origin,
                 number: Some(number),
-            } => (5, u64::from(origin), u64::from(number)),
-            _ => (0, 0, 0),
-        };
+            } => Place::numbers(5, u64::from(origin), u64::from(number)),
+            _ => Place::NONE,
+        }
+    }
+
+    /// The place of what is wrong with a query's text.
+    fn of_query(error: ParseError) -> Place
+        ensures { result ≡ place_of (Query error) }
+    {
+        match error {
+            ParseError::Syntax { at } => Place::numbers(1, at as u64, 0),
+            ParseError::NumberTooLarge | ParseError::Query(_) => Place::NONE,
+        }
+    }
+
+    /// The place of what is wrong with a batch.
+    fn of_batch(error: BatchError) -> Place
+        ensures { result ≡ place_of (Batch error) }
+    {
+        match error {
+            BatchError::WrongWidth { row } => Place::numbers(2, row as u64, 0),
+            BatchError::BadField { row, column } => Place::numbers(3, row as u64, column as u64),
+            _ => Place::NONE,
+        }
+    }
+
+    /// A place of these numbers.
+    fn numbers(kind: u32, first: u64, second: u64) -> Place
+        ensures { result ≡ numbers kind first second }
+    {
         Place {
             kind,
             first,

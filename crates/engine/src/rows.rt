@@ -1,4 +1,4 @@
-//! The batch of some rows whose origin and number are told beside them.
+//! Batches of rows whose origin and number are given apart.
 
 ghost use Rattle.std.specs.Prelude.{◌≡◌, ◌≢◌, [], IfOk, IfErr, decimal};
 ghost use Rattle.packed_rows.specs.Columns.{kinds};
@@ -15,7 +15,7 @@ use packed_rows::Schema;
 use script_io::Records;
 use std::alloc::Global;
 
-/// Why no batch is read where more records come than are told, or else for another reason. Want of memory is `NoMemory`.
+/// Why no batch is read: more records come than declared, or another reason. Out of memory is `NoMemory`.
 fn why_unread(records: &mut Records<'_>, otherwise: BatchError) -> BatchError
     ensures none { records.old ≡ [] → (result ≢ NoMemory) → result ≡ otherwise }
     ensures more { records.old ≢ [] → (result ≢ NoMemory) → result ≡ RowCount }
@@ -27,7 +27,7 @@ fn why_unread(records: &mut Records<'_>, otherwise: BatchError) -> BatchError
     }
 }
 
-/// The batch of all records that are left, by the rules of batch files.
+/// The batch of all remaining records, by the rules of batch files.
 fn read_left(
     alloc: Global,
     schema: &Schema,
@@ -60,8 +60,7 @@ fn read_left(
     }
 }
 
-/// The batch of an origin and a number whose rows are records in CSV, as many as are told. The first refusal is told, in the order of
-/// [`BatchError`].
+/// The batch of an origin and a number, with rows in CSV, as many as declared. The error is the first in the order of [`BatchError`].
 pub(crate) fn read_numbered(
     alloc: Global,
     schema: &Schema,

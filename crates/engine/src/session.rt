@@ -1,6 +1,7 @@
 //! A session: a replica with its executor.
 
-ghost use Rattle.std.specs.Prelude.{◌≡◌, ◌≢◌, IfOk, IfErr, OnErr, string_bytes};
+ghost use Rattle.std.specs.Prelude.{◌≡◌, ◌≢◌, IfOk, IfErr, OnOk, OnErr, string_bytes};
+ghost use Rattle.hash_agg.specs.Means.{AreMeans};
 ghost use Rattle.command_replicas.specs.Commands.{IsTooLong};
 ghost use Rattle.engine.specs.Calls.{IsNoLimit, Creates, Loads, FeedsFile, FeedsRows, MergesSession, MergesFileSession, IsFileOf};
 ghost use Rattle.engine.specs.Calls.{IsTableOf, IsKnownText, IsQueryText, IsColumnsText};
@@ -14,8 +15,8 @@ use std::alloc::{AllocError, Global};
 use std::marker::Model;
 use std::str::from_utf8;
 
-/// A replica, and by what its batches are aggregated: a limit and a seed. What does not keep within the limit is spilled to tapes in
-/// memory, which each call takes anew and gives back.
+/// A replica, and the limit and seed of its aggregations. Groups beyond the limit are spilled to tapes in memory, which each call takes
+/// and frees.
 #[derive(Drop)]
 pub struct Session {
     alloc: Global,
@@ -31,12 +32,14 @@ impl Model for Session {
 
     ghost coded = { coded_session };
 
-    ghost view = { λ s. record { held = s.replica; limit = s.means.limit } };
+    ghost view = { λ s. record { held = s.replica; limit = s.means.limit; seed = s.means.seed } };
 }
 
 /// The means of a limit and a seed.
 fn means_of(limit: u64, seed: Seed) -> Result<Means<Fnv1a>, Refusal>
-    ensures means { IfOk result (λ means. means.limit ≡ limit) }
+    ensures limit { IfOk result (λ means. means.limit ≡ limit) }
+    ensures seed { IfOk result (λ means. means.seed ≡ seed) }
+    ensures within { OnOk result (AreMeans limit) }
     ensures refused { IfErr result (IsNoLimit limit) }
 {
     match Means::new(limit, Fnv1a) {
@@ -46,13 +49,12 @@ fn means_of(limit: u64, seed: Seed) -> Result<Means<Fnv1a>, Refusal>
 }
 
 impl Session {
-    /// A session that knows nothing, of the query that one text says over the columns that another tells, as `columns` and `query` do in
-    /// a script. The limit, in bytes, is as `limit` there. The seed is that of the tables of groups: a random one where others choose the
-    /// keys.
+    /// An empty session of a query over columns, both given as texts, as `columns` and `query` make it in a script. The limit, in bytes, is
+    /// as `limit` there. The seed is that of the group tables: use a random one if others choose the keys.
     ///
     /// # Errors
     ///
-    /// `LimitOutOfRange`; `BadCommand` where a text is no UTF-8; `BadSchema`, and then those of the query.
+    /// `LimitOutOfRange`; `BadCommand` if a text is not UTF-8; `BadSchema`, and then those of the query.
     pub fn create(
         alloc: Global,
         columns: &[u8],
@@ -60,7 +62,7 @@ impl Session {
         limit: u64,
         seed: Seed,
     ) -> Result<Session, Refusal>
-        ensures { Creates columns.now query.now limit result }
+        ensures { Creates columns.now query.now limit seed result }
     {
         let means = means_of(limit, seed)?;
         let Ok(told) = from_utf8(columns) else {
@@ -79,13 +81,13 @@ impl Session {
         }
     }
 
-    /// A session of the replica that a summary file is of.
+    /// A session of the replica of a summary file.
     ///
     /// # Errors
     ///
     /// `LimitOutOfRange`, and then those of [`command_replicas::load`].
     pub fn load(alloc: Global, file: &[u8], limit: u64, seed: Seed) -> Result<Session, Refusal>
-        ensures { Loads file.now limit result }
+        ensures { Loads file.now limit seed result }
     {
         let means = means_of(limit, seed)?;
         match command_replicas::load(alloc, file) {
@@ -125,7 +127,9 @@ impl Session {
         )
     }
 
-    /// Feeds the batch of an origin and a number whose rows are records in CSV, as many as are told: the same as the batch file of these.
+    /// Feeds the batch of an origin and a number, with rows in CSV, as many as declared: the same as their batch file, except for a byte
+    /// order mark at the start of the rows, which is skipped, and for 1,000,000,000 rows or more, which no head can declare: these are
+    /// `TooManyRows`.
     ///
     /// # Errors
     ///
@@ -155,7 +159,7 @@ impl Session {
         }
     }
 
-    /// Merges the replica of another session, as `merge` does in a script: afterwards this knows what either knew.
+    /// Merges the replica of another session, as `merge` does in a script: afterwards this one knows what either knew.
     ///
     /// # Errors
     ///
@@ -174,7 +178,7 @@ impl Session {
         }
     }
 
-    /// Merges the replica that a summary file is of, as `merge` does on files.
+    /// Merges the replica of a summary file, as `merge` does on files.
     ///
     /// # Errors
     ///
@@ -198,7 +202,7 @@ impl Session {
     ///
     /// # Errors
     ///
-    /// `InputTooLong` where it would be longer, and want of memory.
+    /// `InputTooLong` if it would be longer, and `NoMemory`.
     pub fn save(&self) -> Result<Vec<u8>, Refusal>
         ensures file { IfOk result (λ file. IsFileOf self.now.held file.items) }
         ensures why { IfErr result (IsTooLong self.now.held) }
@@ -210,14 +214,14 @@ impl Session {
         Ok(self.replica.save()?)
     }
 
-    /// The answer of the query: how many rows it has, and its table in a format. The only error is a failed allocation.
+    /// The answer of the query: how many rows it has, and its table in a format. The only error is out of memory.
     pub fn answer(&self, format: Format) -> Result<(usize, Vec<u8>), AllocError>
         ensures { IfOk result (λ found. IsTableOf format self.now.held found.0 found.1.items) }
     {
         table(self.alloc, &self.replica, format)
     }
 
-    /// What is known, a line for each origin, as `known` lists it on files. The only error is a failed allocation.
+    /// What is known, a line for each origin, as `known` lists it on files. The only error is out of memory.
     pub fn known(&self) -> Result<Vec<u8>, AllocError>
         ensures { IfOk result (λ lines. IsKnownText self.now.held lines.items) }
     {
@@ -231,7 +235,7 @@ impl Session {
         self.replica.query().spelling()
     }
 
-    /// The canonical text of the columns. The only error is a failed allocation.
+    /// The canonical text of the columns. The only error is out of memory.
     pub fn columns(&self) -> Result<String, AllocError>
         ensures { IfOk result (λ text. IsColumnsText self.now.held (string_bytes text)) }
     {

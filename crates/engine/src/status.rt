@@ -1,4 +1,4 @@
-//! Statuses, by which a caller from outside is answered.
+//! The statuses that calls return.
 
 ghost use Rattle.std.specs.Prelude.{◌≡◌, Some};
 ghost use Rattle.engine.specs.Statuses.{status_number, status_at, status_name, status_of, query_status, parse_status, batch_status};
@@ -13,20 +13,20 @@ use having_filter::QueryError;
 use replica_merge::SummaryError;
 use replies::{Refusal, RunError};
 
-/// How a call from outside ended. The numbers never change, and none is used again.
+/// How a call ended. The numbers never change, and none is reused.
 #[derive(Clone, Copy, Debug, PartialEq, Eq)]
 pub enum Status {
-    /// All was done.
+    /// Success.
     Done = 0,
-    /// There was no memory.
+    /// Memory ran out.
     NoMemory = 1,
-    /// The room for the result is too short. How much is wanted was told.
+    /// The buffer for the result is too short. The call gives the length that is needed.
     TooShort = 2,
     /// No session is open.
     NotOpen = 3,
     /// A session is open already.
     AlreadyOpen = 4,
-    /// No command: a text isn't UTF-8, or there is no such format.
+    /// A text isn't UTF-8, or there is no such format.
     BadCommand = 10,
     /// There is no replica, or nothing saved, of this name.
     NoSuchName = 11,
@@ -34,19 +34,19 @@ pub enum Status {
     NameTaken = 12,
     /// A limit is out of its range.
     LimitOutOfRange = 13,
-    /// The text is that of no schema.
+    /// The text is not a schema.
     BadSchema = 14,
-    /// A byte of the query begins no token, or a token that no query can go on with.
+    /// A byte of the query begins no token, or begins one that no query can have there.
     Syntax = 20,
     /// An integer of the query is out of the range of 64 bits.
     NumberTooLarge = 21,
-    /// The query names a column that isn't there.
+    /// The query names a column that does not exist.
     NoSuchColumn = 22,
     /// A column outside of an aggregate is not in GROUP BY.
     NotGrouped = 23,
     /// An operand or an argument is of the wrong kind.
     TypeMismatch = 24,
-    /// An aggregate stands in WHERE or FILTER.
+    /// An aggregate is used in WHERE or FILTER.
     AggregateHere = 25,
     /// There are too many items, keys or calls, or the text is too long.
     TooMany = 26,
@@ -56,13 +56,13 @@ pub enum Status {
     AmbiguousOrder = 28,
     /// The head of a batch is bad, or its origin or its number is out of range.
     BadBatchHead = 30,
-    /// More rows are told than a batch may have.
+    /// More rows are declared than a batch may have.
     TooManyRows = 31,
-    /// There are more or fewer rows than told.
+    /// There are more or fewer rows than declared.
     RowCount = 32,
     /// A row has more or fewer fields than there are columns.
     WrongWidth = 33,
-    /// A field stands for no value of its column.
+    /// A field is not a value of its column.
     BadField = 34,
     /// The bytes don't begin as a summary file does.
     NotASummary = 40,
@@ -82,9 +82,9 @@ pub enum Status {
     DifferentQuery = 50,
     /// One number of an origin has two different batches.
     OriginDisagrees = 51,
-    /// The disk of tapes failed.
+    /// The tape disk failed.
     TapeFault = 60,
-    /// The disk of tapes gave back what was not written to it.
+    /// The tape disk returned data that was not written to it.
     TapeDamaged = 61,
     /// A file would have, or has, more than 67,108,864 bytes.
     InputTooLong = 70,
@@ -94,7 +94,7 @@ pub enum Status {
     WriteFault = 72,
 }
 
-/// The status of what a check of a query refuses.
+/// The status of a query that its checks refuse.
 fn query_status(error: QueryError) -> Status
     ensures { result ≡ query_status error }
 {
@@ -110,7 +110,7 @@ fn query_status(error: QueryError) -> Status
     }
 }
 
-/// The status of what is wrong with a query's text.
+/// The status of a fault in a query's text.
 fn parse_status(error: ParseError) -> Status
     ensures { result ≡ parse_status error }
 {
@@ -121,7 +121,7 @@ fn parse_status(error: ParseError) -> Status
     }
 }
 
-/// The status of what is wrong with a batch.
+/// The status of a fault in a batch.
 fn batch_status(error: BatchError) -> Status
     ensures { result ≡ batch_status error }
 {
@@ -135,7 +135,7 @@ fn batch_status(error: BatchError) -> Status
     }
 }
 
-/// The status of what is wrong with a summary file.
+/// The status of a fault in a summary file.
 fn summary_status(error: SummaryError) -> Status
     ensures { result ≡ summary_status error }
 {
@@ -153,7 +153,7 @@ fn summary_status(error: SummaryError) -> Status
     }
 }
 
-/// The status of what stops a run.
+/// The status of a run that stopped.
 fn run_status(error: RunError) -> Status
     ensures { result ≡ run_status error }
 {
@@ -189,7 +189,7 @@ impl From<Refusal> for Status {
 }
 
 impl Status {
-    /// The number of a status, which a caller from outside is given.
+    /// The number of a status, as callers get it.
     pub fn number(self) -> u32
         ensures { result ≡ status_number self }
     {

@@ -1,6 +1,7 @@
 -- What the exports do to slots that are empty, and to those that stay as they are.
 use Rattle.std.specs.Prelude.{◌≡◌, ℕ, List, Option, Some, None, Result, Ok, Err, IfOk, OnErr, refl}
-use Rattle.std.proofs.Common.{ap, subst, sym, inr}
+use Rattle.std.proofs.Common.{ap, subst, sym}
+use Rattle.key_hashes.specs.declared.sip_hash.Seed.{Seed}
 use Rattle.engine.specs.Calls.{Held, Refusal, NoMemory, Creates, Loads}
 use Rattle.engine.specs.Sessions.{SessionState}
 use Rattle.engine.specs.Statuses.{number_told, status_number}
@@ -10,12 +11,14 @@ use Rattle.engine_calls.specs.Calls.{OnSession, OpensBy, Asks, MergesWith}
 use Rattle.engine_calls.specs.Keeping.{KeptState}
 use Rattle.engine_c.specs.Exports.{kept_by, CallsSlot, AsksSlot}
 
--- for want of memory no session is made
-pub unmade_for_memory : (columns query : List ℕ) (limit : ℕ) → OpensBy {T = Unit {0}} (Creates columns query limit) None None (Err says.NoMemory)
-unmade_for_memory columns query limit = (NoMemory, (λ other. absurd (other refl)), refl)
+-- memory ran out, and no session is made
+pub unmade_for_memory : (columns query : List ℕ) (limit : ℕ) (seed : Seed)
+    → OpensBy {T = Unit {0}} (Creates columns query limit seed) None None (Err says.NoMemory)
+unmade_for_memory columns query limit seed = (NoMemory, (λ other. absurd (other refl)), refl)
 
-pub unloaded_for_memory : (file : List ℕ) (limit : ℕ) → OpensBy {T = Unit {0}} (Loads file limit) None None (Err says.NoMemory)
-unloaded_for_memory file limit = (NoMemory, inr tt, refl)
+pub unloaded_for_memory : (file : List ℕ) (limit : ℕ) (seed : Seed)
+    → OpensBy {T = Unit {0}} (Loads file limit seed) None None (Err says.NoMemory)
+unloaded_for_memory file limit seed = (NoMemory, (λ other. absurd (other refl)), refl)
 
 -- nothing is merged where a side has no session
 pub merges_into_none : (other : Option SessionState) → MergesWith {T = Unit {0}} other None None (Err says.NotOpen)

@@ -1,16 +1,16 @@
--- What the exports do to slots, by what the calls of a session do. All of this is our own.
-use Rattle.std.specs.Prelude.{◌≡◌, ◌<◌, ◌≤◌, ◌++◌, ℕ, Bool, true, false, List, length, drop}
-use Rattle.std.specs.Prelude.{Option, Some, None, Result, IfOk, OnOk, OnErr}
+-- What the exported functions do to slots, by what the calls of a session do. All of this is our own.
+use Rattle.std.specs.Prelude.{◌≡◌, ◌≢◌, ◌<◌, ◌≤◌, ◌++◌, ℕ, Bool, true, false, List, length, drop}
+use Rattle.std.specs.Prelude.{Option, Some, None, is_some, IsSome, Result, IfOk, OnOk, OnErr}
 use Rattle.engine.specs.Calls.{Held, Refusal, Delivered, Folded, Early, Known, Format, Csv, Aligned}
 use Rattle.engine_calls.specs.Calls.{OnSession, Asks}
 use Rattle.engine.specs.Sessions.{SessionState}
 use Rattle.engine_calls.specs.Keeping.{KeptState, nothing}
 use Rattle.engine.specs.Statuses.{status_number, status_name, number_told}
 use Rattle.engine.specs.declared.status.Status.{Status}
-use Rattle.engine.specs.declared.status.Status.TheVariants.{Done, TooShort, NotOpen, NoSuchName}
+use Rattle.engine.specs.declared.status.Status.TheVariants.{Done, NoMemory, TooShort, NotOpen, NoSuchName}
 use Rattle.engine_c.specs.declared.delivery.Delivery.{Delivery}
 
--- what a slot keeps: nothing where it is empty
+-- what a slot keeps: nothing if it is empty
 abbrev pub kept_by : Option KeptState → KeptState
 kept_by None = nothing
 kept_by (Some kept) = kept
@@ -26,28 +26,37 @@ abbrev pub format_by : Bool → Format
 format_by true = Aligned
 format_by false = Csv
 
--- a call gives nothing beside its status
+-- a call gives nothing but its status
 abbrev pub GivesNothing : Unit {0} → Type 0
 GivesNothing done = Unit {0}
 
--- bytes are handed out: where the room has space for them they stand at its front, and where not nothing is written; how long they are is
--- told in any case
+-- bytes are handed out: they are at the front of the buffer if it is long enough, and else nothing is written; their length is given in
+-- any case
 pub record HandsOut (bytes old new : List ℕ) (wanted status : ℕ) : Type 0 where
   pub long : wanted ≡ length bytes
   pub fits : length bytes ≤ length old → (status ≡ status_number Done) × (new ≡ bytes ++ drop (length bytes) old)
   pub short : length old < length bytes → (status ≡ status_number TooShort) × (new ≡ old)
 
--- what a slot's session told last is handed out; of an empty slot nothing is
+-- the last result of a slot's session is handed out; of an empty slot nothing is
 abbrev pub Fetches : Option KeptState → (old new : List ℕ) (wanted status : ℕ) → Type 0
 Fetches None old new wanted status = (status ≡ status_number NotOpen) × (wanted ≡ 0) × (new ≡ old)
 Fetches (Some kept) old new wanted status = HandsOut kept.told old new wanted status
 
--- the name of a status is handed out; where there is none, nothing is
+-- the name of a status is handed out; if there is none, nothing is
 abbrev pub Names : Option Status → (old new : List ℕ) (wanted status : ℕ) → Type 0
 Names None old new wanted status = (status ≡ status_number NoSuchName) × (wanted ≡ 0) × (new ≡ old)
 Names (Some named) old new wanted status = HandsOut (status_name named) old new wanted status
 
--- a call on a slot does so, and its number tells how it ended. What it gives is given where all was done, and where not, nothing changed
+-- a slot is full after a call exactly if it was full before
+abbrev pub StaysFull : (old new : Option KeptState) → Type 0
+StaysFull old new = is_some new ≡ is_some old
+
+-- a call that opens a session fills its slot, unless memory runs out, and a full slot stays full
+pub record FillsSlot (old new : Option KeptState) (status : ℕ) : Type 0 where
+  pub filled : status ≢ status_number NoMemory → IsSome new
+  pub full : IsSome old → IsSome new
+
+-- a call on a slot does so, and returns the number of its status. On success it gives its result, and else nothing changed
 pub record CallsSlot {T : Type 0} (does : (old new : Option SessionState) → Result T Status → Type 0) (gives : T → Type 0)
     (old new : Option KeptState) (status : ℕ) : Type 0 where
   pub outcome : Result T Status
@@ -57,8 +66,8 @@ pub record CallsSlot {T : Type 0} (does : (old new : Option SessionState) → Re
   pub told : (kept_by new).told ≡ (kept_by old).told
   pub same : OnErr outcome (kept_by new ≡ kept_by old)
 
--- a call on a slot asks its session, and its number tells how it ended. How long what it told is is given where all was done, and where
--- not, nothing changed
+-- a call on a slot asks its session, and returns the number of its status. On success it gives the length of the result, and else nothing
+-- changed
 pub record AsksSlot {T : Type 0} (tells : Held → List ℕ → T → Type 0) (refuses : Held → Refusal → Type 0) (gives : T → Type 0)
     (old new : Option KeptState) (wanted : ℕ) (status : ℕ) : Type 0 where
   pub outcome : Result T Status

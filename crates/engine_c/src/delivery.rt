@@ -8,6 +8,6 @@ ghost use Rattle.std.specs.Prelude.{◌≡◌};
 pub struct Delivery {
     /// 0 folded, 1 early, 2 known already.
     pub kind: u32,
-    /// Of a batch that was folded, the number up to which all batches of its origin are known now; else 0.
+    /// For a folded batch, the number up to which all batches of its origin are known now; else 0.
     pub upto: u32,
 }

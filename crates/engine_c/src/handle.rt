@@ -1,4 +1,4 @@
-//! Handles: nothing, or a box of what is kept, of which C sees the pointer.
+//! Handles: nothing, or a box of what is kept, of which C has the pointer.
 
 ghost use Rattle.std.specs.Prelude.{◌≡◌, Option, None, Some, IsSome};
 ghost use Rattle.std.specs.Coded.{coded_option};
@@ -12,7 +12,7 @@ use std::alloc::Global;
 use std::marker::Model;
 use std::ptr::null_mut;
 
-/// What a handle points to, at which C never looks.
+/// What a handle points to, which C never reads.
 #[repr(C)]
 pub struct Opaque {
     byte: u8,

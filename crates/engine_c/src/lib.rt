@@ -1,13 +1,14 @@
 //! The library for C: a summary inside another program, behind a slot that C holds.
 #![tactic(auto)]
 
-ghost use Rattle.std.specs.Prelude.{◌≡◌, ◌≢◌, None, IsSome, codes, length};
+ghost use Rattle.std.specs.Prelude.{◌≡◌, ◌≢◌, ◌⊎◌, None, IsSome, codes, length};
 ghost use Rattle.engine.specs.Calls.{Creates, Loads, FeedsFile, FeedsRows, MergesFileSession, IsFileOf, IsTooLong, IsTableOf};
 ghost use Rattle.engine.specs.Calls.{IsKnownText, IsQueryText, IsColumnsText};
 ghost use Rattle.engine.specs.Statuses.{status_number, status_at};
-ghost use Rattle.engine.specs.declared.status.Status.TheVariants.{Done, NotOpen};
+ghost use Rattle.engine.specs.declared.status.Status.TheVariants.{Done, NoMemory, NotOpen};
 ghost use Rattle.engine_calls.specs.Calls.{OnSession, OpensBy, ForMemory, MergesWith};
-ghost use Rattle.engine_c.specs.Exports.{kept_by, delivery_of, format_by, CallsSlot, AsksSlot, GivesNothing, HandsOut, Fetches, Names};
+ghost use Rattle.engine_c.specs.Exports.{kept_by, delivery_of, format_by, CallsSlot, AsksSlot, FillsSlot, StaysFull, GivesNothing};
+ghost use Rattle.engine_c.specs.Exports.{HandsOut, Fetches, Names};
 
 mod delivery;
 mod handle;
@@ -21,7 +22,7 @@ use outcomes::{delivery, format_by, hand_out, number_of};
 use slot::{Slot, filled, taken, taken_or_new};
 use std::alloc::Global;
 
-/// Opens a session that knows nothing, of the query that one text says over the columns that another tells.
+/// Opens an empty session of a query over columns, both given as texts.
 #[unsafe(no_mangle)]
 pub extern "C" fn agg_new(
     alloc: Global,
@@ -32,7 +33,9 @@ pub extern "C" fn agg_new(
     seed_low: u64,
     seed_high: u64,
 ) -> u32
-    ensures { CallsSlot (OpensBy (Creates columns.now query.now limit)) GivesNothing slot.old.handle.kept slot.new.handle.kept result }
+    ensures opens { CallsSlot (OpensBy (Creates columns.now query.now limit (record { low = seed_low; high = seed_high }))) GivesNothing
+        slot.old.handle.kept slot.new.handle.kept result }
+    ensures full { FillsSlot slot.old.handle.kept slot.new.handle.kept result }
 {
     let Ok(mut kept) = taken_or_new(alloc, slot) else {
         return Status::NoMemory.number();
@@ -46,7 +49,7 @@ pub extern "C" fn agg_new(
     number_of(outcome)
 }
 
-/// Opens a session of the replica that a summary file is of.
+/// Opens a session of the replica of a summary file.
 #[unsafe(no_mangle)]
 pub extern "C" fn agg_load(
     alloc: Global,
@@ -56,7 +59,9 @@ pub extern "C" fn agg_load(
     seed_low: u64,
     seed_high: u64,
 ) -> u32
-    ensures { CallsSlot (OpensBy (Loads file.now limit)) GivesNothing slot.old.handle.kept slot.new.handle.kept result }
+    ensures opens { CallsSlot (OpensBy (Loads file.now limit (record { low = seed_low; high = seed_high }))) GivesNothing
+        slot.old.handle.kept slot.new.handle.kept result }
+    ensures full { FillsSlot slot.old.handle.kept slot.new.handle.kept result }
 {
     let Ok(mut kept) = taken_or_new(alloc, slot) else {
         return Status::NoMemory.number();
@@ -78,8 +83,10 @@ pub extern "C" fn agg_feed(
     batch: &[u8],
     delivered: &mut Delivery,
 ) -> u32
-    ensures { CallsSlot (OnSession (FeedsFile batch.now)) (λ told. delivered.new ≡ delivery_of told) slot.old.handle.kept
+    ensures feeds { CallsSlot (OnSession (FeedsFile batch.now)) (λ told. delivered.new ≡ delivery_of told) slot.old.handle.kept
         slot.new.handle.kept result }
+    ensures kept { result ≢ status_number Done → delivered.new ≡ delivered.old }
+    ensures full { StaysFull slot.old.handle.kept slot.new.handle.kept }
 {
     let Some(mut kept) = taken(alloc, slot) else {
         return Status::NotOpen.number();
@@ -94,7 +101,7 @@ pub extern "C" fn agg_feed(
     Status::Done.number()
 }
 
-/// Feeds the batch of an origin and a number whose rows are records in CSV, as many as are told.
+/// Feeds the batch of an origin and a number, with rows in CSV, as many as declared.
 #[unsafe(no_mangle)]
 pub extern "C" fn agg_feed_rows(
     alloc: Global,
@@ -105,8 +112,10 @@ pub extern "C" fn agg_feed_rows(
     rows: &[u8],
     delivered: &mut Delivery,
 ) -> u32
-    ensures { CallsSlot (OnSession (FeedsRows origin number count rows.now)) (λ told. delivered.new ≡ delivery_of told)
+    ensures feeds { CallsSlot (OnSession (FeedsRows origin number count rows.now)) (λ told. delivered.new ≡ delivery_of told)
         slot.old.handle.kept slot.new.handle.kept result }
+    ensures kept { result ≢ status_number Done → delivered.new ≡ delivered.old }
+    ensures full { StaysFull slot.old.handle.kept slot.new.handle.kept }
 {
     let Some(mut kept) = taken(alloc, slot) else {
         return Status::NotOpen.number();
@@ -121,14 +130,15 @@ pub extern "C" fn agg_feed_rows(
     Status::Done.number()
 }
 
-/// Merges what the session of another slot knows.
+/// Merges the replica of another slot's session.
 #[unsafe(no_mangle)]
 pub extern "C" fn agg_merge(alloc: Global, into: &mut Slot, from: &mut Slot) -> u32
     ensures merges { CallsSlot (MergesWith (kept_by from.old.handle.kept).session) GivesNothing into.old.handle.kept
         into.new.handle.kept result }
+    ensures full { StaysFull into.old.handle.kept into.new.handle.kept }
     ensures from { from.new.handle.kept ≡ from.old.handle.kept }
 {
-    // The first slot is emptied before the second is looked at: so one slot in both places is refused, and stays as it is.
+    // The first slot is emptied before the second is read: so one slot in both places is refused, and stays as it is.
     let Some(mut own) = taken(alloc, into) else {
         return Status::NotOpen.number();
     };
@@ -142,10 +152,11 @@ pub extern "C" fn agg_merge(alloc: Global, into: &mut Slot, from: &mut Slot) -> 
     number_of(outcome)
 }
 
-/// Merges what a summary file knows.
+/// Merges the replica of a summary file.
 #[unsafe(no_mangle)]
 pub extern "C" fn agg_merge_bytes(alloc: Global, slot: &mut Slot, file: &[u8]) -> u32
-    ensures { CallsSlot (OnSession (MergesFileSession file.now)) GivesNothing slot.old.handle.kept slot.new.handle.kept result }
+    ensures merges { CallsSlot (OnSession (MergesFileSession file.now)) GivesNothing slot.old.handle.kept slot.new.handle.kept result }
+    ensures full { StaysFull slot.old.handle.kept slot.new.handle.kept }
 {
     let Some(mut kept) = taken(alloc, slot) else {
         return Status::NotOpen.number();
@@ -155,11 +166,12 @@ pub extern "C" fn agg_merge_bytes(alloc: Global, slot: &mut Slot, file: &[u8]) -
     number_of(outcome)
 }
 
-/// Tells the summary file: it is fetched by `agg_fetch`.
+/// Makes the summary file: `agg_fetch` fetches it.
 #[unsafe(no_mangle)]
 pub extern "C" fn agg_save(alloc: Global, slot: &mut Slot, wanted: &mut usize) -> u32
-    ensures { AsksSlot (λ held file _. IsFileOf held file) IsTooLong GivesNothing slot.old.handle.kept slot.new.handle.kept wanted.new
+    ensures asks { AsksSlot (λ held file _. IsFileOf held file) IsTooLong GivesNothing slot.old.handle.kept slot.new.handle.kept wanted.new
         result }
+    ensures full { StaysFull slot.old.handle.kept slot.new.handle.kept }
 {
     let Some(mut kept) = taken(alloc, slot) else {
         return Status::NotOpen.number();
@@ -170,11 +182,12 @@ pub extern "C" fn agg_save(alloc: Global, slot: &mut Slot, wanted: &mut usize) -
     number_of(outcome)
 }
 
-/// Tells what is known, a line for each origin: it is fetched by `agg_fetch`.
+/// Makes the list of what is known, a line for each origin: `agg_fetch` fetches it.
 #[unsafe(no_mangle)]
 pub extern "C" fn agg_known(alloc: Global, slot: &mut Slot, wanted: &mut usize) -> u32
-    ensures { AsksSlot (λ held text _. IsKnownText held text) ForMemory GivesNothing slot.old.handle.kept
+    ensures asks { AsksSlot (λ held text _. IsKnownText held text) ForMemory GivesNothing slot.old.handle.kept
         slot.new.handle.kept wanted.new result }
+    ensures full { StaysFull slot.old.handle.kept slot.new.handle.kept }
 {
     let Some(mut kept) = taken(alloc, slot) else {
         return Status::NotOpen.number();
@@ -185,11 +198,12 @@ pub extern "C" fn agg_known(alloc: Global, slot: &mut Slot, wanted: &mut usize) 
     number_of(outcome)
 }
 
-/// Tells the canonical text of the query: it is fetched by `agg_fetch`.
+/// Makes the canonical text of the query: `agg_fetch` fetches it.
 #[unsafe(no_mangle)]
 pub extern "C" fn agg_query(alloc: Global, slot: &mut Slot, wanted: &mut usize) -> u32
-    ensures { AsksSlot (λ held text _. IsQueryText held text) ForMemory GivesNothing slot.old.handle.kept
+    ensures asks { AsksSlot (λ held text _. IsQueryText held text) ForMemory GivesNothing slot.old.handle.kept
         slot.new.handle.kept wanted.new result }
+    ensures full { StaysFull slot.old.handle.kept slot.new.handle.kept }
 {
     let Some(mut kept) = taken(alloc, slot) else {
         return Status::NotOpen.number();
@@ -200,11 +214,12 @@ pub extern "C" fn agg_query(alloc: Global, slot: &mut Slot, wanted: &mut usize) 
     number_of(outcome)
 }
 
-/// Tells the canonical text of the columns: it is fetched by `agg_fetch`.
+/// Makes the canonical text of the columns: `agg_fetch` fetches it.
 #[unsafe(no_mangle)]
 pub extern "C" fn agg_columns(alloc: Global, slot: &mut Slot, wanted: &mut usize) -> u32
-    ensures { AsksSlot (λ held text _. IsColumnsText held text) ForMemory GivesNothing slot.old.handle.kept
+    ensures asks { AsksSlot (λ held text _. IsColumnsText held text) ForMemory GivesNothing slot.old.handle.kept
         slot.new.handle.kept wanted.new result }
+    ensures full { StaysFull slot.old.handle.kept slot.new.handle.kept }
 {
     let Some(mut kept) = taken(alloc, slot) else {
         return Status::NotOpen.number();
@@ -215,7 +230,7 @@ pub extern "C" fn agg_columns(alloc: Global, slot: &mut Slot, wanted: &mut usize
     number_of(outcome)
 }
 
-/// Tells the answer's table in a format, and how many rows it has: it is fetched by `agg_fetch`.
+/// Makes the answer's table in a format, and gives its number of rows: `agg_fetch` fetches the table.
 #[unsafe(no_mangle)]
 pub extern "C" fn agg_answer(
     alloc: Global,
@@ -224,8 +239,9 @@ pub extern "C" fn agg_answer(
     rows: &mut usize,
     wanted: &mut usize,
 ) -> u32
-    ensures { AsksSlot (λ held text count. IsTableOf (format_by aligned) held count text) ForMemory (λ count. rows.new ≡ count)
+    ensures asks { AsksSlot (λ held text count. IsTableOf (format_by aligned) held count text) ForMemory (λ count. rows.new ≡ count)
         slot.old.handle.kept slot.new.handle.kept wanted.new result }
+    ensures full { StaysFull slot.old.handle.kept slot.new.handle.kept }
 {
     let Some(mut kept) = taken(alloc, slot) else {
         return Status::NotOpen.number();
@@ -241,7 +257,7 @@ pub extern "C" fn agg_answer(
     Status::Done.number()
 }
 
-/// Tells the sentence of the last refusal, and its place: it is fetched by `agg_fetch`.
+/// Makes the sentence of the last refusal, and gives its place: `agg_fetch` fetches the sentence.
 #[unsafe(no_mangle)]
 pub extern "C" fn agg_reason(
     alloc: Global,
@@ -252,7 +268,9 @@ pub extern "C" fn agg_reason(
     ensures session { (kept_by slot.new.handle.kept).session ≡ (kept_by slot.old.handle.kept).session }
     ensures wanted { result ≡ status_number Done → wanted.new ≡ length (kept_by slot.new.handle.kept).told }
     ensures same { result ≢ status_number Done → kept_by slot.new.handle.kept ≡ kept_by slot.old.handle.kept }
+    ensures ends { IsSome slot.old.handle.kept → (result ≡ status_number Done) ⊎ (result ≡ status_number NoMemory) }
     ensures empty { slot.old.handle.kept ≡ None → result ≡ status_number NotOpen }
+    ensures full { StaysFull slot.old.handle.kept slot.new.handle.kept }
 {
     let Some(mut kept) = taken(alloc, slot) else {
         return Status::NotOpen.number();
@@ -268,7 +286,7 @@ pub extern "C" fn agg_reason(
     Status::Done.number()
 }
 
-/// Copies what was told last to the bytes at `out`, if it fits there, and tells how long it is.
+/// Copies the last result to the bytes at `out`, if it fits, and gives its length.
 #[unsafe(no_mangle)]
 pub extern "C" fn agg_fetch(
     alloc: Global,
@@ -288,7 +306,7 @@ pub extern "C" fn agg_fetch(
     status
 }
 
-/// Closes the session, and gives back all memory of the slot, which is empty then and can be used again.
+/// Closes the session, and frees all memory of the slot, which is then empty and can be reused.
 #[unsafe(no_mangle)]
 pub extern "C" fn agg_close(alloc: Global, slot: &mut Slot) -> u32
     ensures emptied { slot.new.handle.kept ≡ None }
@@ -302,7 +320,7 @@ pub extern "C" fn agg_close(alloc: Global, slot: &mut Slot) -> u32
     Status::Done.number()
 }
 
-/// Copies the name of a status to the bytes at `out`, if it fits there, and tells how long it is.
+/// Copies the name of a status to the bytes at `out`, if it fits, and gives its length.
 #[unsafe(no_mangle)]
 pub extern "C" fn agg_status_name(status: u32, out: &mut [u8], wanted: &mut usize) -> u32
     ensures { Names (status_at status) out.old out.new wanted.new result }
@@ -314,7 +332,7 @@ pub extern "C" fn agg_status_name(status: u32, out: &mut [u8], wanted: &mut usiz
     hand_out(named.name().as_bytes(), out, wanted)
 }
 
-/// Copies the version of the library to the bytes at `out`, if it fits there, and tells how long it is.
+/// Copies the version of the library to the bytes at `out`, if it fits, and gives its length.
 #[unsafe(no_mangle)]
 pub extern "C" fn agg_version(out: &mut [u8], wanted: &mut usize) -> u32
     ensures { HandsOut (codes "0.1.0") out.old out.new wanted.new result }

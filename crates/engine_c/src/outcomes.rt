@@ -1,4 +1,4 @@
-//! How calls end, and what they hand out.
+//! How calls end, and their results.
 
 ghost use Rattle.std.specs.Prelude.{◌≡◌};
 ghost use Rattle.engine.specs.Statuses.{number_told};
@@ -29,7 +29,7 @@ pub(crate) fn format_by(aligned: bool) -> Format
     }
 }
 
-/// The number that tells how a call ended.
+/// The number of the status that a call ended with.
 pub(crate) fn number_of(outcome: Result<(), Status>) -> u32
     ensures { result ≡ number_told outcome }
 {
@@ -39,7 +39,7 @@ pub(crate) fn number_of(outcome: Result<(), Status>) -> u32
     }
 }
 
-/// Copies a result to where C wants it, if it fits there, and tells how long it is.
+/// Copies a result to the caller's buffer, if it fits, and gives its length.
 pub(crate) fn hand_out(bytes: &[u8], out: &mut [u8], wanted: &mut usize) -> u32
     ensures { HandsOut bytes.now out.old out.new wanted.new result }
 {

@@ -9,7 +9,7 @@ use engine_calls::Kept;
 use std::alloc::{AllocError, Global};
 use std::mem::replace;
 
-/// What C holds between calls: `{0}` at first.
+/// What C holds between calls; `{0}` at first.
 #[repr(C)]
 #[derive(Drop)]
 pub struct Slot {
@@ -38,7 +38,7 @@ pub(crate) fn filled(kept: Box<Kept>) -> Slot
     }
 }
 
-/// The box of a slot, if it has one. The slot is empty then.
+/// The box of a slot, if it has one. The slot is empty afterwards.
 pub(crate) fn taken(alloc: Global, slot: &mut Slot) -> Option<Box<Kept>>
     ensures emptied { slot.new.handle.kept ≡ None }
     ensures some { IfSome result (λ kept. slot.old.handle.kept ≡ Some kept.value) }
@@ -52,7 +52,7 @@ pub(crate) fn taken(alloc: Global, slot: &mut Slot) -> Option<Box<Kept>>
     }
 }
 
-/// The box of a slot, or a new one that keeps nothing. The slot is empty then.
+/// The box of a slot, or a new empty one. The slot is empty afterwards.
 pub(crate) fn taken_or_new(alloc: Global, slot: &mut Slot) -> Result<Box<Kept>, AllocError>
     ensures emptied { slot.new.handle.kept ≡ None }
     ensures kept { IfOk result (λ kept. kept.value ≡ kept_by slot.old.handle.kept) }

@@ -1,4 +1,4 @@
--- What a call of a caller from outside does, by what it does to the session.
+-- What a call of an outside caller does, by what it does to the session.
 use Rattle.std.specs.Prelude.{◌≡◌, ℕ, List, Option, Some, None, Result, Ok, Err, IsOk, refl}
 use Rattle.std.proofs.Common.{ap, subst, sym, ◌∙◌}
 use Rattle.engine.specs.Calls.{Held, Refusal, MergesSession}

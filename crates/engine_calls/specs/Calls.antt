@@ -1,4 +1,4 @@
--- What the calls of a caller from outside do, by what those of a session do. All of this is our own.
+-- What the calls do, by what those of a session do. All of this is our own.
 use Rattle.std.specs.Prelude.{◌≡◌, ℕ, List, Option, Some, None, Result, Ok, Err, IsOk}
 use Rattle.engine.specs.Calls.{Held, Refusal, NoMemory, MergesSession}
 use Rattle.engine.specs.Sessions.{SessionState}
@@ -27,7 +27,7 @@ abbrev pub Asks : {T : Type 0} → (tells : Held → List ℕ → T → Type 0) 
 Asks tells refuses told old new (Ok answered) = (new ≡ old) × tells old.held told answered
 Asks tells refuses told old new (Err why) = (new ≡ old) × refuses old.held why
 
--- it is refused for want of memory alone
+-- it is refused only because memory ran out
 abbrev pub ForMemory : Held → Refusal → Type 0
 ForMemory held why = why ≡ NoMemory
 

@@ -1,4 +1,4 @@
--- What is kept between the calls of a caller from outside. All of this is our own.
+-- What is kept between the calls of an outside caller. All of this is our own.
 use Rattle.std.specs.Prelude.{ℕ, List, [], Option, None}
 use Rattle.engine.specs.Sessions.{SessionState}
 

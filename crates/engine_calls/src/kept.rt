@@ -1,6 +1,6 @@
-//! What is kept between the calls of a caller from outside.
+//! What is kept between calls.
 
-ghost use Rattle.std.specs.Prelude.{◌≡◌, IfOk, OnErr};
+ghost use Rattle.std.specs.Prelude.{◌≡◌, IfOk, IfErr, OnErr};
 ghost use Rattle.engine.specs.Calls.{Creates, Loads, FeedsFile, FeedsRows, MergesFileSession, IsFileOf, IsTooLong, IsTableOf};
 ghost use Rattle.engine.specs.Calls.{IsKnownText, IsQueryText, IsColumnsText, NoMemory};
 ghost use Rattle.engine.specs.Statuses.{status_of};
@@ -14,8 +14,7 @@ use file_sentences::{FileKind, file_reason, saving_reason, summary_reason};
 use std::alloc::{AllocError, Global};
 use std::marker::Model;
 
-/// What a caller from outside keeps between its calls: a session, if one is open, what was told last, why a call was refused last, and
-/// what is said of that beside.
+/// What is kept between calls: a session, if one is open, the last result, the last refusal, and its reason.
 #[derive(Drop)]
 pub struct Kept {
     alloc: Global,
@@ -57,7 +56,7 @@ impl Kept {
         }
     }
 
-    /// Keeps why a call was refused, and what is said of that, if there was memory for it.
+    /// Keeps why a call was refused, and the reason, if there was memory for it.
     fn refuse(&mut self, why: Refusal, reason: Result<Option<Reason>, AllocError>) -> Status
         ensures status { result ≡ status_of why }
         ensures same { self.new ≡ self.old }
@@ -67,7 +66,7 @@ impl Kept {
         Status::from(why)
     }
 
-    /// Keeps that there was no memory.
+    /// Keeps that memory ran out.
     fn refuse_for_memory(&mut self) -> Status
         ensures status { result ≡ status_of NoMemory }
         ensures same { self.new ≡ self.old }
@@ -75,7 +74,7 @@ impl Kept {
         self.refuse(Refusal::NoMemory, Ok(None))
     }
 
-    /// Opens a session that knows nothing, as [`Session::create`] makes it.
+    /// Opens an empty session, as [`Session::create`] makes it.
     ///
     /// # Errors
     ///
@@ -87,7 +86,7 @@ impl Kept {
         limit: u64,
         seed: Seed,
     ) -> Result<(), Status>
-        ensures opens { OpensBy (Creates columns.now query.now limit) self.old.session self.new.session result }
+        ensures opens { OpensBy (Creates columns.now query.now limit seed) self.old.session self.new.session result }
         ensures told { self.new.told ≡ self.old.told }
         ensures same { OnErr result (self.new ≡ self.old) }
     {
@@ -105,13 +104,13 @@ impl Kept {
         Ok(())
     }
 
-    /// Opens a session of the replica that a summary file is of.
+    /// Opens a session of the replica of a summary file.
     ///
     /// # Errors
     ///
     /// `AlreadyOpen`, and then those of [`Session::load`].
     pub fn load(&mut self, file: &[u8], limit: u64, seed: Seed) -> Result<(), Status>
-        ensures opens { OpensBy (Loads file.now limit) self.old.session self.new.session result }
+        ensures opens { OpensBy (Loads file.now limit seed) self.old.session self.new.session result }
         ensures told { self.new.told ≡ self.old.told }
         ensures same { OnErr result (self.new ≡ self.old) }
     {
@@ -150,7 +149,7 @@ impl Kept {
         Err(self.refuse(why, reason))
     }
 
-    /// Feeds the batch of an origin and a number whose rows are records in CSV, as many as are told.
+    /// Feeds the batch of an origin and a number, with rows in CSV, as many as declared.
     ///
     /// # Errors
     ///
@@ -182,7 +181,7 @@ impl Kept {
     ///
     /// # Errors
     ///
-    /// `NotOpen` where this or the other has no session, and then those of [`Session::merge`]. Nothing changes then.
+    /// `NotOpen` if this or the other has no session, and then those of [`Session::merge`]. Nothing changes then.
     pub fn merge(&mut self, other: &Kept) -> Result<(), Status>
         ensures merges { MergesWith other.now.session self.old.session self.new.session result }
         ensures told { self.new.told ≡ self.old.told }
@@ -202,7 +201,7 @@ impl Kept {
         Err(self.refuse(why, reason))
     }
 
-    /// Merges the replica that a summary file is of.
+    /// Merges the replica of a summary file.
     ///
     /// # Errors
     ///
@@ -223,7 +222,7 @@ impl Kept {
         Err(self.refuse(why, reason))
     }
 
-    /// Tells the summary file.
+    /// Keeps the summary file as the result.
     ///
     /// # Errors
     ///
@@ -247,11 +246,11 @@ impl Kept {
         Ok(())
     }
 
-    /// Tells the table of the answer in a format, and how many rows it has.
+    /// Keeps the table of the answer in a format as the result, and gives its number of rows.
     ///
     /// # Errors
     ///
-    /// `NotOpen`, and want of memory. Nothing changes then.
+    /// `NotOpen`, and `NoMemory`. Nothing changes then.
     pub fn answer(&mut self, format: Format) -> Result<usize, Status>
         ensures asks { OnSession (Asks (λ held text rows. IsTableOf format held rows text) ForMemory self.new.told) self.old.session
             self.new.session result }
@@ -268,11 +267,11 @@ impl Kept {
         Ok(rows)
     }
 
-    /// Tells what is known, a line for each origin.
+    /// Keeps what is known as the result, a line for each origin.
     ///
     /// # Errors
     ///
-    /// `NotOpen`, and want of memory. Nothing changes then.
+    /// `NotOpen`, and `NoMemory`. Nothing changes then.
     pub fn known(&mut self) -> Result<(), Status>
         ensures asks { OnSession (Asks (λ held text _. IsKnownText held text) ForMemory self.new.told)
             self.old.session self.new.session result }
@@ -289,11 +288,11 @@ impl Kept {
         Ok(())
     }
 
-    /// Tells the canonical text of the query.
+    /// Keeps the canonical text of the query as the result.
     ///
     /// # Errors
     ///
-    /// `NotOpen`, and want of memory. Nothing changes then.
+    /// `NotOpen`, and `NoMemory`. Nothing changes then.
     pub fn query(&mut self) -> Result<(), Status>
         ensures asks { OnSession (Asks (λ held text _. IsQueryText held text) ForMemory self.new.told)
             self.old.session self.new.session result }
@@ -310,11 +309,11 @@ impl Kept {
         Ok(())
     }
 
-    /// Tells the canonical text of the columns.
+    /// Keeps the canonical text of the columns as the result.
     ///
     /// # Errors
     ///
-    /// `NotOpen`, and want of memory. Nothing changes then.
+    /// `NotOpen`, and `NoMemory`. Nothing changes then.
     pub fn columns(&mut self) -> Result<(), Status>
         ensures asks { OnSession (Asks (λ held text _. IsColumnsText held text) ForMemory self.new.told)
             self.old.session self.new.session result }
@@ -331,10 +330,11 @@ impl Kept {
         Ok(())
     }
 
-    /// Tells the sentence of the last refusal, or nothing where there was none, and its place. The only error is want of memory, and
-    /// nothing changes then.
+    /// Keeps the sentence of the last refusal as the result, empty if there was none, and gives its place. The only error is out of memory,
+    /// and nothing changes then.
     pub fn explain(&mut self) -> Result<Place, Status>
         ensures session { self.new.session ≡ self.old.session }
+        ensures why { IfErr result (λ status. status ≡ status_of NoMemory) }
         ensures same { OnErr result (self.new ≡ self.old) }
     {
         let Some(why) = self.why else {
@@ -350,7 +350,7 @@ impl Kept {
         }
     }
 
-    /// What was told last.
+    /// The last result.
     pub fn told(&self) -> &[u8]
         ensures { result.now ≡ self.now.told }
     {

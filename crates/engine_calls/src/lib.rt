@@ -1,4 +1,4 @@
-//! What a caller from outside keeps between its calls, and what each of them does.
+//! The calls of the library for other languages, and what is kept between them.
 #![tactic(auto)]
 
 mod kept;

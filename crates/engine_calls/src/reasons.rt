@@ -1,4 +1,4 @@
-//! What is said of a refusal: what the program says on standard error, where it is one of the program's.
+//! The sentence on a refusal, as the program writes it on standard error.
 
 use engine::{Refusal, Replica};
 use fault_sentences::Reason;
@@ -6,7 +6,7 @@ use file_sentences::{FileKind, columns_reason, file_reason, query_reason};
 use std::alloc::{AllocError, Global};
 use std::str::from_utf8;
 
-/// Says why no session is opened of the texts of columns and a query.
+/// The reason why no session is opened of the texts of columns and a query.
 pub(crate) fn opening_reason(
     alloc: Global,
     columns: &[u8],
@@ -15,11 +15,11 @@ pub(crate) fn opening_reason(
 ) -> Result<Option<Reason>, AllocError> {
     match (why, from_utf8(columns), from_utf8(query)) {
         (Refusal::BadCommand, Ok(_), _) => {
-            let said = String::from_str(alloc, "the text of the query is no UTF-8")?;
+            let said = String::from_str(alloc, "the text of the query is not UTF-8")?;
             Ok(Some(Reason::whole(alloc, said)))
         }
         (Refusal::BadCommand, Err(_), _) => {
-            let said = String::from_str(alloc, "the text of the columns is no UTF-8")?;
+            let said = String::from_str(alloc, "the text of the columns is not UTF-8")?;
             Ok(Some(Reason::whole(alloc, said)))
         }
         (Refusal::BadSchema, Ok(columns), _) => columns_reason(alloc, columns),
@@ -28,7 +28,7 @@ pub(crate) fn opening_reason(
     }
 }
 
-/// Says why rows are no batch for a replica: of the batch file of these, whose first line is its head.
+/// The reason why rows are not a batch for a replica. Lines are those of their batch file, whose first line is the head.
 pub(crate) fn rows_reason(
     alloc: Global,
     replica: &Replica,
@@ -44,7 +44,7 @@ pub(crate) fn rows_reason(
     file_reason(alloc, FileKind::Batch, replica, &file, why)
 }
 
-/// Says why a summary file is not merged into a replica, or another replica, which is no file.
+/// The reason why a summary file, or another replica, is not merged into a replica.
 pub(crate) fn merging_reason(
     alloc: Global,
     replica: &Replica,
@@ -52,13 +52,13 @@ pub(crate) fn merging_reason(
     why: Refusal,
 ) -> Result<Option<Reason>, AllocError> {
     match why {
-        // The program tells the first of its files from another one there.
+        // The program's sentence speaks of its first file, which does not exist here.
         Refusal::DifferentQuery => Ok(None),
         why => file_reason(alloc, FileKind::Summary, replica, file, why),
     }
 }
 
-/// The sentence of a refusal: what is said of it, or else that of the refusal alone.
+/// The sentence on a refusal: its reason, or else its general sentence.
 pub(crate) fn sentence(
     alloc: Global,
     why: Refusal,

@@ -18,7 +18,7 @@ pub struct BatchText<'b> {
     pub text: &'b [u8],
     /// The line of the head.
     pub line: u64,
-    /// Whether it is a file, to whose end the records go.
+    /// Whether it is a file, whose records all belong to the batch.
     pub is_file: bool,
 }
 
@@ -44,7 +44,7 @@ fn is_within(field: &[u8], least: u64, most: u64) -> bool {
 /// What is said of white space round a field, if there is some.
 fn space_of(field: &[u8]) -> &'static str {
     if field.trim_ascii().len() < field.len() {
-        ", with no white space round it"
+        ", without white space around it"
     } else {
         ""
     }
@@ -100,30 +100,30 @@ impl<'b> BatchText<'b> {
         let line = self.head_line(alloc, record)?;
         let said = if read_row_count(head.rows).is_none() {
             let (shown, space) = (Quoted(head.rows), space_of(head.rows));
-            format!(in alloc; "{line}ROWS is {shown}, and wants 1 to 9 digits{space}")?
+            format!(in alloc; "{line}ROWS is {shown}; it must be 1 to 9 digits{space}")?
         } else if !is_within(head.origin, 0, u64::from(LAST_ORIGIN)) {
             let (shown, space) = (Quoted(head.origin), space_of(head.origin));
-            format!(in alloc; "{line}ORIGIN is {shown}, and wants 0 to {LAST_ORIGIN}{space}")?
+            format!(in alloc; "{line}ORIGIN is {shown}; it must be 0 to {LAST_ORIGIN}{space}")?
         } else if !is_within(head.number, 1, u64::from(LAST_NUMBER)) {
             let (shown, space) = (Quoted(head.number), space_of(head.number));
-            format!(in alloc; "{line}NUMBER is {shown}, and wants 1 to {LAST_NUMBER}{space}")?
+            format!(in alloc; "{line}NUMBER is {shown}; it must be 1 to {LAST_NUMBER}{space}")?
         } else {
             return Ok(None);
         };
         Ok(Some(said))
     }
 
-    /// Says of a file that its first line is no head of a batch.
+    /// Says of a file that its first line is not a head of a batch.
     fn say_front(&self, alloc: Global, schema: &Schema) -> Result<String, AllocError> {
         let line = first_line(self.text);
         if line.is_empty() {
             return format!(in alloc;
-                "the file is empty, and wants a first line batch,ORIGIN,NUMBER,ROWS"
+                "the file is empty; its first line must be batch,ORIGIN,NUMBER,ROWS"
             );
         }
         let shown = Quoted(line);
         let mut said = format!(in alloc;
-            "the first line is {shown}, and wants batch,ORIGIN,NUMBER,ROWS"
+            "the first line is {shown}; it must be batch,ORIGIN,NUMBER,ROWS"
         )?;
         if let Some(hint) = self.front_hint(alloc, schema, line)? {
             said.push_str("; ")?;
@@ -147,7 +147,7 @@ impl<'b> BatchText<'b> {
             fields.push(field)?;
         }
         if is_header(schema, &fields) {
-            return Ok(Some("it is a line of names, and no batch has one"));
+            return Ok(Some("the line is a header, which a batch does not have"));
         }
         Ok(other_separator(line))
     }
@@ -192,7 +192,7 @@ impl<'b> BatchText<'b> {
     fn say_count(&self, alloc: Global, head: Option<&ByteRecord>) -> Result<String, AllocError> {
         let found = count_records(alloc, self.text)?.saturating_sub(1);
         let told = self.told(head);
-        let mut said = format!(in alloc; "rows told: {told}, found: {found}")?;
+        let mut said = format!(in alloc; "rows declared: {told}, found: {found}")?;
         if let Some(line) = open_quote(self.text) {
             let line = self.line.saturating_add(line.saturating_sub(1));
             write!(said, "; the quote of line {line} is never closed")?;
@@ -203,7 +203,7 @@ impl<'b> BatchText<'b> {
     /// Says that too many rows are told.
     fn say_too_many(&self, alloc: Global, head: Option<&ByteRecord>) -> Result<String, AllocError> {
         let told = self.told(head);
-        format!(in alloc; "rows told: {told}, and a batch has at most {MAX_ROWS}")
+        format!(in alloc; "rows declared: {told}; a batch has at most {MAX_ROWS}")
     }
 
     /// Says how many fields a record has, and which are wanted.
@@ -218,7 +218,7 @@ impl<'b> BatchText<'b> {
         let wanted = schema.width();
         let columns = schema.print()?;
         let mut said = format!(in alloc;
-            "line {line}: fields found: {found}, wanted: {wanted}, as {columns}"
+            "line {line}: fields found: {found}, expected: {wanted} ({columns})"
         )?;
         if let Some(only) = record.get(0) {
             if found == 1 && wanted > 1 {
@@ -232,7 +232,7 @@ impl<'b> BatchText<'b> {
         Ok(said)
     }
 
-    /// Says why a field is no value of its column.
+    /// Says why a field is not a value of its column.
     fn say_field(
         &self,
         alloc: Global,
@@ -250,7 +250,7 @@ impl<'b> BatchText<'b> {
         let (name, kind, shown) = (schema.name(column), kind.as_str(), Quoted(field));
         let mut said = format!(in alloc; "line {line}, column {name} {kind}: {shown}: {fault}")?;
         if self.is_names(alloc, schema, record)? {
-            said.push_str("; it is a line of names, and no batch has one")?;
+            said.push_str("; the line is a header, which a batch does not have")?;
         }
         self.add_open_quote(&mut said)?;
         Ok(said)
@@ -270,7 +270,7 @@ impl<'b> BatchText<'b> {
         Ok(is_header(schema, &fields))
     }
 
-    /// Says why the records are no batch of a schema. Nothing is said where that is not found.
+    /// Says why the records are not a batch of a schema. It says nothing if it finds no fault.
     pub fn say(
         &self,
         alloc: Global,

@@ -59,17 +59,17 @@ impl fmt::Display for Clash {
                 let (left, right) = (left.as_str(), right.as_str());
                 write!(
                     f,
-                    "a {left} is compared with a {right}, and only values of one kind are"
+                    "a {left} is compared with a {right}: both sides must be of one kind"
                 )
             }
             Clash::Asked(asker, kind) => {
                 let (words, kind) = (asker.words(), kind.as_str());
-                write!(f, "{words} asks for a boolean, and this is a {kind}")
+                write!(f, "{words} takes a boolean, not a {kind}")
             }
             Clash::Argument(function, kind) => {
                 let (name, kind) = (function.name(), kind.as_str());
                 let taken = taken(*function);
-                write!(f, "{name} takes {taken}, and this is a {kind}")
+                write!(f, "{name} takes {taken}, not a {kind}")
             }
         }
     }

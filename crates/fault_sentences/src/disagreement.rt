@@ -2,7 +2,7 @@
 
 use std::alloc::{AllocError, Global};
 
-/// Says which number of an origin is known with other rows: an early one, or else one up to the prefix, where that is told.
+/// Says which batch of an origin is known with other rows: an early one, or else one within the prefix, if that is given.
 pub fn say_disagreement(
     alloc: Global,
     origin: u16,
@@ -11,15 +11,15 @@ pub fn say_disagreement(
 ) -> Result<String, AllocError> {
     match (early, prefix) {
         (Some(number), _) => {
-            format!(in alloc; "number {number} of origin {origin} is known with other rows")
+            format!(in alloc; "batch {number} of origin {origin} is known with other rows")
         }
         (None, Some(prefix)) => {
-            format!(in alloc; "a number up to {prefix} of origin {origin} is known with other rows")
+            format!(in alloc;
+                "a batch of origin {origin}, up to number {prefix}, is known with other rows"
+            )
         }
         (None, None) => {
-            format!(in alloc;
-                "a number of origin {origin}, up to its prefix, is known with other rows"
-            )
+            format!(in alloc; "a batch in the prefix of origin {origin} is known with other rows")
         }
     }
 }

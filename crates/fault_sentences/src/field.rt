@@ -1,42 +1,42 @@
-//! Why a field stands for no value of its column.
+//! Why a field is not a value of its column.
 
 use grouping_model::limits::MAX_TEXT_LEN;
 use packed_rows::{ValueKind, read_value};
 use std::str;
 use thiserror::Error;
 
-/// Why a field stands for no value of its column.
+/// Why a field is not a value of its column.
 #[derive(Clone, Copy, Debug, PartialEq, Eq, Error)]
 pub enum FieldFault {
-    /// Nothing stands in it.
-    #[error("an empty field; null is \\N")]
+    /// It is empty.
+    #[error("empty field; write null as \\N")]
     Empty,
-    /// It is a value with white space round it.
-    #[error("no white space stands round a value")]
+    /// A value with white space around it.
+    #[error("a value has no white space around it")]
     Space,
     /// Another word for null.
-    #[error("null is \\N")]
+    #[error("write null as \\N")]
     Null,
     /// A number of more than 64 bits.
-    #[error("out of range, which is -9223372036854775808 to 9223372036854775807")]
+    #[error("out of range (-9223372036854775808 to 9223372036854775807)")]
     OutOfRange,
     /// A number with a fraction.
-    #[error("a bigint has no fraction: keep cents, as 1250 for 12.50")]
+    #[error("a bigint has no fraction: use cents, as 1250 for 12.50")]
     Fraction,
-    /// No number.
+    /// Not a number.
     #[error("a bigint is an optional + or - and digits")]
     NoBigint,
-    /// No truth value.
+    /// Not a truth value.
     #[error("a boolean is t, true, f or false")]
     NoBoolean,
     /// A text that is too long.
-    #[error("a text of {len} bytes, and the longest has 255")]
+    #[error("the text has {len} bytes; the limit is 255")]
     TooLong { len: usize },
     /// A text with the character 0.
-    #[error("the character 0 is in no text")]
+    #[error("a text cannot contain the character 0")]
     Zero,
-    /// Bytes that are no text.
-    #[error("no UTF-8 from byte {at} of the field on, the first being byte 1")]
+    /// Bytes that are not UTF-8.
+    #[error("not UTF-8 from byte {at} of the field, counted from 1")]
     NoText { at: usize },
 }
 
@@ -69,7 +69,7 @@ fn is_fraction(field: &[u8]) -> bool {
     }
 }
 
-/// Why a field is no number or no truth value. The last is told where nothing else is known of it.
+/// Why a field is not a number or truth value. The last is told where nothing else is known of it.
 fn word_fault(field: &[u8], kind: ValueKind, last: FieldFault) -> FieldFault {
     let trimmed = field.trim_ascii();
     if trimmed.is_empty() {
@@ -83,7 +83,7 @@ fn word_fault(field: &[u8], kind: ValueKind, last: FieldFault) -> FieldFault {
     }
 }
 
-/// Why a field is no text.
+/// Why a field is not a text.
 fn text_fault(field: &[u8]) -> FieldFault {
     if field.len() > MAX_TEXT_LEN {
         return FieldFault::TooLong { len: field.len() };
@@ -97,7 +97,7 @@ fn text_fault(field: &[u8]) -> FieldFault {
 }
 
 impl FieldFault {
-    /// Why a field, which stands for no value of a kind, does not.
+    /// Why a field is not a value of a kind.
     pub fn of(field: &[u8], kind: ValueKind) -> FieldFault {
         match kind {
             ValueKind::Bigint if is_number(field) => FieldFault::OutOfRange,

@@ -1,4 +1,4 @@
-//! What a file is that is not what was asked for.
+//! What an unexpected file is.
 
 use packed_rows::Schema;
 use std::alloc::{AllocError, Global};
@@ -9,30 +9,33 @@ const SUMMARY: &[u8] = b"AGGSUM";
 
 /// What begins files of other formats, and what they are.
 const BEGINNINGS: [(&[u8], &str); 12] = [
-    (b"\x1F\x8B", "it is compressed by gzip: gzip -dc FILE"),
-    (b"BZh", "it is compressed by bzip2: bzip2 -dc FILE"),
-    (b"\xFD7zXZ", "it is compressed by xz: xz -dc FILE"),
-    (
-        b"\x28\xB5\x2F\xFD",
-        "it is compressed by zstd: zstd -dc FILE",
-    ),
+    (b"\x1F\x8B", "it is compressed: use gzip -dc FILE"),
+    (b"BZh", "it is compressed: use bzip2 -dc FILE"),
+    (b"\xFD7zXZ", "it is compressed: use xz -dc FILE"),
+    (b"\x28\xB5\x2F\xFD", "it is compressed: use zstd -dc FILE"),
     (b"PK\x03\x04", "it is a zip archive"),
-    (b"\xFF\xFE", "it is UTF-16: iconv -f UTF-16 -t UTF-8 FILE"),
-    (b"\xFE\xFF", "it is UTF-16: iconv -f UTF-16 -t UTF-8 FILE"),
+    (
+        b"\xFF\xFE",
+        "it is UTF-16: use iconv -f UTF-16 -t UTF-8 FILE",
+    ),
+    (
+        b"\xFE\xFF",
+        "it is UTF-16: use iconv -f UTF-16 -t UTF-8 FILE",
+    ),
     (
         SUMMARY,
-        "it is a summary file: OUT and IN stand before the batch files",
+        "it is a summary file: OUT and IN come before the batch files",
     ),
     (b"{", "it looks like JSON"),
     (b"PAR1", "it is Parquet"),
     // A batch without a byte order mark.
     (
         b"b\x00a\x00",
-        "it is UTF-16: iconv -f UTF-16LE -t UTF-8 FILE",
+        "it is UTF-16: use iconv -f UTF-16LE -t UTF-8 FILE",
     ),
     (
         b"\x00b\x00a",
-        "it is UTF-16: iconv -f UTF-16BE -t UTF-8 FILE",
+        "it is UTF-16: use iconv -f UTF-16BE -t UTF-8 FILE",
     ),
 ];
 
@@ -46,14 +49,11 @@ pub(crate) fn known_by_front(file: &[u8]) -> Option<&'static str> {
     None
 }
 
-/// Separators that are no commas, and what is said of each.
+/// Separators other than commas, and the sentence on each.
 const SEPARATORS: [(u8, &str); 3] = [
-    (
-        b';',
-        "fields stand between commas, and not between semicolons",
-    ),
-    (b'\t', "fields stand between commas, and not between tabs"),
-    (b'|', "fields stand between commas, and not between bars"),
+    (b';', "fields are separated by commas, not semicolons"),
+    (b'\t', "fields are separated by commas, not tabs"),
+    (b'|', "fields are separated by commas, not bars"),
 ];
 
 /// What is said of a line whose fields stand between something else than commas.
@@ -83,11 +83,11 @@ pub(crate) fn is_header(schema: &Schema, fields: &[&[u8]]) -> bool {
     true
 }
 
-/// Why bytes are no summary file, where their front tells: they are none, those of a batch file, or of another format.
+/// Why bytes are not a summary file, by their first bytes: there are none, or they are of a batch file or another format.
 pub fn no_summary(alloc: Global, file: &[u8]) -> Result<String, AllocError> {
     let mut said = String::new(alloc);
     if file.is_empty() {
-        said.push_str("the file is empty, and a summary begins with AGGSUM01 or AGGSUM02")?;
+        said.push_str("the file is empty; a summary begins with AGGSUM01 or AGGSUM02")?;
         return Ok(said);
     }
     said.push_str("it does not begin with AGGSUM01 or AGGSUM02, as a summary does")?;
@@ -99,7 +99,7 @@ pub fn no_summary(alloc: Global, file: &[u8]) -> Result<String, AllocError> {
         said.push_str("; ")?;
         said.push_str(known)?;
     } else if str::from_utf8(file.get(..file.len().min(64)).unwrap_or(file)).is_ok() {
-        said.push_str("; it is a text")?;
+        said.push_str("; it is a text file")?;
     }
     Ok(said)
 }

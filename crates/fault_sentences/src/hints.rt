@@ -1,4 +1,4 @@
-//! What a query has no words for, and what serves in its place.
+//! What a query cannot have, and what to use instead.
 
 use agg_protocol::{AggKind, Argument};
 use packed_rows::ValueKind;
@@ -56,97 +56,88 @@ fn write_names<W: fmt::Write>(f: &mut fmt::Formatter<W>, of: Option<ValueKind>) 
     Ok(())
 }
 
-/// Words and signs where they stand in the way, and what is said of each.
+/// Words and signs that a query cannot have, and the hint on each.
 const WORDS: [(&str, &str); 35] = [
-    (
-        "like",
-        "there is no LIKE: texts are compared by = <> < <= > >=",
-    ),
+    ("like", "there is no LIKE: compare texts by = <> < <= > >="),
     (
         "ilike",
-        "there is no ILIKE: texts are compared by = <> < <= > >=",
+        "there is no ILIKE: compare texts by = <> < <= > >=",
     ),
     (
         "similar",
-        "there is no SIMILAR: texts are compared by = <> < <= > >=",
+        "there is no SIMILAR: compare texts by = <> < <= > >=",
     ),
     ("in", "there is no IN: write x = 1 OR x = 2"),
     ("between", "there is no BETWEEN: write x >= 1 AND x <= 9"),
     (
         "limit",
-        "there is no LIMIT: agg_tool answer .. | head, or HAVING leaves groups out",
+        "there is no LIMIT: use agg_tool answer .. | head, or drop groups with HAVING",
     ),
-    ("offset", "there is no OFFSET: HAVING leaves groups out"),
-    ("fetch", "there is no FETCH: HAVING leaves groups out"),
-    (
-        "join",
-        "there are no joins: the rows of batches are the one table",
-    ),
-    (
-        "inner",
-        "there are no joins: the rows of batches are the one table",
-    ),
-    (
-        "left",
-        "there are no joins: the rows of batches are the one table",
-    ),
-    (
-        "cross",
-        "there are no joins: the rows of batches are the one table",
-    ),
-    ("union", "there is no UNION: make a summary of each query"),
-    ("over", "there are no windows"),
+    ("offset", "there is no OFFSET: drop groups with HAVING"),
+    ("fetch", "there is no FETCH: drop groups with HAVING"),
+    ("join", "there are no joins: batches is the only table"),
+    ("inner", "there are no joins: batches is the only table"),
+    ("left", "there are no joins: batches is the only table"),
+    ("cross", "there are no joins: batches is the only table"),
+    ("union", "there is no UNION: make a summary for each query"),
+    ("over", "there are no window functions"),
     (
         "distinct",
-        "there is no DISTINCT: GROUP BY x has each x once, so count the lines of the answer",
+        "there is no DISTINCT: use GROUP BY x, and count the rows of the answer",
     ),
     (
         "case",
-        "there is no CASE: FILTER (WHERE ..) tells which rows a call takes",
+        "there is no CASE: FILTER (WHERE ..) selects the rows of a call",
     ),
     (
         "when",
-        "there is no CASE: FILTER (WHERE ..) tells which rows a call takes",
+        "there is no CASE: FILTER (WHERE ..) selects the rows of a call",
     ),
-    ("cast", "there are no casts: --columns tells the kinds"),
+    ("cast", "there are no casts: --columns sets the kinds"),
     ("with", "there is no WITH: a query is one SELECT"),
-    ("insert", "rows come from batches, by feed"),
-    ("::", "there are no casts: --columns tells the kinds"),
-    ("||", "texts are not put together"),
+    ("insert", "rows come from batches: use feed"),
+    ("::", "there are no casts: --columns sets the kinds"),
+    ("||", "texts cannot be concatenated"),
     (
         "+",
-        "there is no arithmetic: let the rows have what is counted",
+        "there is no arithmetic: add a column with the computed value",
     ),
     (
         "-",
-        "there is no arithmetic: let the rows have what is counted",
+        "there is no arithmetic: add a column with the computed value",
     ),
     (
         "/",
-        "there is no arithmetic: let the rows have what is counted",
+        "there is no arithmetic: add a column with the computed value",
     ),
     (
         "%",
-        "there is no arithmetic: let the rows have what is counted",
+        "there is no arithmetic: add a column with the computed value",
     ),
     ("--", "there are no comments"),
     ("#", "there are no comments"),
-    (".", "no table's name stands before that of a column"),
-    ("\"", "a text stands in single quotes, and a name in none"),
-    ("`", "a text stands in single quotes, and a name in none"),
-    ("\u{2018}", "a text stands in plain single quotes"),
-    ("\u{2019}", "a text stands in plain single quotes"),
-    ("\u{201c}", "a text stands in plain single quotes"),
+    (".", "write a column without a table name"),
+    (
+        "\"",
+        "write texts in single quotes, and names without quotes",
+    ),
+    (
+        "`",
+        "write texts in single quotes, and names without quotes",
+    ),
+    ("\u{2018}", "write texts in plain single quotes"),
+    ("\u{2019}", "write texts in plain single quotes"),
+    ("\u{201c}", "write texts in plain single quotes"),
     ("$1", "there are no parameters"),
 ];
 
-/// Names of functions that there are not, and what serves for each.
+/// Names of functions that do not exist, and what to use instead.
 const FUNCTIONS: [(&str, &str); 5] = [
-    ("avg", "there is no avg: ask sum and count, and divide"),
-    ("coalesce", "there is no coalesce: IS NULL tells a null"),
+    ("avg", "there is no avg: select sum and count, and divide"),
+    ("coalesce", "there is no coalesce: test with IS NULL"),
     ("median", "there is no median"),
-    ("first", "there is no first: min and max are there"),
-    ("last", "there is no last: min and max are there"),
+    ("first", "there is no first: use min or max"),
+    ("last", "there is no last: use min or max"),
 ];
 
 /// What is said of a word in a table.
@@ -175,13 +166,13 @@ pub(crate) fn of_function(name: &str) -> Hint {
 
 /// What is said of what stands behind a column in the parentheses of a function.
 pub(crate) const ARGUMENT: &str =
-    "a function takes a column: use FILTER (WHERE ..), or let the rows have a boolean column";
+    "a function takes a column: use FILTER (WHERE ..), or add a boolean column";
 
 /// What is said of the dot of a fraction.
-pub(crate) const FRACTION: &str = "there are no fractions: keep cents, as 1250 for 12.50";
+pub(crate) const FRACTION: &str = "there are no fractions: use cents, as 1250 for 12.50";
 
 /// What is said of a place in GROUP BY.
-pub(crate) const KEY_PLACE: &str = "GROUP BY takes names of columns, and no places";
+pub(crate) const KEY_PLACE: &str = "GROUP BY takes column names, not places";
 
 /// What is said of a call in ORDER BY.
 pub(crate) const CALL_TERM: &str =
@@ -192,6 +183,6 @@ pub(crate) fn of_star(is_item: bool) -> &'static str {
     if is_item {
         "name the columns of GROUP BY and the calls"
     } else {
-        "there is no arithmetic: let the rows have what is counted"
+        "there is no arithmetic: add a column with the computed value"
     }
 }

@@ -1,4 +1,4 @@
-//! What is said of a fault so that one can mend it: sentences of one line, made of the bytes in which it is.
+//! Sentences on faults, for people: one line that quotes the faulty bytes, and says what was expected.
 #![tactic(auto)]
 
 mod batch;

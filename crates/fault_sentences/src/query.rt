@@ -1,4 +1,4 @@
-//! Why a text is no query over a schema.
+//! Why a text is not a query over a schema.
 
 use crate::hints::of_word;
 use crate::nearest::nearest;
@@ -18,7 +18,7 @@ use query_tokens::Token;
 use std::alloc::{AllocError, Global};
 use std::fmt;
 
-/// A query that was read from a text, and that a check refuses.
+/// A query that was read from a text, and that a check refused.
 #[derive(Drop)]
 struct Refused<'t> {
     alloc: Global,
@@ -135,13 +135,13 @@ impl<'t> Refused<'t> {
         let item = Spelled(&found.0);
         let said = match (mention.role, &found.0) {
             (Role::Having, _) => format!(in self.alloc;
-                "{name} names an item, which HAVING does not see: write {item}"
+                "{name} names an item, which is not visible in HAVING: write {item}"
             )?,
             (Role::Condition, Item::Column(_)) => format!(in self.alloc;
-                "{name} names an item, which WHERE and FILTER do not see: write {item}"
+                "{name} names an item, which is not visible in WHERE and FILTER: write {item}"
             )?,
             (Role::Condition, Item::Call(_)) => format!(in self.alloc;
-                "{name} names an item, which WHERE and FILTER do not see: ask for {item} in HAVING"
+                "{name} names an item, which is not visible in WHERE and FILTER: test {item} in HAVING"
             )?,
             (Role::Key, Item::Column(_)) => format!(in self.alloc;
                 "{name} names an item, and GROUP BY takes columns: write {item}"
@@ -157,33 +157,33 @@ impl<'t> Refused<'t> {
             return self.at(mention.at, said);
         }
         let name = mention.name;
-        let mut said = format!(in self.alloc; "{} is no column", Quoted(name.as_bytes()))?;
+        let mut said = format!(in self.alloc; "{} is not a column", Quoted(name.as_bytes()))?;
         if let Some(near) = nearest(self.alloc, name, names)? {
-            write!(said, ", and {near} may be meant")?;
+            write!(said, " (did you mean {near}?)")?;
         } else if let Some(hint) = of_word(name) {
             write!(said, "; {hint}")?;
         } else if mention.role == Role::Condition {
-            said.push_str("; a text stands in single quotes")?;
+            said.push_str("; write texts in single quotes")?;
         }
         let columns = self.schema.print()?;
         write!(said, "; the columns are {columns}")?;
         self.at(mention.at, said)
     }
 
-    /// Says of what a term of ORDER BY names that it is no item, if it is none.
+    /// Says of what a term of ORDER BY names that it is not an item, if it is none.
     fn say_target(&self, target: &OrderBy) -> Result<Option<String>, AllocError> {
         let many = self.query.items.len();
         match target {
             OrderBy::Name(name) if count_named(self.query, name.as_str()) == 0 => {
                 let shown = Quoted(name.as_bytes());
                 let said = format!(in self.alloc;
-                    "{shown} names no item: a term of ORDER BY is the name of an item in the answer, or its place"
+                    "{shown} names no item: a term of ORDER BY is the name or the place of an item"
                 )?;
                 Ok(Some(said))
             }
             OrderBy::Place(number) if *number < 1 || *number as u64 > many as u64 => {
                 let said = format!(in self.alloc;
-                    "{number} is no item's place, which is 1 to {many}"
+                    "there is no item {number}: the items are 1 to {many}"
                 )?;
                 Ok(Some(said))
             }
@@ -212,7 +212,7 @@ impl<'t> Refused<'t> {
         let count = count_named(self.query, name.as_str());
         let shown = Quoted(name.as_bytes());
         let said = format!(in self.alloc;
-            "{shown} names {count} items that are not the same: give one another name by AS, or write its place"
+            "{shown} names {count} different items: rename one with AS, or write its place"
         )?;
         Ok(Some(said))
     }
@@ -234,7 +234,7 @@ impl<'t> Refused<'t> {
         };
         let name = function.name();
         let said = format!(in self.alloc;
-            "{name} stands in WHERE or a FILTER, where each row is asked by itself: put it into HAVING"
+            "the aggregate {name} is not allowed in WHERE or FILTER: move it to HAVING"
         )?;
         Ok(Some(self.at(at, said)?))
     }
@@ -259,7 +259,7 @@ impl<'t> Refused<'t> {
             if matches!(mention.role, Role::Outside | Role::Having) && !self.is_key(mention.name) {
                 let shown = Quoted(mention.name.as_bytes());
                 let said = format!(in self.alloc;
-                    "{shown} stands outside of calls, and is none of GROUP BY's columns: add it there, or put it into a call"
+                    "column {shown} must appear in GROUP BY or be used in a call"
                 )?;
                 return Ok(Some(self.at(mention.at, said)?));
             }
@@ -289,11 +289,11 @@ impl<'t> Refused<'t> {
         let items = self.query.items.len();
         let (keys, calls) = (count_names(&self.query.keys), self.count_calls());
         let said = if items > MAX_ITEMS {
-            format!(in alloc; "{items} items, and there may be {MAX_ITEMS}")?
+            format!(in alloc; "{items} items; the limit is {MAX_ITEMS}")?
         } else if keys > MAX_KEYS {
-            format!(in alloc; "{keys} columns of GROUP BY, and there may be {MAX_KEYS}")?
+            format!(in alloc; "{keys} columns in GROUP BY; the limit is {MAX_KEYS}")?
         } else if calls > MAX_CALLS {
-            format!(in alloc; "{calls} different calls, and there may be {MAX_CALLS}")?
+            format!(in alloc; "{calls} different calls; the limit is {MAX_CALLS}")?
         } else {
             format!(in alloc; "the canonical text is longer than {MAX_QUERY_LEN} bytes")?
         };
@@ -304,7 +304,7 @@ impl<'t> Refused<'t> {
     fn say_too_deep(&self) -> Result<Reason, AllocError> {
         let (depth, at) = self.tour.deepest;
         let said = format!(in self.alloc;
-            "a condition that is {depth} deep, and may be {DEEPEST_CONDITION}: pair what stands in a long chain, as (a OR b) OR (c OR d)"
+            "a condition is {depth} levels deep; the limit is {DEEPEST_CONDITION}: split a long chain into pairs, as (a OR b) OR (c OR d)"
         )?;
         self.at(at, said)
     }
@@ -363,10 +363,10 @@ fn say_refused(
 /// Says that a text is too long.
 fn say_long(alloc: Global, text: &str) -> Result<String, AllocError> {
     let len = text.len();
-    format!(in alloc; "a text of {len} bytes, and the longest has {MAX_QUERY_LEN}")
+    format!(in alloc; "the query has {len} bytes; the limit is {MAX_QUERY_LEN}")
 }
 
-/// Says why a text is no query over a schema: where, what stands there, and what is wanted. Nothing is said where that is not found.
+/// Says why a text is not a query over a schema: where, what was found, and what was expected. It says nothing if it finds no fault.
 pub fn say_query(
     alloc: Global,
     schema: &Schema,

@@ -2,7 +2,7 @@
 
 use std::{fmt, str};
 
-/// How many characters of a value are shown, or bytes where it is no text.
+/// How many characters of a value are shown, or bytes where it is not a text.
 const MAX_SHOWN: usize = 40;
 
 /// Bytes in single quotes, cut short, in which what does not show on a line is told by numbers: what a user wrote, in a
@@ -32,7 +32,7 @@ fn write_shown<W: fmt::Write>(c: char, f: &mut fmt::Formatter<W>) -> fmt::Result
     }
 }
 
-/// Writes a byte of what is no text.
+/// Writes a byte of what is not a text.
 fn write_byte<W: fmt::Write>(byte: u8, f: &mut fmt::Formatter<W>) -> fmt::Result {
     if byte.is_ascii() {
         write_shown(char::from(byte), f)

@@ -1,19 +1,19 @@
-//! What is said of a fault in a text.
+//! Reasons: sentences on faults.
 
 use crate::picture::picture;
 use std::alloc::{AllocError, Global};
 
-/// What is said of a fault in a text, and the text with a caret under the place.
+/// The sentence on a fault, and the text with a caret under the place.
 #[derive(Drop)]
 pub struct Reason {
     /// What is wrong, on one line.
     pub said: String,
-    /// The text, or a part of it, and the caret below, each behind a line feed. Empty where no place is known.
+    /// The text, or a part of it, and the caret below, each after a line feed. Empty if no place is known.
     pub picture: String,
 }
 
 impl Reason {
-    /// What is said of a place of a text.
+    /// A reason with a place in a text.
     pub(crate) fn at(
         alloc: Global,
         text: &str,
@@ -26,7 +26,7 @@ impl Reason {
         })
     }
 
-    /// What is said of a whole text.
+    /// A reason without a place.
     pub fn whole(alloc: Global, said: String) -> Reason {
         Reason {
             said,

@@ -1,4 +1,4 @@
-//! Why a text is no schema.
+//! Why a text is not a schema.
 
 use crate::places::{Lexed, Sign, piece_at, sign_of};
 use crate::quoted::Quoted;
@@ -8,25 +8,25 @@ use packed_rows::ValueKind;
 use query_tokens::{Symbol, Token, is_reserved};
 use std::alloc::{AllocError, Global};
 
-/// The kinds that there are, as a sentence has them.
-const KINDS: &str = "there are three kinds: bigint (or int8), boolean (or bool) and text";
+/// The kinds, as a sentence lists them.
+const KINDS: &str = "the kinds are bigint (or int8), boolean (or bool) and text";
 
-/// What serves for a number with a fraction.
-const FRACTIONS: &str = "there are no fractions: keep cents, in a bigint";
+/// What to use for a number with a fraction.
+const FRACTIONS: &str = "there are no fractions: use a bigint, of cents";
 
-/// What serves for a day or a time.
-const DAYS: &str = "take text: dates sort as text, as 2024-02-29";
+/// What to use for a date or a time.
+const DAYS: &str = "use text: dates sort as text, as 2024-02-29";
 
-/// Other words for kinds, and what serves for each.
+/// Other words for kinds, and what to use instead.
 const OTHER_KINDS: [(&str, &str); 27] = [
-    ("int", "take bigint"),
-    ("int2", "take bigint"),
-    ("int4", "take bigint"),
-    ("integer", "take bigint"),
-    ("smallint", "take bigint"),
-    ("serial", "take bigint"),
-    ("bigserial", "take bigint"),
-    ("number", "take bigint"),
+    ("int", "use bigint"),
+    ("int2", "use bigint"),
+    ("int4", "use bigint"),
+    ("integer", "use bigint"),
+    ("smallint", "use bigint"),
+    ("serial", "use bigint"),
+    ("bigserial", "use bigint"),
+    ("number", "use bigint"),
     ("decimal", FRACTIONS),
     ("numeric", FRACTIONS),
     ("float", FRACTIONS),
@@ -35,20 +35,20 @@ const OTHER_KINDS: [(&str, &str); 27] = [
     ("double", FRACTIONS),
     ("real", FRACTIONS),
     ("money", FRACTIONS),
-    ("varchar", "take text"),
-    ("char", "take text"),
-    ("character", "take text"),
-    ("string", "take text"),
-    ("uuid", "take text"),
+    ("varchar", "use text"),
+    ("char", "use text"),
+    ("character", "use text"),
+    ("string", "use text"),
+    ("uuid", "use text"),
     ("date", DAYS),
     ("time", DAYS),
     ("timestamp", DAYS),
     ("timestamptz", DAYS),
     ("datetime", DAYS),
-    ("logical", "take boolean"),
+    ("logical", "use boolean"),
 ];
 
-/// What serves for a word that is no kind.
+/// What to use for a word that is not a kind.
 fn kind_for(word: &str) -> Option<&'static str> {
     for (other, said) in &OTHER_KINDS {
         if word == *other {
@@ -70,17 +70,17 @@ enum Next {
 }
 
 impl Next {
-    /// What is wanted.
+    /// What is expected.
     fn wanted(self) -> &'static str {
         match self {
-            Next::Name => "the name of a column",
+            Next::Name => "a column name",
             Next::Kind => "bigint, boolean or text",
             Next::Comma => "a comma or the end",
         }
     }
 }
 
-/// The columns of a text that were gone through.
+/// The columns of a text so far.
 #[derive(Drop)]
 struct Columns<'t> {
     names: Vec<&'t str>,
@@ -94,17 +94,17 @@ impl<'t> Columns<'t> {
         let shown = Quoted(name.as_bytes());
         if self.names.len() >= MAX_COLUMNS {
             return Ok(Some(format!(in alloc;
-                "column {column}, {shown}: there are at most {MAX_COLUMNS}"
+                "column {column}, {shown}: a schema has at most {MAX_COLUMNS} columns"
             )?));
         }
         if is_reserved(name) {
             return Ok(Some(format!(in alloc;
-                "column {column}: {shown} is a reserved word: take another name"
+                "column {column}: {shown} is a reserved word: choose another name"
             )?));
         }
         if self.names.iter().any(|other| *other == name) {
             return Ok(Some(format!(in alloc;
-                "column {column}: {shown} is the name of a column before it"
+                "column {column}: an earlier column is named {shown}, too"
             )?));
         }
         Ok(None)
@@ -118,7 +118,9 @@ impl<'t> Columns<'t> {
         let column = self.names.len();
         let name = self.names.last().copied().unwrap_or("");
         let shown = Quoted(word.as_bytes());
-        let mut said = format!(in alloc; "column {column}, {name}: {shown} is no kind: {KINDS}")?;
+        let mut said = format!(in alloc;
+            "column {column}, {name}: {shown} is not a kind: {KINDS}"
+        )?;
         if let Some(hint) = kind_for(word) {
             write!(said, "; {hint}")?;
         }
@@ -154,23 +156,23 @@ impl<'t> Columns<'t> {
     }
 }
 
-/// What stands at a place, and what is wanted there.
+/// What was found at a place, and what was expected.
 fn found_wanted(alloc: Global, text: &str, at: usize, next: Next) -> Result<String, AllocError> {
     let wanted = next.wanted();
     let piece = piece_at(text, at);
     if piece.is_empty() {
-        return format!(in alloc; "found the end, wanted {wanted}");
+        return format!(in alloc; "found the end, expected {wanted}");
     }
     let found = Quoted(piece.as_bytes());
-    format!(in alloc; "found {found}, wanted {wanted}")
+    format!(in alloc; "found {found}, expected {wanted}")
 }
 
-/// Says why a text is no schema: which column fails, and why.
+/// Says why a text is not a schema: which column fails, and why.
 pub fn say_schema(alloc: Global, text: &str) -> Result<Reason, AllocError> {
     let len = text.len();
     if len > MAX_QUERY_LEN {
         let said = format!(in alloc;
-            "a text of {len} bytes, and a schema has 1 to {MAX_COLUMNS} columns"
+            "the text of {len} bytes is not a schema of 1 to {MAX_COLUMNS} columns"
         )?;
         return Ok(Reason::whole(alloc, said));
     }

@@ -108,15 +108,15 @@ impl Part {
     /// What is wrong with a field.
     fn fault(self, field: &[u8]) -> Option<&'static str> {
         match self {
-            Part::Text if str::from_utf8(field).is_err() => Some("is no UTF-8"),
+            Part::Text if str::from_utf8(field).is_err() => Some("is not UTF-8"),
             Part::Limit if read_limit(field).is_none() => Some(
-                "is no limit, which is 1 to 19 digits",
+                "is not a limit: write 1 to 19 digits",
             ),
             Part::Name if !is_name(field) => {
-                Some("is no name, which is 1 to 63 ASCII letters, digits or _")
+                Some("is not a name: use 1 to 63 ASCII letters, digits or _")
             }
             Part::Rows if read_row_count(field).is_none() => {
-                Some("is no number of rows, which is 1 to 9 digits")
+                Some("is not a number of rows: write 1 to 9 digits")
             }
             _ => None,
         }
@@ -129,9 +129,9 @@ fn say_word(alloc: Global, word: &[u8]) -> Result<String, AllocError> {
     for form in &FORMS {
         words.push(form.word)?;
     }
-    let mut said = format!(in alloc; "{} is no command", Quoted(word))?;
+    let mut said = format!(in alloc; "{} is not a command", Quoted(word))?;
     if let Some(near) = nearest(alloc, str::from_utf8(word).unwrap_or(""), &words)? {
-        write!(said, ", and {near} may be meant")?;
+        write!(said, " (did you mean {near}?)")?;
     }
     said.push_str("; the commands are")?;
     for (place, word) in words.iter().enumerate() {
@@ -145,7 +145,7 @@ fn say_word(alloc: Global, word: &[u8]) -> Result<String, AllocError> {
     Ok(said)
 }
 
-/// Says why a record is no command, or none at its place.
+/// Says why a record is not a command, or none at its place.
 fn say_command(
     alloc: Global,
     record: &ByteRecord,
@@ -158,7 +158,7 @@ fn say_command(
     let (found, wanted) = (record.len(), form.parts.len().saturating_add(1));
     if found != wanted {
         let form = form.form;
-        return format!(in alloc; "fields found: {found}, wanted: {wanted}, as {form}");
+        return format!(in alloc; "fields found: {found}, expected: {wanted} ({form})");
     }
     for (place, part) in form.parts.iter().enumerate() {
         let field = record.get(place.saturating_add(1)).unwrap_or_default();
@@ -168,10 +168,10 @@ fn say_command(
         }
     }
     let said = match form.word {
-        "columns" => "the columns were told before",
-        "query" if has_columns => "the query was told before",
-        "query" => "the columns are told before the query",
-        _ => "the columns and the query are told before the replicas",
+        "columns" => "the columns were given before",
+        "query" if has_columns => "the query was given before",
+        "query" => "give the columns before the query",
+        _ => "give the columns and the query before the replicas",
     };
     String::from_str(alloc, said)
 }
@@ -227,8 +227,7 @@ fn gather_names(
     Ok(())
 }
 
-/// How far a script was gone through: a command that begins a line, the columns that were told before it, and the replicas that there
-/// may be.
+/// How far a script was read: the line of a command, the columns that were given before it, and the replicas that may exist.
 #[derive(Drop)]
 pub struct ScriptPlace {
     at: usize,
@@ -264,7 +263,7 @@ impl ScriptPlace {
         script.len()
     }
 
-    /// Goes on to the command that begins a line, which is no line before.
+    /// Goes on to the command at a line, which is not before the last one.
     pub fn go_to(&mut self, alloc: Global, script: &[u8], line: u64) -> Result<(), AllocError> {
         let at = self.begin_of(script, line);
         let passed = script.get(self.at..at).unwrap_or_default();
@@ -323,12 +322,12 @@ impl ScriptPlace {
         }
     }
 
-    /// Says why a command here is none, or none at this place.
+    /// Says why a record is not a command, or not allowed here.
     pub fn say_command(&self, alloc: Global, record: &ByteRecord) -> Result<String, AllocError> {
         say_command(alloc, record, self.schema.is_some())
     }
 
-    /// Says why the text of a command here is no query.
+    /// Says why the text of a command here is not a query.
     pub fn say_query(
         &self,
         alloc: Global,
@@ -344,7 +343,7 @@ impl ScriptPlace {
         }
     }
 
-    /// Says why the records of the command here are no batch.
+    /// Says why the records of the command here are not a batch.
     pub fn say_batch(
         &self,
         alloc: Global,
@@ -364,7 +363,7 @@ impl ScriptPlace {
     }
 }
 
-/// Says why the text of a command is no schema.
+/// Says why the text of a command is not a schema.
 pub fn say_columns(alloc: Global, record: &ByteRecord) -> Result<Option<Reason>, AllocError> {
     match str::from_utf8(record.get(1).unwrap_or_default()) {
         Ok(text) => Ok(Some(say_schema(alloc, text)?)),
@@ -372,7 +371,7 @@ pub fn say_columns(alloc: Global, record: &ByteRecord) -> Result<Option<Reason>,
     }
 }
 
-/// Says of which name of a command there is a replica already.
+/// Says which name of a command a replica already has.
 pub fn say_taken(alloc: Global, record: &ByteRecord) -> Result<String, AllocError> {
     let name = Quoted(record.get(1).unwrap_or_default());
     format!(in alloc; "there is a replica {name} already")
@@ -381,5 +380,5 @@ pub fn say_taken(alloc: Global, record: &ByteRecord) -> Result<String, AllocErro
 /// Says which limit of a command is out of its range.
 pub fn say_limit(alloc: Global, record: &ByteRecord) -> Result<String, AllocError> {
     let told = Quoted(record.get(1).unwrap_or_default());
-    format!(in alloc; "{told} is out of range, which is 65,536 to 1,099,511,627,776 bytes")
+    format!(in alloc; "{told} is out of range (65,536 to 1,099,511,627,776 bytes)")
 }

@@ -1,4 +1,4 @@
-//! Which token a query has in the wrong place, and what may stand there.
+//! The first token that a query cannot have, and what was expected there.
 
 use crate::hints::{ARGUMENT, CALL_TERM, FRACTION, Hint, KEY_PLACE, of_function, of_star, of_word};
 use crate::places::{Lexed, Sign, piece_at, sign_of, tokens_before};
@@ -10,17 +10,15 @@ use having_filter::Comparison;
 use query_tokens::{Symbol, Token, is_reserved};
 use std::alloc::{AllocError, Global};
 
-/// What is wrong with a piece that is no token, if that is known.
+/// What is wrong with a piece that is not a token, if that is known.
 fn say_broken(alloc: Global, piece: &str) -> Result<Option<String>, AllocError> {
     let len = piece.len();
     let said = match piece.chars().next() {
-        Some('\'') => "the text that begins here is not closed, or has the character 0",
-        Some('-') if len > 1 && piece != "--" => "a letter stands directly behind digits",
-        Some('0'..='9') => "a letter stands directly behind digits",
+        Some('\'') => "the text that begins here has no closing quote, or contains the character 0",
+        Some('-') if len > 1 && piece != "--" => "a letter follows digits directly",
+        Some('0'..='9') => "a letter follows digits directly",
         Some('a'..='z' | 'A'..='Z' | '_') => {
-            let said = format!(in alloc;
-                "a name of {len} bytes, and the longest has {MAX_NAME_LEN}"
-            )?;
+            let said = format!(in alloc; "the name has {len} bytes; the limit is {MAX_NAME_LEN}")?;
             return Ok(Some(said));
         }
         _ => return Ok(None),
@@ -96,7 +94,7 @@ fn hint_behind(
     let said = match (of_word(piece), sign_of(last)) {
         (None, Sign::Name(name)) => of_word(name),
         (None, Sign::Symbol(symbol)) if piece == "=" && Comparison::named(symbol).is_some() => {
-            Some("one = compares")
+            Some("use a single =")
         }
         (said, _) => said,
     };
@@ -123,7 +121,7 @@ fn shown(alloc: Global, piece: &str) -> Result<String, AllocError> {
     format!(in alloc; "{}", Quoted(piece.as_bytes()))
 }
 
-/// Says which piece of a text stands at a place, and what is wanted there.
+/// Says what was found at a place of a text, and what was expected.
 fn say_unexpected(alloc: Global, text: &str, at: usize) -> Result<String, AllocError> {
     let piece = piece_at(text, at);
     let front = text.get(..at).unwrap_or(text);
@@ -131,10 +129,10 @@ fn say_unexpected(alloc: Global, text: &str, at: usize) -> Result<String, AllocE
     let mut said = format!(in alloc; "byte {at}: found {found}")?;
     if begins(alloc, front)? {
         let words = wanted(alloc, front)?;
-        write!(said, ", wanted {words}")?;
+        write!(said, ", expected {words}")?;
     } else {
-        // A token before it can't stand where it does, but what is no token at all is told first.
-        said.push_str(", which begins no token")?;
+        // A token before it can't stand where it does, but what is not a token at all is told first.
+        said.push_str(", which is not the start of a token")?;
     }
     if let Some(hint) = hint_for(alloc, front, piece)? {
         write!(said, "; {hint}")?;
@@ -142,7 +140,7 @@ fn say_unexpected(alloc: Global, text: &str, at: usize) -> Result<String, AllocE
     Ok(said)
 }
 
-/// Says what stands at a place of a text where no query goes on so, and what is wanted there.
+/// Says what was found at a place where no query goes on so, and what was expected.
 pub(crate) fn say_syntax(alloc: Global, text: &str, at: usize) -> Result<Reason, AllocError> {
     if Lexed::of(alloc, text)?.fault == Some(at) {
         if let Some(said) = say_broken(alloc, piece_at(text, at))? {
@@ -160,7 +158,7 @@ pub(crate) fn say_large(alloc: Global, text: &str) -> Result<Option<Reason>, All
     };
     let shown = Quoted(piece_at(text, at).as_bytes());
     let said = format!(in alloc;
-        "{shown} is out of range, which is -9223372036854775808 to 9223372036854775807"
+        "{shown} is out of range (-9223372036854775808 to 9223372036854775807)"
     )?;
     Ok(Some(Reason::at(alloc, text, at, said)?))
 }

@@ -16,7 +16,7 @@ const NAMES: [(&str, &str); 8] = [
     ("AS", ""),
     ("x FROM", "a name"),
     ("x", "a column"),
-    ("batches", "batches, which is the name of every table"),
+    ("batches", "batches, the only table"),
     ("first", "first or last"),
 ];
 
@@ -41,7 +41,7 @@ const OTHERS: [(&str, &str); 27] = [
     ("OR", "OR"),
     (")", ")"),
     (",", "a comma"),
-    ("AS", "AS, another name"),
+    ("AS", "AS, an alias"),
     ("FROM", "FROM"),
     ("WHERE", "WHERE"),
     ("GROUP", "GROUP BY"),

@@ -13,9 +13,10 @@ is_foreign front.OtherVersion = true
 is_foreign front.Batch = true
 is_foreign front.Other = true
 
--- a command goes no further where the file stays: it was told to keep it, or it is no summary
+-- a command goes no further where the file stays: it was told to keep it, or it is no summary; nor where OUT is a terminal
 abbrev pub stops : Fate → Bool
 stops fate.Kept = true
 stops fate.Replaced = false
 stops (fate.Spared kind) = true
 stops fate.Forced = false
+stops fate.Shown = true

@@ -1,4 +1,4 @@
-//! What is said of files beside replies: why one is refused, how far a command is, and what became of OUT.
+//! Sentences on files: why one is refused, the progress of a command, and what happens to OUT.
 #![tactic(auto)]
 
 mod out;

@@ -1,4 +1,4 @@
-//! What is said of OUT: what stands in its place, and how it is written.
+//! Sentences on OUT: an existing file, and how it is written.
 
 ghost use Rattle.std.specs.Prelude.{◌≡◌, ◌↔◌, []};
 ghost use Rattle.file_sentences.specs.Standing.{is_foreign, stops};
@@ -62,7 +62,7 @@ impl FrontKind {
         }
     }
 
-    /// Whether a file has bytes, and is no summary that is read.
+    /// Whether a file is neither empty nor a summary that can be read.
     pub fn is_foreign(self) -> bool
         ensures { result ≡ is_foreign self }
     {
@@ -70,29 +70,31 @@ impl FrontKind {
     }
 }
 
-/// What becomes of a file that is there in the place of OUT.
+/// What happens to an existing OUT.
 #[derive(Clone, Copy, PartialEq, Eq)]
 pub enum Fate {
-    /// It is none of the files that are read, and the command was told to keep such a file.
+    /// It is not among the files read, and is kept, as the command was told.
     Kept,
-    /// It is none of the files that are read, and is to be replaced.
+    /// It is not among the files read, and will be replaced.
     Replaced,
-    /// It is no summary, and stays.
+    /// It is not a summary, and is kept.
     Spared(FrontKind),
-    /// It is no summary, and is to be replaced, as the command was told.
+    /// It is not a summary, and will be replaced, as the command was told.
     Forced,
+    /// It is a terminal, and a summary is binary.
+    Shown,
 }
 
 impl Fate {
-    /// Whether the command goes no further.
+    /// Whether the command stops.
     pub fn stops(self) -> bool
         ensures { result ≡ stops self }
     {
-        matches!(self, Fate::Kept | Fate::Spared(_))
+        matches!(self, Fate::Kept | Fate::Spared(_) | Fate::Shown)
     }
 }
 
-/// That a file is there in the place of OUT.
+/// An existing OUT, and what happens to it.
 #[derive(Clone, Copy)]
 pub struct Standing<'p> {
     pub out: &'p str,
@@ -105,33 +107,37 @@ impl fmt::Display for Standing<'_> {
         match self.fate {
             Fate::Kept => write!(
                 f,
-                "{out} exists, and is not among the inputs: --no-clobber keeps it, and nothing is read or written"
+                "{out} exists and is not an input: --no-clobber keeps it; nothing was read or written"
             ),
             Fate::Replaced => write!(
                 f,
-                "{out} exists, is not among the inputs, and will be REPLACED (--no-clobber keeps it)"
+                "{out} exists, is not an input, and will be REPLACED (--no-clobber keeps it)"
             ),
             Fate::Spared(FrontKind::Batch) => write!(
                 f,
-                "{out} exists, and is no summary, but a batch file: OUT comes first, and nothing is read or written (--force replaces it)"
+                "{out} exists and is a batch file, not a summary: OUT comes first; nothing was read or written (--force replaces it)"
             ),
             Fate::Spared(FrontKind::OtherVersion) => write!(
                 f,
-                "{out} exists, and is a summary file of another version: nothing is read or written (--force replaces it)"
+                "{out} exists and is a summary file of another version: nothing was read or written (--force replaces it)"
             ),
             Fate::Spared(_) => write!(
                 f,
-                "{out} exists, and is no summary: nothing is read or written (--force replaces it)"
+                "{out} exists and is not a summary: nothing was read or written (--force replaces it)"
             ),
             Fate::Forced => write!(
                 f,
-                "{out} exists, is no summary, and will be REPLACED, since --force is told"
+                "{out} exists, is not a summary, and will be REPLACED (--force)"
+            ),
+            Fate::Shown => write!(
+                f,
+                "{out} is a terminal, and a summary is binary: nothing was read or written (--force writes it there)"
             ),
         }
     }
 }
 
-/// That OUT is written over in its place.
+/// OUT is overwritten in place.
 #[derive(Clone, Copy)]
 pub struct WrittenOver<'p> {
     pub out: &'p str,
@@ -142,12 +148,12 @@ impl fmt::Display for WrittenOver<'_> {
         let out = Plain(self.out);
         write!(
             f,
-            "{out}: no new file can take its place, so it is written over where it stands: a crash or a full disk meanwhile may lose it"
+            "{out}: no new file can replace it, so it is overwritten in place: a crash or a full disk may lose it"
         )
     }
 }
 
-/// That a batch file was taken whose last line has no end.
+/// A batch file without a line end at its end was taken.
 #[derive(Clone, Copy)]
 pub struct CutShort<'p> {
     pub path: &'p str,
@@ -158,7 +164,7 @@ impl fmt::Display for CutShort<'_> {
         let path = Plain(self.path);
         write!(
             f,
-            "{path}: its last line has no end, so it may be cut: it was taken as it stands"
+            "{path}: the last line has no line end, so the file may be cut off; it was taken as it is"
         )
     }
 }

@@ -1,4 +1,4 @@
-//! How far a command is, and what it took.
+//! The progress of a command, and what it took.
 
 use fault_sentences::Plain;
 use replies::{Reply, put_reply};
@@ -6,7 +6,7 @@ use script_io::Fused;
 use std::alloc::{AllocError, Global};
 use std::{fmt, str};
 
-/// How far a command is: which of how many files was taken, and the reply to it.
+/// The progress of a command: a file that was taken, its place among all files, and the reply to it.
 #[derive(Clone, Copy)]
 pub struct Progress<'p> {
     pub place: usize,
@@ -33,7 +33,7 @@ pub fn text_of(alloc: Global, reply: &Reply<'_>) -> Result<String, AllocError> {
     String::from_str(alloc, text)
 }
 
-/// What became of OUT where files were passed over.
+/// OUT was written, though files were skipped.
 #[derive(Clone, Copy)]
 pub struct PassedOver<'p> {
     pub out: &'p str,
@@ -44,14 +44,11 @@ pub struct PassedOver<'p> {
 impl fmt::Display for PassedOver<'_> {
     fn fmt<W: fmt::Write>(&self, f: &mut fmt::Formatter<W>) -> fmt::Result {
         let (out, passed, files) = (Plain(self.out), self.passed, self.files);
-        write!(
-            f,
-            "{out}: written, with {passed} of {files} files passed over"
-        )
+        write!(f, "{out}: written; files skipped: {passed} of {files}")
     }
 }
 
-/// What the grouping took, beside the limit.
+/// What the aggregations took, and the limit.
 #[derive(Clone, Copy)]
 pub struct Explained {
     pub passes: u64,

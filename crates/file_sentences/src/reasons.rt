@@ -1,4 +1,4 @@
-//! Why a command's files and texts are refused, said of their bytes.
+//! Why a command's files and texts are refused.
 
 use fault_sentences::{
     BatchText, Plain, Quoted, Reason, no_summary, say_disagreement, say_query, say_schema,
@@ -8,12 +8,12 @@ use replica_merge::{Replica, SummaryError};
 use replies::{Refusal, RunError};
 use std::alloc::{AllocError, Global};
 
-/// Says why a text is no schema.
+/// Says why a text is not a schema.
 pub fn columns_reason(alloc: Global, text: &str) -> Result<Option<Reason>, AllocError> {
     Ok(Some(say_schema(alloc, text)?))
 }
 
-/// Says why a text is no query over the columns of another.
+/// Says why a text is not a query over the columns of another.
 pub fn query_reason(
     alloc: Global,
     columns: &str,
@@ -26,7 +26,7 @@ pub fn query_reason(
     }
 }
 
-/// Says why the bytes of a file are no summary.
+/// Says why the bytes of a file are not a summary.
 pub fn summary_reason(
     alloc: Global,
     file: &[u8],
@@ -41,14 +41,12 @@ pub fn summary_reason(
         }
         Refusal::Summary(SummaryError::Truncated) => {
             let len = file.len();
-            let said = format!(in alloc;
-                "it ends too early, behind {len} bytes: it was cut on its way"
-            )?;
+            let said = format!(in alloc; "it was cut off after {len} bytes: copy it again")?;
             Ok(Some(Reason::whole(alloc, said)))
         }
         Refusal::Summary(why) => {
             let said = format!(in alloc;
-                "{why}: its bytes are not as they were written; bring it again, or make it anew of its batch files"
+                "{why}: the file is damaged; copy it again, or make it again from its batch files"
             )?;
             Ok(Some(Reason::whole(alloc, said)))
         }
@@ -64,7 +62,7 @@ fn whole(alloc: Global, said: Option<String>) -> Option<Reason> {
     }
 }
 
-/// Says why the bytes of a file are no batch for a replica.
+/// Says why the bytes of a file are not a batch for a replica.
 fn batch_reason(
     alloc: Global,
     replica: &Replica,
@@ -162,7 +160,7 @@ pub fn file_reason(
     }
 }
 
-/// Says how long a summary would be that is too long.
+/// Says how long a summary that is too long would be.
 pub fn saving_reason(
     alloc: Global,
     replica: &Replica,
@@ -176,38 +174,12 @@ pub fn saving_reason(
     Ok(Some(Reason::whole(alloc, said)))
 }
 
-/// Suffixes of a number of bytes, and how many bytes one of them is.
-const SUFFIXES: [(&str, u64); 6] = [
-    ("k", 1024),
-    ("K", 1024),
-    ("m", 1_048_576),
-    ("M", 1_048_576),
-    ("g", 1_073_741_824),
-    ("G", 1_073_741_824),
-];
-
-/// How many bytes a number with a suffix is, as 64k.
-fn bytes_of(text: &str) -> Option<u64> {
-    for (suffix, bytes) in &SUFFIXES {
-        if let Some(digits) = text.strip_suffix(suffix) {
-            return match digits.parse::<u64>() {
-                Ok(number) => number.checked_mul(*bytes),
-                Err(_) => None,
-            };
-        }
-    }
-    None
-}
-
-/// Says why the text of a limit is no number of bytes, and what is to be written for one with a suffix.
+/// Says why the text of a limit is not a number of bytes.
 pub fn limit_reason(alloc: Global, text: &str) -> Result<String, AllocError> {
     let given = Quoted(text.as_bytes());
-    match bytes_of(text) {
-        Some(bytes) => format!(in alloc;
-            "{given}: a number of bytes has 1 to 19 digits and no suffix: write {bytes}"
-        ),
-        None => format!(in alloc; "{given}: a number of bytes has 1 to 19 digits"),
-    }
+    format!(in alloc;
+        "{given} is not a number of bytes: write 1 to 19 digits, with or without k, m, g or t"
+    )
 }
 
 /// Says that OUT is not written, since another command wrote it meanwhile.
@@ -219,7 +191,7 @@ pub fn replaced_reason(alloc: Global, out: &str) -> Result<Option<Reason>, Alloc
     Ok(Some(Reason::whole(alloc, said)))
 }
 
-/// Says how long a file is that is too long, where that is known.
+/// Says how long a file that is too long is, if that is known.
 pub fn length_reason(alloc: Global, length: Option<u64>) -> Result<Option<Reason>, AllocError> {
     let Some(len) = length else {
         return Ok(None);

@@ -1,4 +1,4 @@
-//! The answer that the groups of a query give: HAVING, the items, and the order of the rows.
+//! From groups to an answer: HAVING, the items, and the order of the rows.
 #![tactic(auto)]
 
 mod showing;

@@ -22,7 +22,7 @@ use having_filter::{Answer, AnswerRows, Query, Source};
 use packed_rows::{RowError, Value, unpack_into};
 use std::alloc::{AllocError, Global};
 
-/// What serves for one group after the other, so that none takes memory of its own.
+/// Buffers that are reused from group to group.
 #[derive(Drop)]
 struct Scratch<'r> {
     values: Vec<Value<'r>>,
@@ -32,7 +32,7 @@ struct Scratch<'r> {
 }
 
 impl<'r> Scratch<'r> {
-    /// With no group yet.
+    /// Empty buffers.
     fn new(alloc: Global) -> Scratch<'r> {
         Scratch {
             values: Vec::new(alloc),
@@ -107,7 +107,7 @@ fn items_of<'r>(
     Ok(())
 }
 
-/// Adds the row that a group gives to those of others, if HAVING is true of the group. What `scratch` holds doesn't matter.
+/// Appends the row of a group, if HAVING is true of the group. What `scratch` holds doesn't matter.
 fn push_group<'r>(
     query: &Query,
     key: &'r [u8],
@@ -136,7 +136,7 @@ fn push_group<'r>(
     rows.push(&scratch.items)
 }
 
-/// The rows that no groups give. Without GROUP BY there is one group all the same, that of no rows.
+/// The rows of an answer without groups. Without GROUP BY there is still one group, of no rows.
 fn rows_of_none(alloc: Global, query: &Query) -> Result<AnswerRows, AllocError>
     ensures { IfOk result (λ rows. rows ≡ rows_of (meaning query.now) (answered (meaning query.now) [])) }
 {
@@ -149,7 +149,7 @@ fn rows_of_none(alloc: Global, query: &Query) -> Result<AnswerRows, AllocError>
     Ok(rows)
 }
 
-/// The rows that the groups of a run give, in their order.
+/// The rows of the groups of a run, in their order.
 fn rows_of_run(alloc: Global, query: &Query, run: &Run) -> Result<AnswerRows, AllocError>
     requires { (most : ℕ) × (groups : List Group)
         × AreGroups (meaning query.now) most run.now groups × (most ≤ most_rows) }
@@ -165,8 +165,8 @@ fn rows_of_run(alloc: Global, query: &Query, run: &Run) -> Result<AnswerRows, Al
     Ok(rows)
 }
 
-/// The answer that the groups of a run give, in the order of the query: a row of its items for each group for which HAVING is true. Without
-/// GROUP BY there is one group, even over no rows. The only error is a failed allocation.
+/// The answer from the groups of a run, arranged as the query says: a row of its items for each group for which HAVING is true. Without
+/// GROUP BY there is one group, even over no rows. The only error is out of memory.
 pub fn finalize_and_project(alloc: Global, query: &Query, run: &Run) -> Result<Answer, AllocError>
     requires { (most : ℕ) × (groups : List Group)
         × AreGroups (meaning query.now) most run.now groups × (most ≤ most_rows) }
@@ -176,8 +176,8 @@ pub fn finalize_and_project(alloc: Global, query: &Query, run: &Run) -> Result<A
 {
     if run.is_empty() {
         let rows = rows_of_none(alloc, query)?;
-        return Answer::in_order(alloc, rows, query.order());
+        return Answer::arranged(alloc, rows, query.arrangement());
     }
     let rows = rows_of_run(alloc, query, run)?;
-    Answer::in_order(alloc, rows, query.order())
+    Answer::arranged(alloc, rows, query.arrangement())
 }

@@ -9,7 +9,7 @@ use Rattle.query_grammar.specs.Grammar.{Named}
 use Rattle.query_grammar.specs.Reading.{Read, Fault, Unexpected, Too_deep, Inner, ◌>>=◌, after, expect, enclosed_at, test_at, not_at}
 use Rattle.std.proofs.lemmas.List.{map_push}
 use Rattle.query_tokens.specs.declared.word.Symbol.TheVariants as symbols
-use Rattle.query_grammar.specs.Whole.{list_at}
+use Rattle.query_grammar.specs.Lists.{list_at}
 use Rattle.query_grammar.specs.Lemmas.Alike.{Stays}
 use Rattle.query_grammar.specs.Lemmas.Chains.{Lists, list_begins, list_goes, list_stops, list_done}
 use Rattle.group_parser.specs.declared.fault.ReadError.{ReadError}

@@ -3,7 +3,7 @@
 ghost use Rattle.std.specs.Prelude.{◌≡◌, ◌<◌, List, map, length, IfOk};
 ghost use Rattle.query_tokens.specs.Words.{Lexeme};
 ghost use Rattle.query_grammar.specs.Reading as reading;
-ghost use Rattle.query_grammar.specs.Whole.{list_at};
+ghost use Rattle.query_grammar.specs.Lists.{list_at};
 ghost use Rattle.query_grammar.specs.Lemmas.Alike.{Stays};
 ghost use Rattle.group_parser.specs.Views.{lexemes, Gives};
 

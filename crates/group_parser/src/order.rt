@@ -2,7 +2,7 @@
 
 ghost use Rattle.std.specs.Prelude.{◌≡◌, ◌<◌, ◌≤◌, map, length, IfOk, Ok};
 ghost use Rattle.query_checks.specs.Order.{target_of, term_of};
-ghost use Rattle.query_grammar.specs.Whole.{target_at, direction_at, first_or_last, nulls_at, order_at};
+ghost use Rattle.query_grammar.specs.Arrangement.{target_at, direction_at, first_or_last, nulls_at, order_at};
 ghost use Rattle.group_parser.specs.Views.{lexemes, Gives};
 
 use crate::cursor::{after_word, expect_word};
@@ -13,7 +13,7 @@ use query_tokens::{Token, Word, is_reserved};
 use std::alloc::Global;
 
 /// The name or the place of an item.
-#[tactic(auto, unfolding(query_grammar::specs::Whole::target_at))]
+#[tactic(auto, unfolding(query_grammar::specs::Arrangement::target_at))]
 fn target<'a>(alloc: Global, tokens: &'a [Token]) -> Read<'a, OrderBy>
     ensures read { Gives (λ x. (target_of x.0, lexemes x.1.now)) result
         (target_at (lexemes tokens.now)) }
@@ -35,7 +35,7 @@ fn target<'a>(alloc: Global, tokens: &'a [Token]) -> Read<'a, OrderBy>
 }
 
 /// Whether DESC stands here, or else ASC or nothing.
-#[tactic(auto, unfolding(query_grammar::specs::Whole::direction_at))]
+#[tactic(auto, unfolding(query_grammar::specs::Arrangement::direction_at))]
 fn direction(tokens: &[Token]) -> (bool, &[Token])
     ensures read { direction_at (lexemes tokens.now) ≡ Ok (result.0, lexemes result.1.now) }
     ensures shorter { length result.1.now ≤ length tokens.now }
@@ -50,7 +50,7 @@ fn direction(tokens: &[Token]) -> (bool, &[Token])
 }
 
 /// What stands behind NULLS: whether they come first.
-#[tactic(auto, unfolding(query_grammar::specs::Whole::first_or_last))]
+#[tactic(auto, unfolding(query_grammar::specs::Arrangement::first_or_last))]
 fn first_or_last(tokens: &[Token]) -> Read<'_, Option<bool>>
     ensures read { Gives (λ x. (x.0, lexemes x.1.now)) result (first_or_last (lexemes tokens.now)) }
     ensures shorter { IfOk result (λ x. length x.1.now < length tokens.now) }
@@ -65,7 +65,7 @@ fn first_or_last(tokens: &[Token]) -> Read<'_, Option<bool>>
 }
 
 /// Whether nulls come first, if that is said.
-#[tactic(auto, unfolding(query_grammar::specs::Whole::nulls_at))]
+#[tactic(auto, unfolding(query_grammar::specs::Arrangement::nulls_at))]
 fn nulls(tokens: &[Token]) -> Read<'_, Option<bool>>
     ensures read { Gives (λ x. (x.0, lexemes x.1.now)) result (nulls_at (lexemes tokens.now)) }
     ensures shorter { IfOk result (λ x. length x.1.now ≤ length tokens.now) }
@@ -80,7 +80,7 @@ fn nulls(tokens: &[Token]) -> Read<'_, Option<bool>>
 impl Listed for RawTerm {
     ghost use Rattle.std.specs.Prelude.{length, ◌<◌};
     ghost use Rattle.query_checks.specs.Order.{Term, term_of};
-    ghost use Rattle.query_grammar.specs.Whole.{term_at};
+    ghost use Rattle.query_grammar.specs.Arrangement.{term_at};
     ghost use Rattle.query_grammar.specs.Lemmas.Whole_locality.{terms_stay};
 
     ghost Said = { Term };
@@ -89,7 +89,7 @@ impl Listed for RawTerm {
 
     ghost one_at = { term_at };
 
-    #[tactic(auto, unfolding(query_grammar::specs::Whole::term_at))]
+    #[tactic(auto, unfolding(query_grammar::specs::Arrangement::term_at))]
     fn read<'a>(alloc: Global, tokens: &'a [Token]) -> Read<'a, RawTerm> {
         let (target, rest) = target(alloc, tokens)?;
         let (descending, rest) = direction(rest);
@@ -108,7 +108,7 @@ impl Listed for RawTerm {
 }
 
 /// The terms of ORDER BY, or none.
-#[tactic(auto, unfolding(query_grammar::specs::Whole::order_at))]
+#[tactic(auto, unfolding(query_grammar::specs::Arrangement::order_at))]
 pub(crate) fn order<'a>(alloc: Global, tokens: &'a [Token]) -> Read<'a, Vec<RawTerm>>
     ensures { Gives (λ x. (map term_of x.0.items, lexemes x.1.now)) result
         (order_at (lexemes tokens.now)) }

@@ -5,7 +5,7 @@ ghost use Rattle.std.specs.List.{AllByRecursion};
 ghost use Rattle.query_tokens.specs.Words.{all_placed};
 ghost use Rattle.query_tokens.specs.Spelling.{IsLexeme};
 ghost use Rattle.query_checks.specs.Forms.{written_of};
-ghost use Rattle.query_checks.specs.Order.{asked_of};
+ghost use Rattle.query_checks.specs.Arrangement.{asked_of};
 ghost use Rattle.query_checks.specs.Writable.{IsWritable};
 ghost use Rattle.query_grammar.specs.Queries.{most_open};
 ghost use Rattle.query_grammar.specs.Whole.{query_at};

@@ -2,10 +2,10 @@
 
 ghost use Rattle.std.specs.Prelude.{◌≡◌, ◌<◌, ◌≤◌, [], map, option_map, IfOk, length, string_bytes, codes};
 ghost use Rattle.query_checks.specs.Forms.{items_of};
-ghost use Rattle.query_checks.specs.Order.{asked_of};
+ghost use Rattle.query_checks.specs.Arrangement.{asked_of};
 ghost use Rattle.query_grammar.specs.Queries.{most_open};
 ghost use Rattle.query_grammar.specs.Reading.{name_at};
-ghost use Rattle.query_grammar.specs.Whole.{item_value_at, alias_or_none, alias_at, item_at, list_at, clause_at, keys_at, end_at, query_at};
+ghost use Rattle.query_grammar.specs.Whole.{item_value_at, alias_or_none, alias_at, item_at, clause_at, keys_at, end_at, query_at};
 ghost use Rattle.group_parser.specs.Views.{lexemes, condition_read, item_read, alias_read, Gives};
 
 use crate::conditions::condition;
@@ -166,7 +166,7 @@ fn end(tokens: &[Token]) -> Result<(), ReadError>
 
 /// The query that tokens say, all of them. It takes time linear in their number, and calls itself as deep as parentheses
 /// and FILTERs stand in one another.
-#[tactic(auto, unfolding(query_grammar::specs::Whole::query_at))]
+#[tactic(auto, unfolding(query_grammar::specs::Whole::query_at, query_grammar::specs::Arrangement::arrangement_at))]
 pub(crate) fn query(alloc: Global, tokens: &[Token]) -> Result<RawQuery, ReadError>
     ensures { Gives (λ q. (asked_of q, [])) result (query_at most_open (lexemes tokens.now)) }
 {

@@ -94,8 +94,22 @@ fn parts<'a>(
     (part(keys, start.0, end.0), part(states, start.1, end.1))
 }
 
-/// Adds the ends of groups that began at `start` in another run, and begin at `behind` in this one. A failed allocation
-/// changes nothing.
+/// Moves the ends of groups that began at `start`, so that they are those of groups that begin at `behind`.
+fn move_ends(ends: &mut [(usize, usize)], start: (usize, usize), behind: (usize, usize))
+    requires few { (behind.0 < 2 ^ 63) × (behind.1 < 2 ^ 63) }
+    requires within { AllByRecursion (IsEndFrom start) ends.old }
+    ensures { ends.new ≡ map (moved start behind) ends.old }
+{
+    for place in 0..ends.len() {
+        let end = ends[place];
+        let keys = behind.0 + (end.0 - start.0);
+        let states = behind.1 + (end.1 - start.1);
+        ends[place] = (keys, states);
+    }
+}
+
+/// Adds the ends of groups that began at `start` in another run, and begin at `behind` in this one. They are copied at once and then
+/// moved, which takes a few instructions an end. A failed allocation changes nothing.
 fn push_ends(
     ends: &mut Vec<(usize, usize)>,
     more: &[(usize, usize)],
@@ -107,12 +121,9 @@ fn push_ends(
     ensures pushed { OnOk result (ends.new.items ≡ ends.old.items ++ map (moved start behind) more.now) }
     ensures refused { OnErr result (ends.new.items ≡ ends.old.items) }
 {
-    ends.reserve(more.len())?;
-    for end in more {
-        let keys = behind.0 + (end.0 - start.0);
-        let states = behind.1 + (end.1 - start.1);
-        ends.push((keys, states))?;
-    }
+    let first = ends.len();
+    ends.extend_from_slice(more)?;
+    move_ends(&mut ends[first..], start, behind);
     Ok(())
 }
 

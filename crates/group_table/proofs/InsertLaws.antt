@@ -4,7 +4,9 @@ use Rattle.std.proofs.Common.{sym, ◌∙◌, ap, subst, arith, rules}
 use Rattle.group_table.proofs.Words.{ChunkName, growth_of, held_by, TreeState, context_at, held_below, Context, TableState, group_in}
 use Rattle.group_table.proofs.Words.{groups, HasNo, IsSameBut, array_growth, group_growth, IsSetWith, HasSpace, IsArrayOf, HasArray}
 use Rattle.group_table.proofs.Words.{IsPlaced, IsTableIn, OnlyIn, HasNext, IsNext, with_next, with_slot, with_spare, Slot}
+use Rattle.group_table.proofs.Words.{IsFreeFor, IsMet, chunk_bytes, count_of}
 use Rattle.group_table.specs.Standing.{KeepsOthers}
+use Rattle.group_table.specs.declared.table.Vacancy.{Vacancy}
 use Rattle.group_table.proofs.StandLaws.{set_of, set_with}
 use Rattle.group_table.proofs.TreeFacts.{at_other, held_changed, only_its_own}
 use Rattle.std.proofs.lemmas.Option.{slice_get-map}
@@ -138,6 +140,12 @@ module _ {H : Type 0} (t : TableState H) (next : Option ChunkName) (tree a b e :
 module _ {H : Type 0} (t : TableState H) where
   pub next_others : (next : Option ChunkName) (a b : TreeState) → KeepsOthers (with_next t next) a b → KeepsOthers t a b
   next_others next a b is = record { links = is.links; last = is.last; number = is.number; others = is.others }
+
+-- where no other array is taken, what a search met in it stays
+pub met_kept : {H : Type 0} (t : TableState H) (next : Option ChunkName) (tree e : TreeState) (v : Vacancy) → next ≡ None
+    → context_at e t.buckets ≡ context_at tree t.buckets → IsMet t tree v → IsMet (with_next t next) e v
+met_kept t next tree e v none same met = subst (λ n. IsMet (with_next t n) e v) (sym none)
+    (λ name is. subst (λ (c : Context). IsFreeFor (chunk_bytes c name) (count_of name) v.hash v.place) (sym same) (met name is))
 
 -- with an array there is nothing to ask of the space
 pub any_space : (P : Rattle.chunk_contexts.specs.Set.SetState → Type 0) (c : Context) (a : Option ChunkName) (name : ChunkName) → a

@@ -1,6 +1,6 @@
 -- A group comes into the table.
 use Rattle.std.specs.Prelude.{◌≡◌, refl, ℕ, zero, suc, ◌+◌, ◌*◌, ◌/◌, ◌<◌, ◌≤◌, ◌⊎◌, true, false, List, [], ◌∷◌, ◌++◌, Some, None, length}
-use Rattle.std.specs.Prelude.{slice_get, is_some, unwrap_or, IsTrue}
+use Rattle.std.specs.Prelude.{slice_get, is_some, unwrap_or, IsTrue, Bool, IfSome, cond}
 use Rattle.std.proofs.Common.{inl, inr, sym, ◌∙◌, ap, subst, arith, rules}
 use Rattle.std.proofs.lemmas.Bool.{cases_eq, false≢true}
 use Rattle.std.proofs.lemmas.List.{length_push}
@@ -14,6 +14,11 @@ use Rattle.group_table.proofs.MoveLaws.{same_back}
 use Rattle.group_table.proofs.StandLaws.{SetOf, set_of, set_with}
 use Rattle.group_table.proofs.TreeFacts.{placed_kept, same_links, same_number}
 use Rattle.group_table.proofs.InsertLaws.{keys_left, states_left}
+
+-- what a search met, unless the array is another one
+pub met_or : (P : ℕ → Type 0) (replaced : Bool) (place : ℕ) → (replaced ≡ false → P place) → IfSome (cond replaced None (Some place)) P
+met_or P true place met = tt
+met_or P false place met = met refl
 
 -- a member of a list with one more
 module _ {X : Type 0} where

@@ -1,9 +1,10 @@
 -- What is known of a table in its tree.
-use Rattle.std.specs.Prelude.{◌≡◌, ℕ, ◌*◌, ◌/◌, ◌<◌, ◌≤◌, List, [], Some, None, length, slice_get, IsTrue}
+use Rattle.std.specs.Prelude.{◌≡◌, ℕ, ◌*◌, ◌/◌, ◌<◌, ◌≤◌, List, [], Some, None, length, slice_get, unwrap_or, IsTrue}
 use Rattle.std.proofs.Common.{sym, ◌∙◌, ap, subst, arith}
-use Rattle.group_table.proofs.Words.{ChunkName, has_chunk, chunk_bytes, TreeState, context_at, Context, AllocSet, Holds, Finds, TableState}
+use Rattle.group_table.proofs.Words.{ChunkName, has_chunk, chunk_bytes, TreeState, context_at, Context, AllocSet, Holds, HasNone, IsFreeFor, TableState}
 use Rattle.group_table.proofs.Words.{Names, HasNo, most_buckets, IsSetWith, IsFirst, HasArray, IsArrayOf, IsStanding, bucket_of, slot_of}
-use Rattle.group_table.proofs.Words.{Bucket}
+use Rattle.group_table.proofs.Words.{Bucket, bytes_at, count_of}
+use Rattle.group_table.specs.Index.{in_use}
 use Rattle.std.proofs.lemmas.Option.{none-some}
 
 module _ {H : Type 0} (hash_of : H → List ℕ → ℕ) (t : TableState H) (tree : TreeState) where
@@ -66,14 +67,28 @@ module _ {H : Type 0} (hash_of : H → List ℕ → ℕ) (t : TableState H) (tre
       pub some_buckets : 0 < count
       some_buckets = subst (λ n. 0 < n / 32) (sym long) (omega (arith, facts.some))
 
+      -- one of the buckets is free
+      pub some_free : in_use bytes count < count
+      some_free =
+          let full : 4 * length t.slots ≤ 3 * count = subst (λ n. 4 * length t.slots ≤ 3 * (n / 32)) (sym long) facts.full in
+          omega (arith, told.number, full, some_buckets)
+
+      -- what is free for a hash in the bytes is so in the array
+      pub free_for : (hash place : ℕ) → IsFreeFor bytes count hash place → (other : ChunkName) → t.array ≡ Some other
+          → IsFreeFor (bytes_at tree t.buckets other) (count_of other) hash place
+      free_for hash place free other is_other =
+          subst (λ (x : ChunkName). IsFreeFor (bytes_at tree t.buckets x) (count_of x) hash place)
+          (ap (λ o. unwrap_or o name) (sym array ∙ is_other))
+          (subst (λ bs. IsFreeFor bs (count_of name) hash place) read (subst (λ n. IsFreeFor bytes (n / 32) hash place) long free))
+
       -- the keys of the buckets in use are live
       pub keys_live : (b : Bucket) → Holds bytes count b → IsTrue (has_chunk keys b.key)
       keys_live b held = is.stands.groups.keys_live (slot_of b) (told.only b held).0
 
       module _ (key : List ℕ) (hash : ℕ) (hashed : hash ≡ hash_of t.hash key) where
-        pub found : (b : Bucket) → Finds keys bytes count hash key (Some b) → Names t tree (slot_of b) key
+        pub found : (b : Bucket) → Holds bytes count b × (chunk_bytes keys b.key ≡ key) → Names t tree (slot_of b) key
         found b (held, same) = ((told.only b held).0, same)
 
-        pub not_found : Finds keys bytes count hash key None → HasNo t tree key
+        pub not_found : HasNone keys bytes count hash key → HasNo t tree key
         not_found none slot there same = none (bucket_of hash_of t keys slot) (told.kept slot there) (ap (hash_of t.hash) same ∙ sym hashed)
             same

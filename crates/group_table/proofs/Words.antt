@@ -26,8 +26,9 @@ pub use Rattle.group_table.specs.Arrays.{with_spare}
 unfoldable pub use Rattle.group_table.specs.Buckets.{bucket_at, bucket_in, number_at}
 pub use Rattle.group_table.specs.Buckets.{name_at}
 pub use Rattle.group_table.specs.Children.{AreMade, AreNew, IsAsBefore, IsCleared, IsNew, IsRefusedOf, IsSameBySlot}
-pub use Rattle.group_table.specs.Index.{HasAll, Holds, IsIndex, IsPath, Puts, passes, start_of}
-pub use Rattle.group_table.specs.Search.{Finds, IsOther, Tells}
+pub use Rattle.group_table.specs.Index.{HasAll, Holds, IsFreeFor, IsIndex, IsPath, Puts, passes, start_of}
+pub use Rattle.group_table.specs.Search.{Finds, HasNone, IsOther, Tells}
+pub use Rattle.group_table.specs.Lookups.{IsMet, IsVacancy}
 pub use Rattle.group_table.specs.Space.{AreArraysHeld, AreOfSize, HoldsArray, HoldsKeyBlocks, HoldsKeys, HoldsNext, HoldsStates}
 pub use Rattle.group_table.specs.Space.{IsArrayHeld, IsRunWith, IsSlabWith, key_of, keys_in}
 pub use Rattle.group_table.specs.Standing.{AreGroups, HasArray, HasFirst, HasSpace, IsApart, IsArrayIn, IsArrayOf, IsBesideFirst, IsBump}

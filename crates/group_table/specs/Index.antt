@@ -19,6 +19,12 @@ passes start end place = if nat_le start end then nat_le start place && nat_lt p
 abbrev pub IsPath : List ℕ → ℕ → ℕ → ℕ → Type 0
 IsPath array count start end = (place : ℕ) → place < count → passes start end place ≡ true → is_some (bucket_at array place) ≡ true
 
+-- a bucket is free, and the search for a hash comes to it before any other free one
+pub record IsFreeFor (array : List ℕ) (count hash place : ℕ) : Type 0 where
+  pub within : place < count
+  pub free : bucket_at array place ≡ None
+  pub path : IsPath array count (start_of hash count) place
+
 -- each group is found where the search for its hash comes to before any free bucket
 pub record IsIndex (array : List ℕ) (count : ℕ) : Type 0 where
   pub long : length array ≡ 32 * count

@@ -8,3 +8,4 @@ pub mod Arrays
 pub mod Children
 pub mod Inserts
 pub mod Changes
+pub mod Lookups

@@ -1,10 +1,10 @@
 //! Arrays of buckets that are chunks of a context.
-ghost use Rattle.std.specs.Prelude.{◌≡◌, ◌+◌, ◌<◌, ◌≤◌, ℕ, None, false};
+ghost use Rattle.std.specs.Prelude.{◌≡◌, ◌+◌, ◌<◌, ◌≤◌, ℕ, None, IfSome, false};
 ghost use Rattle.chunk_layout.specs.Contents.{place_of, same_place};
 ghost use Rattle.context_tree.specs.Calls.{OnContext, Frees};
 ghost use Rattle.context_tree.specs.Tree.{context_at};
 ghost use Rattle.group_table.specs.Buckets.{bucket_at};
-ghost use Rattle.group_table.specs.Index.{IsIndex, in_use, Puts, HasAll};
+ghost use Rattle.group_table.specs.Index.{IsIndex, IsFreeFor, in_use, Puts, HasAll};
 ghost use Rattle.group_table.specs.Arrays.{IsRewritten, IsArrayAt, OnlyIn, bytes_at, count_of};
 
 use crate::bucket::{BUCKET, Bucket, bucket_at};
@@ -13,11 +13,18 @@ use crate::search::chunk;
 use chunk_layout::ChunkName;
 use context_tree::{ContextId, Tree};
 
-/// Puts a bucket in use into an array that has a free one.
-pub(crate) fn put_into(tree: &mut Tree, id: ContextId, name: ChunkName, bucket: Bucket)
+/// Puts a bucket in use into an array that has a free one: the one that a search for its hash met, if that is known.
+pub(crate) fn put_into(
+    tree: &mut Tree,
+    id: ContextId,
+    name: ChunkName,
+    met: Option<usize>,
+    bucket: Bucket,
+)
     requires array { IsArrayAt tree.old id name }
     requires index { IsIndex (bytes_at tree.old id name) (count_of name) }
     requires room { in_use (bytes_at tree.old id name) (count_of name) < count_of name }
+    requires met { IfSome met (IsFreeFor (bytes_at tree.old id name) (count_of name) bucket.hash) }
     ensures only { OnlyIn id tree.old tree.new }
     ensures rewritten { IsRewritten (context_at tree.old id) (context_at tree.new id) name }
     ensures index { IsIndex (bytes_at tree.new id name) (count_of name) }
@@ -26,7 +33,7 @@ pub(crate) fn put_into(tree: &mut Tree, id: ContextId, name: ChunkName, bucket: 
 {
     let array = tree.bytes_mut(id, name);
     let count = array.len() / BUCKET;
-    put(array, count, bucket);
+    put(array, count, met, bucket);
 }
 
 /// Puts all buckets of an array into another of the same context that has none and is as long or longer.
@@ -43,7 +50,7 @@ pub(crate) fn refill(tree: &mut Tree, id: ContextId, from: ChunkName, to: ChunkN
     let count = from.len as usize / BUCKET;
     for place in 0..count {
         if let Some(bucket) = bucket_at(chunk(tree, id, from), place) {
-            put_into(tree, id, to, bucket);
+            put_into(tree, id, to, None, bucket);
         }
     }
 }

@@ -1,7 +1,7 @@
 //! Arrays of buckets, in which groups are found by the hashes of their keys.
 ghost use Rattle.std.specs.Prelude.{◌≡◌, ◌<◌, ◌≤◌, ◌+◌, ◌*◌, ℕ, true, None, IfSome, IfNone, length, is_some};
 ghost use Rattle.group_table.specs.Buckets.{bucket_at};
-ghost use Rattle.group_table.specs.Index.{start_of, IsPath, IsIndex, in_use, Puts};
+ghost use Rattle.group_table.specs.Index.{start_of, IsPath, IsIndex, IsFreeFor, in_use, Puts};
 
 use crate::bucket::{Bucket, bucket_at, set_bucket};
 
@@ -44,15 +44,28 @@ fn free_place(array: &[u8], count: usize, start: usize) -> usize
     first_free(array, 0, start).unwrap()
 }
 
-/// Puts a bucket in use into an array that has a free one.
-pub(crate) fn put(array: &mut [u8], count: usize, bucket: Bucket)
+/// The bucket where a hash goes in an array that has a free one: the one that a search met, or else the first one that a search comes to.
+fn place_for(array: &[u8], count: usize, hash: u32, met: Option<usize>) -> usize
+    requires long { length array.now ≡ 32 * count }
+    requires room { in_use array.now count < count }
+    requires met { IfSome met (IsFreeFor array.now count hash) }
+    ensures { IsFreeFor array.now count hash result }
+{
+    match met {
+        Some(place) => place,
+        None => free_place(array, count, start_of(hash, count)),
+    }
+}
+
+/// Puts a bucket in use into an array that has a free one: the one that a search for its hash met, if that is known.
+pub(crate) fn put(array: &mut [u8], count: usize, met: Option<usize>, bucket: Bucket)
     requires index { IsIndex array.old count }
     requires room { in_use array.old count < count }
+    requires met { IfSome met (IsFreeFor array.old count bucket.hash) }
     ensures index { IsIndex array.new count }
     ensures more { in_use array.new count ≡ in_use array.old count + 1 }
     ensures put { Puts array.old array.new count bucket }
 {
-    let start = start_of(bucket.hash, count);
-    let place = free_place(array, count, start);
+    let place = place_for(array, count, bucket.hash, met);
     set_bucket(array, place, bucket);
 }

@@ -13,4 +13,4 @@ mod search;
 mod table;
 
 pub use key_hashes::{Fnv1a, KeyHash, Seed, SipHash};
-pub use table::{GroupTable, Slot};
+pub use table::{GroupTable, Lookup, Slot, Vacancy};

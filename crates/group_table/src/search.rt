@@ -3,7 +3,7 @@ ghost use Rattle.std.specs.Prelude.{◌≡◌, ◌≢◌, ◌<◌, ◌≤◌, �
 ghost use Rattle.context_tree.specs.Contexts.{has_chunk, chunk_bytes};
 ghost use Rattle.context_tree.specs.Tree.{is_there, context_at};
 ghost use Rattle.group_table.specs.Buckets.{bucket_at};
-ghost use Rattle.group_table.specs.Index.{IsIndex, Holds};
+ghost use Rattle.group_table.specs.Index.{IsIndex, Holds, in_use};
 ghost use Rattle.group_table.specs.Search.{Tells, Finds};
 ghost use Rattle.group_table.specs.declared.bucket.Bucket.{Bucket};
 
@@ -15,8 +15,14 @@ use context_tree::{ContextId, Tree};
 /// What a search among some buckets meets first: the bucket of the key, a free one, or neither.
 pub(crate) enum Probe {
     Found(Bucket),
-    Free,
+    Free(usize),
     Passed,
+}
+
+/// What a search among all buckets comes to: the bucket of the key, or the free one that ends it.
+pub(crate) enum Sought {
+    Found(Bucket),
+    Free(usize),
 }
 
 /// The bytes of a live chunk of a context that is there.
@@ -57,7 +63,7 @@ fn look(
 {
     for place in from..to {
         match bucket_at(array, place) {
-            None => return Probe::Free,
+            None => return Probe::Free(place),
             Some(bucket) => {
                 if is_of(tree, keys, bucket, hash, key) {
                     return Probe::Found(bucket);
@@ -68,7 +74,7 @@ fn look(
     Probe::Passed
 }
 
-/// The bucket of a key in an array of this many buckets, if it has one.
+/// The bucket of a key in an array of this many buckets, of which one is free; or, if it has none, the free one that the search comes to.
 pub(crate) fn search(
     tree: &Tree,
     keys: ContextId,
@@ -76,21 +82,22 @@ pub(crate) fn search(
     count: usize,
     hash: u32,
     key: &[u8],
-) -> Option<Bucket>
+) -> Sought
     requires there { is_there tree.now keys ≡ true }
     requires keys { (b : Bucket) → Holds array.now count b → IsTrue (has_chunk (context_at tree.now keys) b.key) }
     requires index { IsIndex array.now count }
-    requires some { 0 < count }
+    requires room { in_use array.now count < count }
     ensures { Finds (context_at tree.now keys) array.now count hash key.now result }
 {
     let start = start_of(hash, count);
     match look(tree, keys, array, start, count, hash, key) {
-        Probe::Found(bucket) => return Some(bucket),
-        Probe::Free => return None,
+        Probe::Found(bucket) => return Sought::Found(bucket),
+        Probe::Free(place) => return Sought::Free(place),
         Probe::Passed => {}
     }
     match look(tree, keys, array, 0, start, hash, key) {
-        Probe::Found(bucket) => Some(bucket),
-        Probe::Free | Probe::Passed => None,
+        Probe::Found(bucket) => Sought::Found(bucket),
+        Probe::Free(place) => Sought::Free(place),
+        Probe::Passed => unreachable!(),
     }
 }

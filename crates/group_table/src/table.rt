@@ -1,7 +1,7 @@
 //! A table of groups.
 ghost use Rattle.std.specs.Prelude.{◌≡◌, ◌≢◌, ◌*◌, ◌-◌, ◌^◌, ◌+◌, ◌<◌, ◌≤◌, ℕ, List, [], ◌∷◌, ◌++◌, Some, None, MatchOption, IfSome};
 ghost use Rattle.std.specs.Prelude.{IfNone, IfOk, IfErr, OnOk, OnErr, IsTrue, true, false, map, length, slice_get};
-ghost use Rattle.std.specs.Prelude.{slice_index_or};
+ghost use Rattle.std.specs.Prelude.{slice_index_or, cond};
 ghost use Rattle.chunk_layout.specs.Contents.{place_of};
 ghost use Rattle.chunk_layout.specs.declared.blocks.TheConstants.{HEADER};
 ghost use Rattle.chunk_contexts.specs.declared.rooms.TheConstants.{BLOCK};
@@ -15,6 +15,7 @@ ghost use Rattle.group_table.specs.Space.{HoldsKeys};
 ghost use Rattle.group_table.specs.Standing.{IsSetWith, IsStanding, IsTableIn, KeepsOthers, IsSameFor};
 ghost use Rattle.group_table.specs.Changes.{Clears, WritesState};
 ghost use Rattle.group_table.specs.Inserts.{Inserts};
+ghost use Rattle.group_table.specs.Lookups.{IsMet, IsVacancy, LooksUp};
 ghost use Rattle.group_table.specs.Children.{IsRefused, IsAsBefore, IsNewTable};
 ghost use Rattle.group_table.specs.Arrays.{OnlyIn, HasNext, IsSpare, IsNext, with_next, with_slot, with_spare};
 
@@ -22,7 +23,7 @@ use crate::array::{give_up, put_into, refill};
 use crate::bucket::{BUCKET, Bucket};
 use crate::children::{Children, make_children};
 use crate::limits::LONGEST;
-use crate::search::{chunk, search};
+use crate::search::{Sought, chunk, search};
 use chunk_layout::ChunkName;
 use context_tree::{ContextId, Tree, TreeError};
 use key_hashes::KeyHash;
@@ -42,6 +43,33 @@ const FIRST_SLOTS: usize = 16;
 pub struct Slot {
     pub(crate) key: ChunkName,
     pub(crate) state: ChunkName,
+}
+
+/// Where a key that no group has would go: its hash, and the free bucket that the search for it came to. This is so until a group is
+/// inserted or the table is cleared.
+#[derive(Clone, Copy)]
+pub struct Vacancy {
+    hash: u32,
+    place: usize,
+}
+
+impl Vacancy {
+    /// The bucket that the search came to, unless the array has become another since.
+    fn met(self, is_replaced: bool) -> Option<usize>
+        ensures { result ≡ cond is_replaced None (Some self.place) }
+    {
+        if is_replaced {
+            return None;
+        }
+        Some(self.place)
+    }
+}
+
+/// What a table has for a key: where its group lies, or where it would go.
+#[derive(Clone, Copy)]
+pub enum Lookup {
+    Found(Slot),
+    Vacant(Vacancy),
 }
 
 /// A hash table of groups: a finite map from the bytes of keys to the bytes of states, each as many as `width`.
@@ -190,15 +218,26 @@ impl<H: KeyHash + Drop> GroupTable<H> {
         requires { IsTableIn H.hash_of self.now tree.now }
         ensures { MatchOption result (HasNo self.now tree.now key.now) (λ slot. Names self.now tree.now slot key.now) }
     {
+        match self.look_up(tree, key) {
+            Lookup::Found(slot) => Some(slot),
+            Lookup::Vacant(_) => None,
+        }
+    }
+
+    /// The slot of the group of a key, if there is one; else where it would go, which `insert_vacant` takes.
+    pub fn look_up(&self, tree: &Tree, key: &[u8]) -> Lookup
+        requires { IsTableIn H.hash_of self.now tree.now }
+        ensures { LooksUp H.hash_of self.now tree.now key.now result }
+    {
+        let hash = self.hash.key_hash(key);
         let Some(name) = self.array else {
-            return None;
+            return Lookup::Vacant(Vacancy { hash, place: 0 });
         };
         let array = chunk(tree, self.buckets, name);
         let count = array.len() / BUCKET;
-        let hash = self.hash.key_hash(key);
         match search(tree, self.keys, array, count, hash, key) {
-            None => None,
-            Some(Bucket { key, state, .. }) => Some(Slot { key, state }),
+            Sought::Found(Bucket { key, state, .. }) => Lookup::Found(Slot { key, state }),
+            Sought::Free(place) => Lookup::Vacant(Vacancy { hash, place }),
         }
     }
 
@@ -291,6 +330,7 @@ impl<H: KeyHash + Drop> GroupTable<H> {
         ensures only { OnlyIn self.now.buckets tree.old tree.new }
         ensures standing { IsStanding H.hash_of self.now tree.new }
         ensures next { IfOk result (HasNext self.now tree.new) }
+        ensures same { IfOk result (λ next. next ≡ None → tree.new ≡ tree.old) }
         ensures unchanged { OnErr result (tree.new ≡ tree.old) }
         ensures held { held_by (context_at tree.new self.now.buckets) ≤ held_by (context_at tree.old self.now.buckets)
             + array_growth self.now tree.old }
@@ -377,6 +417,7 @@ impl<H: KeyHash + Drop> GroupTable<H> {
         requires next { HasNext self.old tree.old next }
         ensures only { OnlyIn self.old.buckets tree.old tree.new }
         ensures array { self.new ≡ with_next self.old next }
+        ensures same { next ≡ None → tree.new ≡ tree.old }
         ensures standing { IsStanding H.hash_of self.new tree.new }
         ensures room { HasNext self.new tree.new None }
         ensures held { held_by (context_at tree.new self.old.buckets) ≤ held_by (context_at tree.old self.old.buckets) }
@@ -393,12 +434,13 @@ impl<H: KeyHash + Drop> GroupTable<H> {
         self.array = Some(name);
     }
 
-    /// Puts the bucket of a group into the array.
-    fn put_slot(&self, tree: &mut Tree, key: &[u8], slot: Slot)
+    /// Puts the bucket of a group into the array, which may be another one than that in which its key was looked for.
+    fn put_slot(&self, tree: &mut Tree, slot: Slot, vacancy: Vacancy, is_replaced: bool)
         requires standing { IsStanding H.hash_of self.now tree.old }
         requires room { HasNext self.now tree.old None }
-        requires next { (state : List ℕ) × IsNext self.now tree.old key.now state slot }
-        requires absent { HasNo self.now tree.old key.now }
+        requires next { (key state : List ℕ) × IsNext self.now tree.old key state slot × HasNo self.now tree.old key
+            × (vacancy.hash ≡ H.hash_of self.now.hash key) }
+        requires met { is_replaced ≡ false → IsMet self.now tree.old vacancy }
         ensures only { OnlyIn self.now.buckets tree.old tree.new }
         ensures standing { IsStanding H.hash_of (with_slot self.now slot) tree.new }
         ensures held { held_by (context_at tree.new self.now.buckets) ≡ held_by (context_at tree.old self.now.buckets) }
@@ -406,9 +448,10 @@ impl<H: KeyHash + Drop> GroupTable<H> {
             → IsSetWith (HoldsArray self.now.array number) (context_at tree.new self.now.buckets) }
     {
         let name = self.array.unwrap();
-        let hash = self.hash.key_hash(key);
+        let met = vacancy.met(is_replaced);
         let Slot { key, state } = slot;
-        put_into(tree, self.buckets, name, Bucket { key, state, hash });
+        let hash = vacancy.hash;
+        put_into(tree, self.buckets, name, met, Bucket { key, state, hash });
     }
 
     /// Adds a group with a key that no other has, and a state of `width` bytes. The key has at most 65,535 bytes, and at most 2^24 buckets
@@ -425,8 +468,30 @@ impl<H: KeyHash + Drop> GroupTable<H> {
         requires few { buckets_for (buckets_in self.old.array) (length self.old.slots) ≤ most_buckets }
         ensures { Inserts H.hash_of self.old self.new tree.old tree.new key.now state.now result }
     {
+        match self.look_up(tree, key) {
+            Lookup::Found(_) => unreachable!(),
+            Lookup::Vacant(vacancy) => self.insert_vacant(tree, key, state, vacancy),
+        }
+    }
+
+    /// Adds a group where `look_up` says that its key would go: `insert` without another search.
+    pub fn insert_vacant(
+        &mut self,
+        tree: &mut Tree,
+        key: &[u8],
+        state: &[u8],
+        vacancy: Vacancy,
+    ) -> Result<Slot, AllocError>
+        requires table { IsTableIn H.hash_of self.old tree.old }
+        requires absent { HasNo self.old tree.old key.now }
+        requires vacancy { IsVacancy H.hash_of self.old tree.old key.now vacancy }
+        requires key { length key.now ≤ LONGEST }
+        requires state { length state.now ≡ self.old.width }
+        requires few { buckets_for (buckets_in self.old.array) (length self.old.slots) ≤ most_buckets }
+        ensures { Inserts H.hash_of self.old self.new tree.old tree.new key.now state.now result }
+    {
         self.make_room()?;
-        self.insert_noted(tree, key, state)
+        self.insert_noted(tree, key, state, vacancy)
     }
 
     /// Makes room to note one more group.
@@ -448,10 +513,12 @@ impl<H: KeyHash + Drop> GroupTable<H> {
         tree: &mut Tree,
         key: &[u8],
         state: &[u8],
+        vacancy: Vacancy,
     ) -> Result<Slot, AllocError>
         requires room { 0 < self.old.spare }
         requires table { IsTableIn H.hash_of self.old tree.old }
         requires absent { HasNo self.old tree.old key.now }
+        requires vacancy { IsVacancy H.hash_of self.old tree.old key.now vacancy }
         requires key { length key.now ≤ LONGEST }
         requires state { length state.now ≡ self.old.width }
         requires few { buckets_for (buckets_in self.old.array) (length self.old.slots) ≤ most_buckets }
@@ -461,7 +528,7 @@ impl<H: KeyHash + Drop> GroupTable<H> {
         let taken = self.take_group(tree, key, state);
         self.replace_array(tree, next);
         let slot = taken?;
-        self.put_slot(tree, key, slot);
+        self.put_slot(tree, slot, vacancy, next.is_some());
         self.slots.push_reserved(slot);
         Ok(slot)
     }

@@ -5,7 +5,7 @@ use Rattle.grouping_model.specs.Aggregates.{Outcome, Plain, outcome}
 use Rattle.grouping_model.specs.Condition.{is_met}
 use Rattle.grouping_model.specs.Query.{Query, Source, Key, Call}
 use Rattle.grouping_model.specs.Grouping.{Group, partials, part}
-use Rattle.grouping_model.specs.Order.{ordered}
+use Rattle.grouping_model.specs.Order.{arranged}
 use Rattle.grouping_model.specs.World.{World, Knowledge, known_rows}
 
 -- the value of a key or of an aggregate, given both as a group has them; null beyond the last
@@ -34,7 +34,7 @@ rows_of query groups = map (λ group. map (source_in group) query.items) (filter
 -- the answer that groups give. Groups come in key order. So without ORDER BY the answer is in key order, and with it the rows that its
 -- terms do not tell apart are (own)
 abbrev pub answer_of : Query → List Group → List (List Outcome)
-answer_of query groups = ordered query.order (rows_of query (answered query groups))
+answer_of query groups = arranged query.arrangement (rows_of query (answered query groups))
 
 -- the answer over a list of rows, and over the unbroken prefixes that are known of a world (own)
 abbrev pub answer_over : Query → List Row → List (List Outcome)

@@ -5,6 +5,7 @@ use Rattle.grouping_model.specs.Aggregates.{Function, Count_rows, Count, Sum, Mi
 use Rattle.grouping_model.specs.Aggregates.{Outcome, Plain, Numeric}
 use Rattle.grouping_model.specs.Condition.{At, Literal, Compare, Is, More, Equal, Is_null}
 use Rattle.grouping_model.specs.Query.{Query, Aggregate, Key, Call}
+use Rattle.grouping_model.specs.Order.{unarranged}
 use Rattle.grouping_model.specs.World.{World, Batch, Knowledge, knowing}
 
 -- the world of these batches
@@ -43,7 +44,7 @@ sums =
       keys = 0 ∷ [];
       aggregates = of_rows ∷ of_column Sum 1 ∷ [];
       having = None;
-      order = [];
+      arrangement = unarranged;
     }
 
 -- one batch of three rows
@@ -125,7 +126,7 @@ bits_and_booleans =
       aggregates = of_column Bool_and 0 ∷ of_column Bool_or 0 ∷ of_column Every 0 ∷ of_column Bit_and 1 ∷ of_column Bit_or 1
           ∷ of_column Max 1 ∷ [];
       having = None;
-      order = [];
+      arrangement = unarranged;
     }
 
 abbrev pub twelve_and_ten : List Row
@@ -144,13 +145,15 @@ by_sum =
     record sums {
       items = Key 0 ∷ Call 0 ∷ [];
       aggregates = of_column Sum 1 ∷ [];
-      order = record { item = 1; descending = true; nulls_first = true } ∷ record { item = 0; descending = false; nulls_first = false }
-          ∷ [];
+      arrangement = record unarranged {
+        order = record { item = 1; descending = true; nulls_first = true } ∷ record { item = 0; descending = false; nulls_first = false }
+            ∷ [];
+      };
     }
 
 -- the same with NULLS LAST
 abbrev pub by_sum_nulls_last : Query
-by_sum_nulls_last = record by_sum { order = record { item = 1; descending = true; nulls_first = false } ∷ [] }
+by_sum_nulls_last = record by_sum { arrangement = record unarranged { order = record { item = 1; descending = true; nulls_first = false } ∷ [] } }
 
 -- a row of a text and a sum
 abbrev pub summed : List ℕ → ℤ → List Outcome

@@ -1,5 +1,5 @@
--- The order of an answer's rows (PostgreSQL 17, 7.5 Sorting Rows (ORDER BY)).
-use Rattle.std.specs.Prelude.{ℕ, Bool, true, false, if◌then◌else◌, List, [], ◌∷◌, slice_index_or}
+-- How an answer's rows are arranged (PostgreSQL 17, 7.5 Sorting Rows (ORDER BY)).
+use Rattle.std.specs.Prelude.{ℕ, Bool, true, false, if◌then◌else◌, List, [], ◌∷◌, map, slice_index_or}
 use Rattle.std.specs.declared.cmp.Ordering.{Ordering}
 use Rattle.std.specs.declared.cmp.Ordering.TheVariants.{Less, Equal, Greater}
 use Rattle.std.specs.Ordering.{nat_cmp, int_cmp, then_cmp, on, is_lt}
@@ -54,3 +54,20 @@ comes_before terms a b = is_lt (terms_cmp terms a b)
 -- rows in the order of the terms; those that no term tells apart keep their order
 abbrev pub ordered : List Term → List (List Outcome) → List (List Outcome)
 ordered terms rows = sorted_by (comes_before terms) rows
+
+-- the clauses behind HAVING, which arrange the rows: ORDER BY, by such terms. No terms at all mean that there is none (PostgreSQL 17,
+-- SELECT; that they are one record is our own)
+pub record Arrangement (T : Type 0) : Type 0 where
+  pub order : List T
+
+-- the same clauses by other terms
+abbrev pub map_arrangement : {T S : Type 0} → (T → S) → Arrangement T → Arrangement S
+map_arrangement term arrangement = record { order = map term arrangement.order }
+
+-- none of these clauses
+abbrev pub unarranged : Arrangement Term
+unarranged = record { order = [] }
+
+-- rows as these clauses arrange them
+abbrev pub arranged : Arrangement Term → List (List Outcome) → List (List Outcome)
+arranged arrangement rows = ordered arrangement.order rows

@@ -3,7 +3,7 @@ use Rattle.std.specs.Prelude.{ℕ, List, Option}
 use Rattle.grouping_model.specs.Datum.{Kind}
 use Rattle.grouping_model.specs.Aggregates.{Function}
 use Rattle.grouping_model.specs.Condition.{Condition}
-use Rattle.grouping_model.specs.Order.{Term}
+use Rattle.grouping_model.specs.Order.{Term, Arrangement}
 
 -- an aggregate: its function, the place of its column (count(*) has none), and FILTER, which rows reach it
 -- (PostgreSQL 17, 4.2.7 Aggregate Expressions)
@@ -31,5 +31,5 @@ pub record Query : Type 0 where
   pub aggregates : List Aggregate
   -- HAVING, over keys and aggregates
   pub having : Option (Condition Source)
-  -- ORDER BY, over the items. No terms at all mean that there is none
-  pub order : List Term
+  -- what stands behind HAVING, over the items
+  pub arrangement : Arrangement Term

@@ -2,7 +2,9 @@
 use Rattle.std.specs.Prelude.{◌≡◌, refl, ℕ, zero, suc, List, [], ◌∷◌, map, Some, slice_get}
 use Rattle.std.proofs.Common.{sym, ◌∙◌, ap}
 use Rattle.std.specs.List.{AllByRecursion}
-use Rattle.hash_agg.proofs.Words.{Row, Kind, HasKinds, packing, ArePackings}
+use Rattle.packed_rows.specs.Packing.{IsPacking}
+use Rattle.hash_agg.specs.Inputs.{IsInput, Packed}
+use Rattle.hash_agg.proofs.Words.{Row, Kind, HasKinds, Query, packing, ArePackings}
 
 -- the row at a place, and its packing
 pub record RowAt (kinds : List Kind) (rows : List Row) (i : ℕ) (bytes : List ℕ) : Type 0 where
@@ -24,3 +26,8 @@ pub flat_row_at : (kinds : List Kind) (packed : List (List ℕ)) (rows : List Ro
     → slice_get packed i ≡ Some bytes → RowAt kinds rows i bytes
 flat_row_at kinds packed rows i bytes are at = row_got kinds rows i bytes are.of_kinds (ap (λ ps. slice_get ps i) (sym are.packings_are)
     ∙ at)
+
+-- each of given rows is a packing
+pub packing_at : (q : Query) (packed : List (List ℕ)) (i : ℕ) (bytes : List ℕ) → IsInput q (Packed packed)
+    → slice_get packed i ≡ Some bytes → IsPacking q.kinds bytes
+packing_at q packed i bytes (rows, are) at = let found = flat_row_at q.kinds packed rows i bytes are at in (found.row, found.has, found.is)

@@ -1,8 +1,10 @@
 -- The table of a pass.
-use Rattle.std.specs.Prelude.{◌≡◌, ◌≢◌, refl, ℕ, zero, suc, ◌+◌, ◌%◌, ◌^◌, List, [], ◌∷◌, map, slice_get, Some}
+use Rattle.std.specs.Prelude.{◌≡◌, ◌≢◌, refl, ℕ, zero, suc, ◌+◌, ◌%◌, ◌^◌, List, [], ◌∷◌, map, slice_get, Some, Bool, true, false, cond}
 use Rattle.std.proofs.Common.{sym, ◌∙◌, ap, subst, arith}
 use Rattle.context_tree.specs.Contexts.{held_by}
-use Rattle.context_tree.specs.Tree.{TreeState, context_at, held_below}
+use Rattle.context_tree.specs.Links.{is_below}
+use Rattle.context_tree.specs.Tree.{TreeState, context_at, held_below, new_tree}
+use Rattle.context_tree.specs.declared.links.ContextId.{ContextId}
 use Rattle.group_table.specs.Standing.{IsTableIn}
 use Rattle.key_hashes.specs.SipHashes.{low_hash, sip_hash}
 use Rattle.key_hashes.specs.declared.sip_hash.Seed.{Seed}
@@ -63,3 +65,11 @@ finds_made seed made hash same finds key = ap (λ h. low_hash h key) same ∙ fi
 
 pub finds_same : {Hash : Type 0} (g : GroupsState Hash) (told seed : Seed) → told ≡ seed → FindsBy told g → FindsBy seed g
 finds_same g told seed same finds = subst (λ s. FindsBy s g) same finds
+
+-- a new tree holds nothing
+nothing_where : (b : Bool) → cond b 0 0 + 0 ≡ 0
+nothing_where true = refl
+nothing_where false = refl
+
+pub nothing_held : (tree : TreeState) (stamp : ℕ) (id : ContextId) → tree ≡ new_tree stamp → held_below tree id ≡ 0
+nothing_held tree stamp id new = ap (λ (t : TreeState). held_below t id) new ∙ nothing_where (is_below (new_tree stamp).links id.slot 0)

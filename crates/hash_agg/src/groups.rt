@@ -1,6 +1,6 @@
 //! The groups of a pass, in a table whose bytes lie in memory contexts.
 
-ghost use Rattle.std.specs.Prelude.{◌≡◌, ◌++◌, ◌∷◌, ◌≤◌, ◌<◌, ℕ, [], map, Some, is_some, length, slice_get, MatchOption, IfOk, IfErr};
+ghost use Rattle.std.specs.Prelude.{◌≡◌, ◌++◌, ◌∷◌, ◌≤◌, ◌<◌, ℕ, [], map, Some, is_some, length, slice_get, IfOk, IfErr};
 ghost use Rattle.std.specs.Prelude.{IfSome, OnOk, OnErr};
 ghost use Rattle.std.specs.List.Sorted.{IsPermutation};
 ghost use Rattle.grouping_model.specs.Datum.{HasKinds};
@@ -9,7 +9,9 @@ ghost use Rattle.packed_rows.specs.View.{row_of};
 ghost use Rattle.agg_protocol.specs.States.{most_rows};
 ghost use Rattle.aggregation_cost.specs.Cost.{greatest};
 ghost use Rattle.aggregation_cost.specs.Space.{Key, need, fits, fronts};
-ghost use Rattle.group_table.specs.Table.{IsSlot, Names, HasNo, state_in};
+ghost use Rattle.group_table.specs.Lookups.{IsVacancy, LooksUp};
+ghost use Rattle.group_table.specs.Table.{IsSlot, HasNo, state_in};
+ghost use Rattle.key_hashes.specs.SipHashes.{low_hash};
 ghost use Rattle.spill_partitions.specs.declared.error.SpillError.TheVariants.{NoMemory};
 ghost use Rattle.having_filter.specs.Kept.{IsWellFormed};
 ghost use Rattle.having_filter.specs.Meaning.{meaning};
@@ -19,17 +21,17 @@ ghost use Rattle.group_runs.specs.Steps.{HaveRoomForRow, AreAdvanced, HaveRoomWi
 
 use crate::sorting::{abbreviated, sort_distinct};
 use agg_protocol::BadState;
-use context_tree::{Kind, Tree};
+use context_tree::Tree;
 use group_runs::{Run, advance_slice, combine_within};
-use group_table::{GroupTable, KeyHash, Seed, SipHash, Slot};
+use group_table::{GroupTable, KeyHash, Lookup, Seed, SipHash, Slot, Vacancy};
 use having_filter::Query;
 use packed_rows::Value;
 use spill_partitions::SpillError;
 use std::alloc::{AllocError, Global};
 use std::marker::Model;
 
-/// Groups: a hash table from their packed keys to their states. Its buckets, keys and states lie in contexts below that of the pass, which
-/// lies below the root of a tree and has nothing else below it. `most_held` is the most bytes of blocks that these held since there was no
+/// Groups: a hash table from their packed keys to their states. Its buckets, keys and states lie in contexts below the root of a tree,
+/// which has nothing else below it. `most_held` is the most bytes of blocks that these held since there was no
 /// group. `hash` is the hash function by which records are spilled; the table itself finds its buckets by another one, with a seed of its
 /// own.
 #[derive(Drop)]
@@ -52,7 +54,7 @@ impl<H: KeyHash + Drop> Model for Groups<H> {
 
 impl<H: KeyHash + Drop> Groups<H> {
     /// No groups, whose states will have `width` bytes each. Records are spilled by `hash`; the table's hash function has this seed.
-    #[tactic(auto, using(crate::proofs::TableLaws::finds_made))]
+    #[tactic(auto, using(crate::proofs::TableLaws::finds_made, crate::proofs::TableLaws::nothing_held))]
     pub(crate) fn new(
         alloc: Global,
         width: u32,
@@ -68,10 +70,7 @@ impl<H: KeyHash + Drop> Groups<H> {
     {
         let mut tree = Tree::new(alloc);
         let root = tree.root();
-        let Ok(pass) = tree.create(root, Kind::AllocSet) else {
-            return Err(AllocError);
-        };
-        match GroupTable::new(alloc, &mut tree, pass, width, SipHash::new(seed)) {
+        match GroupTable::new(alloc, &mut tree, root, width, SipHash::new(seed)) {
             Ok(table) => Ok(Groups {
                 tree,
                 table,
@@ -97,13 +96,12 @@ impl<H: KeyHash + Drop> Groups<H> {
         self.hash.key_hash(key)
     }
 
-    /// The slot of the group of a key, if there is one.
-    pub(crate) fn find(&self, key: &[u8]) -> Option<Slot>
-        ensures found { MatchOption result (HasNo self.now.table self.now.tree key.now)
-            (λ slot. Names self.now.table self.now.tree slot key.now) }
+    /// The slot of the group of a key, if there is one; else where it would go.
+    pub(crate) fn look_up(&self, key: &[u8]) -> Lookup
+        ensures found { LooksUp low_hash self.now.table self.now.tree key.now result }
         ensures once { AreOnce (entries_of self.now) }
     {
-        self.table.find(&self.tree, key)
+        self.table.look_up(&self.tree, key)
     }
 
     /// The key and the states of one of the groups, in the order in which they came.
@@ -139,10 +137,17 @@ impl<H: KeyHash + Drop> Groups<H> {
         Some(need as u64)
     }
 
-    /// Adds a group whose key isn't there, while this many bytes of blocks are held at most. The only error is a failed allocation, and no
-    /// group is left then.
-    pub(crate) fn insert(&mut self, key: &[u8], states: &[u8], held: u64) -> Result<(), AllocError>
+    /// Adds a group whose key isn't there, where `look_up` says, while this many bytes of blocks are held at most. The only error is a
+    /// failed allocation, and no group is left then.
+    pub(crate) fn insert(
+        &mut self,
+        key: &[u8],
+        states: &[u8],
+        vacancy: Vacancy,
+        held: u64,
+    ) -> Result<(), AllocError>
         requires absent { HasNo self.old.table self.old.tree key.now }
+        requires vacancy { IsVacancy low_hash self.old.table self.old.tree key.now vacancy }
         requires key { length key.now ≤ 65535 }
         requires states { length states.now ≡ self.old.table.width }
         requires few { HasPlace self.old }
@@ -150,7 +155,10 @@ impl<H: KeyHash + Drop> Groups<H> {
         ensures entered { OnOk result (entries_of self.new ≡ entries_of self.old ++ (key.now, states.now) ∷ []) }
         ensures table { (limit : ℕ) → held ≤ limit → IsSameTable limit self.old self.new }
     {
-        match self.table.insert(&mut self.tree, key, states) {
+        match self
+            .table
+            .insert_vacant(&mut self.tree, key, states, vacancy)
+        {
             Ok(_) => {
                 self.most_held = self.most_held.max(held);
                 Ok(())

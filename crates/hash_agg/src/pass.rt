@@ -8,7 +8,8 @@ ghost use Rattle.spill_partitions.specs.declared.error.SpillError.TheVariants.{T
 ghost use Rattle.grouping_model.specs.Grouping.{Group};
 ghost use Rattle.packed_rows.specs.View.{row_of};
 ghost use Rattle.group_runs.specs.Standing.{StandsFor, IsRun};
-ghost use Rattle.hash_agg.specs.Inputs.{brought, packings_in, AreInputs};
+ghost use Rattle.packed_rows.specs.Packing.{IsPacking};
+ghost use Rattle.hash_agg.specs.Inputs.{brought, packings_in, AreInputs, IsInput, Packed};
 ghost use Rattle.hash_agg.specs.Passes.{FindsBy, IsPlan};
 ghost use Rattle.hash_agg.specs.Added.{Packed_rows, Entries, On_tape, Added, AddedGenuine, AddedPartition, AddedOne, Adds};
 ghost use Rattle.hash_agg.specs.Added.{CountsPass, Finished, HasRoom, IsFirst, IsFresh, IsReady, IsSelected, RefusedPartition, enters};
@@ -23,7 +24,7 @@ use crate::record::{GROUP, ROW, split_group, write_group};
 use crate::work::Work;
 use agg_protocol::BadState;
 use group_runs::Run;
-use group_table::KeyHash;
+use group_table::{KeyHash, Lookup};
 use packed_rows::Value;
 use spill_partitions::{SpillError, SpillPartitions};
 use spill_tapes::TapeDisk;
@@ -33,6 +34,8 @@ use std::alloc::{AllocError, Global};
 #[derive(Drop)]
 pub(crate) struct Buffers {
     key: Vec<u8>,
+    /// Where each value of a packed row ends.
+    ends: Vec<usize>,
     states: Vec<u8>,
     tape_record: Vec<u8>,
 }
@@ -42,6 +45,7 @@ impl Buffers {
     pub(crate) fn new(alloc: Global) -> Buffers {
         Buffers {
             key: Vec::new(alloc),
+            ends: Vec::new(alloc),
             states: Vec::new(alloc),
             tape_record: Vec::new(alloc),
         }
@@ -107,18 +111,21 @@ impl<'q, H: KeyHash + Drop> Pass<'q, H> {
         requires selected { IsSelected (query_of self.old) packed.now key.now (row_of row.now) }
         ensures { Adds AddedOne H.hash_of D.TapeDisk (Packed_rows (packed.now ∷ [])) self.old disk.old result self.new disk.new }
     {
-        if let Some(slot) = self.groups.find(key) {
-            return match self
-                .groups
-                .advance(self.plan.query, slot, row, self.plan.most)
-            {
-                Ok(()) => Ok(()),
-                Err(BadState) => Err(SpillError::TapeDamaged),
-            };
-        }
+        let vacancy = match self.groups.look_up(key) {
+            Lookup::Found(slot) => {
+                return match self
+                    .groups
+                    .advance(self.plan.query, slot, row, self.plan.most)
+                {
+                    Ok(()) => Ok(()),
+                    Err(BadState) => Err(SpillError::TapeDamaged),
+                };
+            }
+            Lookup::Vacant(vacancy) => vacancy,
+        };
         if let Some(need) = self.need_to_insert(key) {
             self.plan.first_after(row, states)?;
-            self.groups.insert(key, states, need)?;
+            self.groups.insert(key, states, vacancy, need)?;
             return Ok(());
         }
         let hash = self.groups.hash(key);
@@ -137,17 +144,20 @@ impl<'q, H: KeyHash + Drop> Pass<'q, H> {
         requires group { (group : Group) × StandsFor (query_of self.old) self.old.plan.most (key.now, states.now) group }
         ensures { Adds AddedOne H.hash_of D.TapeDisk (Entries ((key.now, states.now) ∷ [])) self.old disk.old result self.new disk.new }
     {
-        if let Some(slot) = self.groups.find(key) {
-            return match self
-                .groups
-                .combine(self.plan.query, slot, states, self.plan.most)
-            {
-                Ok(()) => Ok(()),
-                Err(BadState) => Err(SpillError::TapeDamaged),
-            };
-        }
+        let vacancy = match self.groups.look_up(key) {
+            Lookup::Found(slot) => {
+                return match self
+                    .groups
+                    .combine(self.plan.query, slot, states, self.plan.most)
+                {
+                    Ok(()) => Ok(()),
+                    Err(BadState) => Err(SpillError::TapeDamaged),
+                };
+            }
+            Lookup::Vacant(vacancy) => vacancy,
+        };
         if let Some(need) = self.need_to_insert(key) {
-            self.groups.insert(key, states, need)?;
+            self.groups.insert(key, states, vacancy, need)?;
             return Ok(());
         }
         let hash = self.groups.hash(key);
@@ -155,7 +165,7 @@ impl<'q, H: KeyHash + Drop> Pass<'q, H> {
         self.spill.spill(disk, hash, GROUP, tape_record)
     }
 
-    /// Reads a packed row, if WHERE is true of it. What `row` and `buffers` hold doesn't matter.
+    /// Reads a packed row of the query's table, if WHERE is true of it. What `row` and `buffers` hold doesn't matter.
     fn add_row<'r, D: TapeDisk>(
         &mut self,
         disk: &mut D,
@@ -164,12 +174,22 @@ impl<'q, H: KeyHash + Drop> Pass<'q, H> {
         buffers: &mut Buffers,
     ) -> Result<(), SpillError>
         requires ready { IsReady self.old }
+        requires packing { IsPacking (query_of self.old).kinds packed.now }
         ensures { Adds Added H.hash_of D.TapeDisk (Packed_rows (packed.now ∷ [])) self.old disk.old result self.new disk.new }
     {
-        let Buffers { key, states, .. } = buffers;
-        if !self.plan.select(packed, row, key)? {
+        let Buffers {
+            key,
+            ends,
+            states,
+            ..
+        } = buffers;
+        if !self.plan.select_known(packed, row, ends)? {
             return Ok(()); // It is passed over.
         }
+        if let Some(within) = self.plan.key_within(packed, row, ends) {
+            return self.add_selected(disk, packed, row, within, states);
+        }
+        self.plan.pack_key(row, key)?;
         self.add_selected(disk, packed, row, key, states)
     }
 
@@ -250,6 +270,7 @@ impl<'q, H: KeyHash + Drop> Pass<'q, H> {
         buffers: &mut Buffers,
     ) -> Result<(), SpillError>
         requires ready { IsReady self.old }
+        requires packings { IsInput (query_of self.old) (Packed (packings_in rows)) }
         ensures { Adds Added H.hash_of D.TapeDisk (Packed_rows (packings_in rows.entry)) self.old disk.old result self.new disk.new }
     {
         for place in 0..rows.len() {

@@ -1,14 +1,15 @@
 //! What all passes of an aggregation have in common.
 
-ghost use Rattle.std.specs.Prelude.{◌≡◌, ◌≢◌, ◌≤◌, ℕ, true, length, IfOk, IfErr, OnOk};
+ghost use Rattle.std.specs.Prelude.{◌≡◌, ◌≢◌, ◌≤◌, ℕ, true, length, map, IfOk, IfErr, IfSome, OnOk};
 ghost use Rattle.grouping_model.specs.Condition.{is_met};
 ghost use Rattle.grouping_model.specs.Datum.{Row, HasKinds};
 ghost use Rattle.grouping_model.specs.Grouping.{Group, column_of, key_of};
 ghost use Rattle.grouping_model.specs.Parts.{functions};
-ghost use Rattle.packed_rows.specs.Packing.{packing};
+ghost use Rattle.packed_rows.specs.ConcatenatedRows.{LieAs};
+ghost use Rattle.packed_rows.specs.Packing.{IsPacking, packing, value_packing};
 ghost use Rattle.packed_rows.specs.View.{kinds_of, row_of};
 ghost use Rattle.agg_protocol.specs.States.{most_rows};
-ghost use Rattle.spill_partitions.specs.declared.error.SpillError.TheVariants.{TapeDamaged, TapeFault};
+ghost use Rattle.spill_partitions.specs.declared.error.SpillError.TheVariants.{NoMemory, TapeDamaged, TapeFault};
 ghost use Rattle.having_filter.specs.Kept.{IsWellFormed};
 ghost use Rattle.having_filter.specs.Meaning.{meaning};
 ghost use Rattle.group_runs.specs.Standing.{StandsFor};
@@ -19,7 +20,7 @@ use agg_library::StateRow;
 use agg_protocol::BadState;
 use group_runs::{advance_slice, initial_states};
 use having_filter::Query;
-use packed_rows::{RowError, Value, ValueKind, pack_value, unpack_into};
+use packed_rows::{RowError, Value, ValueKind, pack_value, part_at, unpack_into, unpack_known};
 use spill_partitions::SpillError;
 use std::alloc::{AllocError, Global};
 
@@ -117,6 +118,53 @@ impl<'a> Plan<'a> {
         }
         pack_key_of(self.query, row, key)?;
         Ok(true)
+    }
+
+    /// Reads a packed row of the query's table into `row`, and where each value ends into `ends`, and tells whether WHERE is true of it.
+    /// What both hold before doesn't matter. The only error is `NoMemory`.
+    #[inline(always)]
+    pub(crate) fn select_known<'r>(
+        &self,
+        packed: &'r [u8],
+        row: &mut Vec<Value<'r>>,
+        ends: &mut Vec<usize>,
+    ) -> Result<bool, SpillError>
+        requires plan { IsPlan self.now }
+        requires packing { IsPacking (meaning self.now.query.now).kinds packed.now }
+        ensures row { OnOk result (HasKinds (meaning self.now.query.now).kinds (row_of row.new.items)
+            × (packed.now ≡ packing (row_of row.new.items))) }
+        ensures lie { OnOk result (LieAs packed.now ends.new.items (map value_packing (row_of row.new.items))) }
+        ensures met { IfOk result (λ kept. kept ≡ is_met (column_of (row_of row.new.items))
+            (meaning self.now.query.now).condition) }
+        ensures memory { IfErr result (λ error. error ≡ NoMemory) }
+    {
+        unpack_known(self.query.schema().kinds(), packed, row, ends)?;
+        Ok(self.query.where_true(row))
+    }
+
+    /// The bytes of a packed row that are its key, where the columns of GROUP BY lie side by side. `ends` tells where each value ends.
+    pub(crate) fn key_within<'r>(
+        &self,
+        packed: &'r [u8],
+        row: &[Value<'_>],
+        ends: &[usize],
+    ) -> Option<&'r [u8]>
+        requires plan { IsPlan self.now }
+        requires row { HasKinds (meaning self.now.query.now).kinds (row_of row.now) }
+        requires lie { LieAs packed.now ends.now (map value_packing (row_of row.now)) }
+        ensures { IfSome result (λ key. key.now ≡ packing (key_of (meaning self.now.query.now) (row_of row.now))) }
+    {
+        part_at(packed, ends, self.query.keys())
+    }
+
+    /// Packs the key of a row into `key`, where it takes the place of what was there. The only error is a failed allocation.
+    pub(crate) fn pack_key(&self, row: &[Value<'_>], key: &mut Vec<u8>) -> Result<(), AllocError>
+        requires plan { IsPlan self.now }
+        requires row { HasKinds (meaning self.now.query.now).kinds (row_of row.now) }
+        ensures { OnOk result
+            (key.new.items ≡ packing (key_of (meaning self.now.query.now) (row_of row.now))) }
+    {
+        pack_key_of(self.query, row, key)
     }
 
     /// Makes `states` those of a group of one row. `TapeDamaged` if no group may count a row.

@@ -65,6 +65,7 @@ pub(crate) fn united(alloc: Global, first: &Run, others: &[Run]) -> Result<Run, 
     for run in others {
         push_all(&mut entries, run)?;
     }
+    entries.sort()?; // It merges the runs, each of which is in order.
     sort_distinct(alloc, entries.as_mut_slice())
 }
 

@@ -2,8 +2,8 @@
 use Rattle.std.proofs.Common.{◌≡◌, ℕ, true, List, [], ◌∷◌, map, Option, refl, ap, sym, ◌∙◌, subst}
 use Rattle.std.specs.Prelude.{Ok, Err}
 use Rattle.having_filter.proofs.Words.{AreColumns, kinds, printed, Form, Written, has_columns, placed, checked, checked_places}
-use Rattle.having_filter.proofs.Words.{checked_order, with_order, kinds_fit, PassesFirst, Checked, Asked, order_of, written_of_parts}
-use Rattle.having_filter.proofs.Words.{checked_of, IsKept, PlansFor, written_by_names, label_of}
+use Rattle.having_filter.proofs.Words.{checked_arrangement, with_arrangement, kinds_fit, PassesFirst, Checked, Asked, arrangement_held, arrangement_of}
+use Rattle.having_filter.proofs.Words.{written_of_parts, checked_of, IsKept, PlansFor, written_by_names, label_of}
 use Rattle.packed_rows.specs.Columns.{Column}
 use Rattle.query_checks.specs.declared.error.QueryError.{QueryError}
 use Rattle.query_checks.specs.Spelling.{spelling, canonical_item}
@@ -30,9 +30,9 @@ here : (columns : List Column) (q : Asked) (plan : Plan) (text : List ℕ) (labe
     → AreColumns columns → IsWritable q.written → PassesFirst columns q → text ≡ spelling q → labels ≡ map label_of q.written.items
     → schema_text ≡ printed columns
     → kinds_fit (kinds columns) (placed columns q.written) ≡ true → checked_places columns (placed columns q.written)
-    ≡ Ok (placed columns q.written) → PlansFor (record { columns = columns; written = placed columns q.written; order = order_of q })
+    ≡ Ok (placed columns q.written) → PlansFor (record { columns = columns; written = placed columns q.written; arrangement = arrangement_of q })
     plan
-    → IsKept (record { columns = columns; written = placed columns q.written; order = order_of q }) plan text labels schema_text
+    → IsKept (record { columns = columns; written = placed columns q.written; arrangement = arrangement_of q }) plan text labels schema_text
 here columns q plan text labels schema_text are writable first spelled labelled shown fit passed plans =
     let has = columns_of_query columns q.written first.columns_there in
     record {
@@ -45,49 +45,49 @@ here columns q plan text labels schema_text are writable first spelled labelled 
 
 -- parts that were placed, with a copy of the schema, are a query's
 pub query_of_parts : (schema columns : List Column) (q : Asked) (parts : Parts) → schema ≡ columns → written_of_parts parts
-    ≡ placed columns q.written → parts.order.items ≡ order_of q
-    → checked_of schema parts ≡ record { columns = columns; written = placed columns q.written; order = order_of q }
-query_of_parts schema columns q parts same placed_so ordered_so = λ i. record {
+    ≡ placed columns q.written → arrangement_held parts.arrangement ≡ arrangement_of q
+    → checked_of schema parts ≡ record { columns = columns; written = placed columns q.written; arrangement = arrangement_of q }
+query_of_parts schema columns q parts same placed_so arranged_so = λ i. record {
   columns = same i;
   written = placed_so i;
-  order = ordered_so
+  arrangement = arranged_so
       i;
 }
 
 -- the same of a copy of the schema, and of parts that were placed
 pub kept : (schema columns : List Column) (q : Asked) (parts : Parts) (plan : Plan) (text : List ℕ) (labels : List (List ℕ))
-    (schema_text : List ℕ) → schema ≡ columns → written_of_parts parts ≡ placed columns q.written → parts.order.items ≡ order_of q
+    (schema_text : List ℕ) → schema ≡ columns → written_of_parts parts ≡ placed columns q.written → arrangement_held parts.arrangement ≡ arrangement_of q
     → AreColumns columns → IsWritable q.written → PassesFirst columns q → text ≡ spelling q → labels ≡ map label_of q.written.items
     → schema_text ≡ printed columns
     → kinds_fit (kinds columns) (written_of_parts parts) ≡ true → checked_places columns (written_of_parts parts)
     ≡ Ok (written_of_parts parts) → PlansFor (checked_of columns parts) plan
     → IsKept (checked_of schema parts) plan text labels schema_text
-kept schema columns q parts plan text labels schema_text same placed_so ordered_so are writable first spelled labelled shown fit passed
+kept schema columns q parts plan text labels schema_text same placed_so arranged_so are writable first spelled labelled shown fit passed
     plans =
-    subst (λ (c : Checked). IsKept c plan text labels schema_text) (sym (query_of_parts schema columns q parts same placed_so ordered_so))
+    subst (λ (c : Checked). IsKept c plan text labels schema_text) (sym (query_of_parts schema columns q parts same placed_so arranged_so))
     (here columns q plan text labels schema_text are writable first spelled labelled shown
     (subst (λ (w : Written ℕ). kinds_fit (kinds columns) w ≡ true) placed_so fit)
     (subst (λ (w : Written ℕ). checked_places columns w ≡ Ok w) placed_so passed)
-    (subst (λ (c : Checked). PlansFor c plan) (query_of_parts columns columns q parts refl placed_so ordered_so) plans))
+    (subst (λ (c : Checked). PlansFor c plan) (query_of_parts columns columns q parts refl placed_so arranged_so) plans))
 
 -- the checked query is the one that is kept
 pub checked_here : (schema columns : List Column) (q : Asked) (parts : Parts) → schema ≡ columns → written_of_parts parts
-    ≡ placed columns q.written → parts.order.items ≡ order_of q → PassesFirst columns q
-    → checked_places columns (written_of_parts parts) ≡ Ok (written_of_parts parts) → checked_order q ≡ Ok (order_of q) → checked columns q
+    ≡ placed columns q.written → arrangement_held parts.arrangement ≡ arrangement_of q → PassesFirst columns q
+    → checked_places columns (written_of_parts parts) ≡ Ok (written_of_parts parts) → checked_arrangement q ≡ Ok (arrangement_of q) → checked columns q
     ≡ Ok (checked_of schema parts)
-checked_here schema columns q parts same placed_so ordered_so first passed ordered =
+checked_here schema columns q parts same placed_so arranged_so first passed arranged =
     reaches_places columns q first
-    ∙ (λ i. with_order columns (subst (λ (w : Written ℕ). checked_places columns w ≡ Ok w) placed_so passed i) (ordered i))
-    ∙ ap (λ (c : Checked). Ok c) (sym (query_of_parts schema columns q parts same placed_so ordered_so))
+    ∙ (λ i. with_arrangement columns (subst (λ (w : Written ℕ). checked_places columns w ≡ Ok w) placed_so passed i) (arranged i))
+    ∙ ap (λ (c : Checked). Ok c) (sym (query_of_parts schema columns q parts same placed_so arranged_so))
 
--- a query that fails the checks of places, or that of ORDER BY, which comes behind them
+-- a query that fails the checks of places, or that of what stands behind HAVING, which comes last
 pub refused_places : (columns : List Column) (q : Asked) (error : QueryError) → PassesFirst columns q
     → checked_places columns (placed columns q.written) ≡ Err error → checked columns q ≡ Err error
-refused_places columns q error first refused = reaches_places columns q first ∙ ap (λ r. with_order columns r (checked_order q)) refused
+refused_places columns q error first refused = reaches_places columns q first ∙ ap (λ r. with_arrangement columns r (checked_arrangement q)) refused
 
-pub refused_order : (columns : List Column) (q : Asked) (parts : Parts) (error : QueryError) → written_of_parts parts
+pub refused_arrangement : (columns : List Column) (q : Asked) (parts : Parts) (error : QueryError) → written_of_parts parts
     ≡ placed columns q.written → PassesFirst columns q → checked_places columns (written_of_parts parts) ≡ Ok (written_of_parts parts)
-    → checked_order q ≡ Err error → checked columns q ≡ Err error
-refused_order columns q parts error placed_so first passed refused =
+    → checked_arrangement q ≡ Err error → checked columns q ≡ Err error
+refused_arrangement columns q parts error placed_so first passed refused =
     reaches_places columns q first
-    ∙ (λ i. with_order columns (subst (λ (w : Written ℕ). checked_places columns w ≡ Ok w) placed_so passed i) (refused i))
+    ∙ (λ i. with_arrangement columns (subst (λ (w : Written ℕ). checked_places columns w ≡ Ok w) placed_so passed i) (refused i))

@@ -15,7 +15,7 @@ use Rattle.having_filter.proofs.Words.{Datum, Kind, Bigint_kind, Boolean_kind, T
 use Rattle.having_filter.proofs.Words.{Binary_operator, Conjunction, Disjunction, Comparing, Form, Call, Call_where, Literal, Unary, Binary}
 use Rattle.having_filter.proofs.Words.{Written, map_form, Checked, kind_of_form, kinds_agree, is_boolean, takes_one, takes_two}
 use Rattle.having_filter.proofs.Words.{takes_column, operands_fit, condition_fits, kinds_fit, are_plain, is_grouped, is_column, place}
-use Rattle.having_filter.proofs.Words.{placed, calls_of, distinct_calls, order_of, IsCheckedQuery, by_names}
+use Rattle.having_filter.proofs.Words.{placed, calls_of, distinct_calls, arrangement_of, IsCheckedQuery, by_names}
 use Rattle.grouping_model.specs.Condition as model
 use Rattle.packed_rows.specs.Columns as packed
 use Rattle.agg_protocol.specs.Signatures.{function_number}
@@ -27,6 +27,7 @@ use Rattle.query_checks.specs.DistinctLaws.{all_distinct}
 use Rattle.query_checks.specs.FormLaws.{columns_mapped}
 use Rattle.query_checks.specs.ReadLaws.{both_pass, calls_in_two}
 use Rattle.having_filter.specs.Fitting.{OfOneKind, TakesOne, TakesTwo, OperandsFit, Fits, IsOfRow, IsOfGroup, HasFittingConditions}
+use Rattle.grouping_model.specs.Order.{Arrangement}
 use Rattle.query_checks.specs.declared.order.OrderTerm.{OrderTerm}
 use Rattle.having_filter.specs.PlaceLaws.{placed_name}
 use Rattle.having_filter.specs.NormalLaws.{HasColumns, placed_item, columns_of_query}
@@ -283,13 +284,13 @@ clause_filters columns (Some c) known fit plain =
 
 -- ---- the whole query
 
-placed_fits : (columns : List packed.Column) (w : Written (List ℕ)) (order : List OrderTerm) → HasColumns columns w
+placed_fits : (columns : List packed.Column) (w : Written (List ℕ)) (arrangement : Arrangement OrderTerm) → HasColumns columns w
     → are_plain (placed columns w) ≡ true → kinds_fit (kinds columns) (placed columns w) ≡ true → is_grouped (placed columns w) ≡ true
-    → HasFittingConditions (record { columns = columns; written = placed columns w; order = order })
-placed_fits columns w order has plain fit grouped =
+    → HasFittingConditions (record { columns = columns; written = placed columns w; arrangement = arrangement })
+placed_fits columns w arrangement has plain fit grouped =
     let ks = kinds columns in
     let p = placed columns w in
-    let q : Checked = record { columns = columns; written = p; order = order } in
+    let q : Checked = record { columns = columns; written = p; arrangement = arrangement } in
     let fit_items = list_all (λ item. operands_fit ks item.0) p.items in
     let fit_where = option_map_or (condition_fits ks) p.condition true in
     let fit_having = option_map_or (condition_fits ks) p.having true in
@@ -322,5 +323,5 @@ conditions_fit q is =
     let first = passes_first q.columns w q is.passed in
     let places = passes_places q is.passed in
     subst HasFittingConditions (sym places.same)
-    (placed_fits q.columns w.written (order_of w) (columns_of_query q.columns w.written first.columns_there) places.plain places.fit
+    (placed_fits q.columns w.written (arrangement_of w) (columns_of_query q.columns w.written first.columns_there) places.plain places.fit
     places.grouped)

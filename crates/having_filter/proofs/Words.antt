@@ -10,14 +10,16 @@ pub use Rattle.packed_rows.specs.Columns.{AreColumns, kinds, printed}
 pub use Rattle.packed_rows.specs.ConcatenatedRows.{LieAs}
 pub use Rattle.packed_rows.specs.View.{kind_of, kinds_of, row_of}
 pub use Rattle.query_checks.specs.Calls.{calls_of, distinct_calls}
-unfoldable pub use Rattle.query_checks.specs.Checks.{checked_order, checked_places}
+unfoldable pub use Rattle.query_checks.specs.Checks.{checked_places}
 pub use Rattle.query_checks.specs.Checks.{Checked, PassesFirst, are_plain, checked, condition_fits, has_columns, is_boolean, is_column}
 pub use Rattle.query_checks.specs.Checks.{is_grouped, kind_of_form, kinds_agree, kinds_fit, operands_fit, place, placed, takes_column}
-pub use Rattle.query_checks.specs.Checks.{takes_one, takes_two, with_order}
+pub use Rattle.query_checks.specs.Checks.{takes_one, takes_two, with_arrangement}
 pub use Rattle.query_checks.specs.Forms.{Binary, Binary_operator, Call, Call_where, Comparing, Conjunction, Disjunction, Form, Literal}
 pub use Rattle.query_checks.specs.Forms.{Negation, Testing, Unary, Unary_operator, Written, call_form, form_of, item_form, items_of}
 pub use Rattle.query_checks.specs.Forms.{map_form, map_reads, places_of, with_filter}
-pub use Rattle.query_checks.specs.Order.{Asked, asked_of, order_of}
+unfoldable pub use Rattle.query_checks.specs.Arrangement.{checked_arrangement}
+pub use Rattle.query_checks.specs.Arrangement.{arrangement_held, arrangement_of, asked_of}
+pub use Rattle.query_checks.specs.Order.{Asked}
 pub use Rattle.query_checks.specs.Parts.{checked_of, written_of_parts}
 pub use Rattle.having_filter.specs.Answers.{AllLieIn, Grows, IsPart, LiesIn, outcome_in, outcomes_in}
 pub use Rattle.having_filter.specs.Kept.{IsCheckedQuery, by_names, key_kinds, label_of, written_by_names}

@@ -8,6 +8,7 @@ use Rattle.grouping_model.specs.Datum as datum
 use Rattle.grouping_model.specs.Datum.{Datum, Kind, Bigint_kind, Boolean_kind, Text_kind}
 use Rattle.packed_rows.specs.Columns as packed
 use Rattle.grouping_model.specs.Condition as model
+use Rattle.grouping_model.specs.Order.{Arrangement}
 use Rattle.agg_protocol.specs.Signatures.{function_number, function_at, function_at_back}
 use Rattle.query_checks.specs.Forms.{Unary_operator, Negation, Testing, Binary_operator, Conjunction, Disjunction, Comparing, Form, Column}
 use Rattle.query_checks.specs.Forms.{Call, Call_where, Literal, Unary, Binary, Written}
@@ -148,7 +149,8 @@ columns_back (x ∷ xs) = ap (λ rest. x ∷ rest) (columns_back xs)
 abbrev pub coded_form : Coded (Form ℕ)
 coded_form = code_by Gv itself tree_of form_at form_back
 
--- a query over places by its parts, a term by its own, and a checked query by its columns and its order beside it
+-- a query over places by its parts, a term by its own, what stands behind HAVING by its clauses, and a checked query by
+-- its columns beside all that
 abbrev pub coded_written : Coded (Written ℕ)
 coded_written =
     code_by (List (Form ℕ × Option (List ℕ)) × (Option (Form ℕ) × (List ℕ × Option (Form ℕ))))
@@ -165,10 +167,13 @@ coded_term =
     code_by (ℕ × (Bool × Bool)) (coded× coded_ℕ (coded× coded_bool coded_bool))
     (λ t. (t.item, (t.descending, t.nulls_first))) (λ p. record { item = p.0; descending = p.1.0; nulls_first = p.1.1 }) (λ _. refl)
 
+abbrev pub coded_arrangement : Coded (Arrangement OrderTerm)
+coded_arrangement = code_by (List OrderTerm) (coded_list coded_term) (λ a. a.order) (λ terms. record { order = terms }) (λ _. refl)
+
 abbrev pub coded_checked : Coded Checked
 coded_checked =
-    code_by (List (List ℕ × Kind) × (Written ℕ × List OrderTerm)) (coded× (coded_list (coded× (coded_list coded_ℕ) coded_kind))
-    (coded× coded_written (coded_list coded_term)))
-    (λ q. (map (λ c. (c.name, c.kind)) q.columns, (q.written, q.order)))
-    (λ p. record { columns = map (λ c. record { name = c.0; kind = c.1 }) p.0; written = p.1.0; order = p.1.1 })
-    (λ q i. record { columns = columns_back q.columns i; written = q.written; order = q.order })
+    code_by (List (List ℕ × Kind) × (Written ℕ × Arrangement OrderTerm)) (coded× (coded_list (coded× (coded_list coded_ℕ) coded_kind))
+    (coded× coded_written coded_arrangement))
+    (λ q. (map (λ c. (c.name, c.kind)) q.columns, (q.written, q.arrangement)))
+    (λ p. record { columns = map (λ c. record { name = c.0; kind = c.1 }) p.0; written = p.1.0; arrangement = p.1.1 })
+    (λ q i. record { columns = columns_back q.columns i; written = q.written; arrangement = q.arrangement })

@@ -13,7 +13,7 @@ use Rattle.query_checks.specs.Checks.{Checked, checked}
 use Rattle.query_checks.specs.declared.order.OrderTerm.{OrderTerm}
 use Rattle.query_checks.specs.Order.{Asked}
 pub use Rattle.query_checks.specs.Spelling.{label_of}
-use Rattle.query_checks.specs.Spelling.{canonical_term}
+use Rattle.query_checks.specs.Arrangement.{canonical_arrangement}
 use Rattle.query_checks.specs.Writable.{CanBeAsked}
 use Rattle.having_filter.specs.Meaning.{meaning}
 
@@ -21,7 +21,7 @@ use Rattle.having_filter.specs.Meaning.{meaning}
 abbrev pub name_at : List Column → ℕ → List ℕ
 name_at columns place = unwrap_or (option_map (λ c. c.name) (slice_get columns place)) []
 
--- a checked query over the names of its columns again, and its order by the places of items (own)
+-- a checked query over the names of its columns again, and its terms of ORDER BY by the places of items (own)
 abbrev pub written_by_names : List Column → Written ℕ → Written (List ℕ)
 written_by_names columns q =
     record {
@@ -32,7 +32,7 @@ written_by_names columns q =
     }
 
 abbrev pub by_names : Checked → Asked
-by_names q = record { written = written_by_names q.columns q.written; terms = map canonical_term q.order }
+by_names q = record { written = written_by_names q.columns q.written; arrangement = canonical_arrangement q.arrangement }
 
 -- the names of the columns of an answer (PostgreSQL 17, 7.3.2 Column Labels)
 abbrev pub headers : Checked → List (List ℕ)
@@ -65,4 +65,4 @@ pub record IsCheckedQuery (q : Checked) : Type 0 where
   pub writable : CanBeAsked (by_names q)
   pub passed : checked q.columns (by_names q) ≡ Ok q
   pub well_formed : IsWellFormed (meaning q)
-  pub ordered : AllByRecursion (IsTermOf q.written.items) q.order
+  pub ordered : AllByRecursion (IsTermOf q.written.items) q.arrangement.order

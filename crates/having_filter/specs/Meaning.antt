@@ -6,7 +6,7 @@ use Rattle.grouping_model.specs.Condition as model
 use Rattle.grouping_model.specs.Condition.{Condition}
 use Rattle.grouping_model.specs.Query.{Query, Aggregate, Source}
 use Rattle.grouping_model.specs.Query as query
-use Rattle.grouping_model.specs.Order.{Term}
+use Rattle.grouping_model.specs.Order.{Term, map_arrangement}
 use Rattle.packed_rows.specs.Columns.{kinds}
 use Rattle.query_checks.specs.Forms as form
 use Rattle.query_checks.specs.Forms.{Unary_operator, Negation, Testing, Binary_operator, Conjunction, Disjunction, Comparing, Form, Call}
@@ -76,5 +76,5 @@ meaning q =
       keys = q.written.keys;
       aggregates = map aggregate_of calls;
       having = option_map (group_condition q.written.keys calls) q.written.having;
-      order = map order_term q.order;
+      arrangement = map_arrangement order_term q.arrangement;
     }

@@ -5,7 +5,8 @@ ghost use Rattle.std.specs.Prelude.{IfOk, OnOk, OnErr};
 ghost use Rattle.grouping_model.specs.Aggregates.{Outcome, Plain};
 ghost use Rattle.grouping_model.specs.Datum.{Null};
 ghost use Rattle.agg_protocol.specs.Results.{outcome_of};
-ghost use Rattle.grouping_model.specs.Order.{terms_cmp, ordered};
+ghost use Rattle.grouping_model.specs.Order.{map_arrangement, terms_cmp, ordered, arranged};
+ghost use Rattle.query_checks.specs.Arrangement.{arrangement_held};
 ghost use Rattle.having_filter.specs.Answers.{rows_at, AreBelow};
 ghost use Rattle.having_filter.specs.Meaning.{order_term};
 
@@ -13,7 +14,7 @@ use crate::cells::Values;
 use crate::ordering::compare_by;
 use agg_protocol::ResultValue;
 use packed_rows::bound;
-use query_checks::OrderTerm;
+use query_checks::{Arrangement, OrderTerm};
 use std::alloc::{AllocError, Global};
 use std::cmp::Ordering;
 use std::marker::Model;
@@ -183,19 +184,20 @@ impl Model for Answer {
 }
 
 impl Answer {
-    /// The rows, sorted by the terms of ORDER BY. Rows that no term tells apart keep their order. Without terms it takes no memory. The
-    /// only error is a failed allocation.
-    pub fn in_order(
+    /// The rows as the clauses behind HAVING arrange them: sorted by the terms of ORDER BY. Rows that no term tells apart keep their
+    /// order. Without terms it takes no memory. The only error is a failed allocation.
+    pub fn arranged(
         alloc: Global,
         rows: AnswerRows,
-        terms: &[OrderTerm],
+        arrangement: &Arrangement,
     ) -> Result<Answer, AllocError>
-        ensures { IfOk result (λ answer. answer ≡ ordered (map order_term terms.now) rows) }
+        ensures { IfOk result (λ answer. answer
+            ≡ arranged (map_arrangement order_term (arrangement_held arrangement.now)) rows) }
     {
-        if terms.is_empty() {
+        if arrangement.order.is_empty() {
             return Ok(Answer { rows, places: None });
         }
-        let places = rows.places_in_order(alloc, terms)?;
+        let places = rows.places_in_order(alloc, &arrangement.order)?;
         Ok(Answer {
             rows,
             places: Some(places),

@@ -18,5 +18,6 @@ pub use laws::conditions_of_checked_queries;
 pub use plan::Source;
 pub use query::Query;
 pub use query_checks::{
-    AggCall, Comparison, Cond, IsTest, Item, OrderBy, OrderTerm, QueryError, RawQuery, RawTerm,
+    AggCall, Arrangement, Comparison, Cond, IsTest, Item, OrderBy, OrderTerm, QueryError, RawQuery,
+    RawTerm,
 };

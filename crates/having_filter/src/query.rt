@@ -12,7 +12,7 @@ ghost use Rattle.agg_protocol.specs.Kinds.{function_of};
 ghost use Rattle.query_checks.specs.declared.error.QueryError.TheVariants.{NoMemory};
 ghost use Rattle.query_checks.specs.Forms.{form_of, call_form, items_of, places_of, written_of};
 ghost use Rattle.query_checks.specs.Checks.{Checked, PassesFirst, placed, checked, checked_places, kinds_fit};
-ghost use Rattle.query_checks.specs.Order.{asked_of, order_of};
+ghost use Rattle.query_checks.specs.Arrangement.{asked_of, arrangement_held, arrangement_of};
 ghost use Rattle.query_checks.specs.Calls.{distinct_calls};
 ghost use Rattle.query_checks.specs.Spelling.{spelling};
 ghost use Rattle.query_checks.specs.Writable.{IsWritable};
@@ -27,8 +27,8 @@ use crate::texts::{Texts, labels_of};
 use agg_protocol::{AggKind, ResultValue};
 use packed_rows::{Schema, Value, ValueKind};
 use query_checks::{
-    AggCall, Cond, Item, OrderTerm, Parts, QueryError, RawQuery, check_order, check_parts,
-    text_of_known,
+    AggCall, Arrangement, Cond, Item, OrderTerm, Parts, QueryError, RawQuery, check_arrangement,
+    check_parts, text_of_known,
 };
 use std::alloc::{AllocError, Global};
 use std::marker::Model;
@@ -110,7 +110,8 @@ fn placed_with_plan(
 ) -> Result<(Parts, Plan), QueryError>
     ensures placed { IfOk result (λ made.
         written_of_parts made.0 ≡ placed schema.now (written_of raw.now)) }
-    ensures ordered { IfOk result (λ made. made.0.order.items ≡ order_of (asked_of raw.now)) }
+    ensures arranged { IfOk result (λ made.
+        arrangement_held made.0.arrangement ≡ arrangement_of (asked_of raw.now)) }
     ensures fit { IfOk result (λ made.
         kinds_fit (kinds schema.now) (written_of_parts made.0) ≡ true) }
     ensures passed { IfOk result (λ made. checked_places schema.now (written_of_parts made.0)
@@ -157,7 +158,7 @@ impl Query {
         let texts = texts_of_known(alloc, schema, raw)?;
         let columns = schema.try_clone()?;
         let (parts, plan) = placed_with_plan(alloc, schema, raw)?;
-        check_order(raw)?;
+        check_arrangement(raw)?;
         let kept = Kept {
             schema: columns,
             texts,
@@ -214,10 +215,17 @@ impl Query {
 
     /// The order of the answer: the terms of ORDER BY that are left, each by an item of its own.
     pub fn order(&self) -> &[OrderTerm]
-        ensures order { result.now ≡ self.now.order }
+        ensures order { result.now ≡ self.now.arrangement.order }
         ensures query { IsCheckedQuery self.now }
     {
-        &self.kept.parts.order
+        &self.kept.parts.arrangement.order
+    }
+
+    /// How the rows of the answer are arranged.
+    pub fn arrangement(&self) -> &Arrangement
+        ensures { arrangement_held result.now ≡ self.now.arrangement }
+    {
+        &self.kept.parts.arrangement
     }
 
     /// The distinct calls of the items and of HAVING, by the first of each.

@@ -142,8 +142,8 @@ fn push_holding(
     pushed
 }
 
-/// What a replica holds, as lines: its columns, its query, and of each origin its groups, their bytes in a summary file and the numbers
-/// that are missing. No line comes of one whose file would be too long.
+/// What a replica holds, as lines: its columns, its query, and of each origin its groups, their bytes in a summary file and the missing
+/// numbers. The file is made and read again for this, however long it is. There is no line if memory runs out.
 pub fn holding_lines(alloc: Global, replica: &Replica) -> Result<Vec<String>, AllocError> {
     let mut lines = Vec::new(alloc);
     if let (Ok(file), Ok(known)) = (replica.save(), replica.known()) {
@@ -195,7 +195,8 @@ impl fmt::Display for Sources {
     }
 }
 
-/// What the answer of a replica is made of, as a line. None comes of one whose file would be too long.
+/// What the answer of a replica is made of, as a line. Its summary file is made and read again for this, however long it is. There is none
+/// if memory runs out in reading.
 pub fn answer_line(alloc: Global, replica: &Replica) -> Result<Option<String>, AllocError> {
     let file = replica.save()?;
     let Ok((query, parts)) = decode(alloc, &file) else {

@@ -1,5 +1,4 @@
-//! What is said of what a summary holds, as `known --explain` tells it, of what an answer is made of, as `answer --explain` does, and of
-//! the batches that an answer does not count, since they wait for others.
+//! The lines of `known --explain` and `answer --explain`, and the sentences on early batches that an answer does not count.
 #![tactic(auto)]
 
 mod holding;

@@ -1,15 +1,18 @@
-//! The batches of an answer that wait for others, and those that they wait for.
+//! The early batches that an answer does not count, and the missing ones before them.
 
-ghost use Rattle.std.specs.Prelude.{◌≤◌, length, IfOk};
+ghost use Rattle.std.specs.Prelude.{◌≡◌, ◌-◌, ◌^◌, [], length, map, min, IfOk, OnOk};
+ghost use Rattle.grouping_model.specs.Replies.{known_list};
+ghost use Rattle.replica_merge.specs.Replicas.{known_of, told};
+ghost use Rattle.holding_sentences.specs.Waiting.{has_early, waiting};
 
 use replica_merge::{KnownOrigin, Replica};
 use std::alloc::{AllocError, Global};
 use std::fmt;
 
-/// How many origins are told of whose batches wait.
+/// How many origins with early batches are listed.
 const MAX_ORIGINS: usize = 10;
 
-/// How many numbers, or rows of numbers, are told that are missing of one origin.
+/// How many missing numbers, or ranges of them, of one origin are listed.
 const MAX_MISSING: usize = 10;
 
 /// The numbers that are missing below the last early one: each, or a row of them by its ends.
@@ -110,15 +113,26 @@ fn others_line(alloc: Global, others: usize) -> Result<String, AllocError> {
     )
 }
 
-/// Which batches an answer of a replica does not count, since one before them is missing: a line for each of the first ten origins, and one
-/// for the others. No line where all are counted.
-pub fn waiting_lines(alloc: Global, replica: &Replica) -> Result<Vec<String>, AllocError>
-    ensures few { IfOk result (λ lines. length lines.items ≤ 11) }
+/// Whether an origin has early batches.
+fn is_waiting(known: &KnownOrigin) -> bool
+    ensures { result ≡ has_early (known_of known.now) }
 {
-    let mut lines = Vec::new(alloc);
+    !known.early.is_empty()
+}
+
+/// Appends a line for each of the first ten origins with early batches, and returns how many others there are.
+fn push_waiting(
+    alloc: Global,
+    lines: &mut Vec<String>,
+    list: &[KnownOrigin],
+) -> Result<usize, AllocError>
+    requires { lines.old.items ≡ [] }
+    ensures lines { OnOk result (length lines.new.items ≡ min 10 (waiting (map known_of list.now))) }
+    ensures others { IfOk result (λ others. others ≡ min (waiting (map known_of list.now) - 10) (2 ^ 64 - 1)) }
+{
     let mut others: usize = 0;
-    for known in &replica.known()? {
-        if known.early.is_empty() {
+    for known in list {
+        if !is_waiting(known) {
             continue;
         }
         if lines.len() < MAX_ORIGINS {
@@ -127,6 +141,17 @@ pub fn waiting_lines(alloc: Global, replica: &Replica) -> Result<Vec<String>, Al
             others = others.saturating_add(1);
         }
     }
+    Ok(others)
+}
+
+/// The batches that a replica's answer does not count, since one before them is missing: a line for each of the first ten origins, and one
+/// for the others. There is no line if all are counted.
+pub fn waiting_lines(alloc: Global, replica: &Replica) -> Result<Vec<String>, AllocError>
+    ensures told { IfOk result (λ lines. length lines.items ≡ min 11 (waiting (known_list (told replica.now.parts)))) }
+{
+    let mut lines = Vec::new(alloc);
+    let known = replica.known()?;
+    let others = push_waiting(alloc, &mut lines, &known)?;
     if others > 0 {
         lines.push(others_line(alloc, others)?)?;
     }

@@ -3,9 +3,9 @@
 ghost use Rattle.std.specs.Prelude.{◌≡◌, ◌*◌, ◌%◌, ℕ, List};
 ghost use Rattle.key_hashes.specs.Hashes.{fnv_1a};
 
-/// A hash function: from the bytes of a key to the number by which the key is looked for.
+/// A hash function: from the bytes of a key to the number by which the key is looked up.
 ///
-/// Results are right with any function. Where many keys have the same hash, a table of them is slow.
+/// Results are right with any function. If many keys have the same hash, a table of them is slow.
 pub trait KeyHash {
     /// The hash of a key's bytes.
     ghost hash_of: { Self → List ℕ → ℕ };

@@ -1,4 +1,4 @@
-//! Hash functions of keys: FNV-1a, which anybody can compute, and SipHash-1-3, whose seed is a secret.
+//! Hash functions of keys: FNV-1a, which anybody can compute, and SipHash-1-3, with a secret seed.
 #![tactic(auto)]
 
 mod hash;

@@ -1,4 +1,4 @@
-//! The hash function SipHash-1-3, whose key is a secret.
+//! The hash function SipHash-1-3, with a secret key.
 ghost use Rattle.std.specs.Prelude.{◌≡◌, ◌+◌, ◌%◌, ◌^◌, ◌≤◌, ℕ, List, length};
 ghost use Rattle.key_hashes.specs.SipHashes.{round, first_words, with_word, word_at, last_word, finished, sip_hash, low_hash};
 
@@ -6,8 +6,8 @@ use crate::hash::KeyHash;
 
 /// The 128 bits from which a [`SipHash`] is made.
 ///
-/// Take them from the system's source of random numbers, and keep them secret: whoever knows them can make many keys of one hash. What a
-/// table holds, and in which order, depends on no seed.
+/// Take them from the system's source of random numbers, and keep them secret: whoever knows them can make many keys of one hash. The
+/// contents of a table, and their order, do not depend on the seed.
 #[derive(Clone, Copy, PartialEq, Eq)]
 pub struct Seed {
     /// The first 64 bits: SipHash's `k0`.
@@ -16,8 +16,8 @@ pub struct Seed {
     pub high: u64,
 }
 
-/// The hash function SipHash-1-3 (J.-P. Aumasson, D. J. Bernstein: SipHash, a fast short-input PRF, 2012). Of its 64 bits the low 32 are
-/// taken.
+/// The hash function SipHash-1-3 (J.-P. Aumasson, D. J. Bernstein: SipHash, a fast short-input PRF, 2012), of which the low 32 bits are
+/// used.
 ///
 /// It is made so that nobody finds keys of one hash without the seed; no contract says so.
 #[derive(Clone, Copy)]

@@ -102,7 +102,7 @@ batch_still g hash_of query means part number rows (Err e) disk work apart fault
     refused_still g hash_of query means (AreCounted (aggregations_on part number rows)) (join_reason e.why) disk work faultless.0
     (λ honest. faultless.1)
 
--- a call that is refused at once for want of memory
+-- a call that is refused at once because memory ran out
 pub no_memory_ran : {D H T : Type 0} (g : Ghosts D) (hash_of : H → List ℕ → ℕ) (query : Checked) (means : MeansState H)
     (Counts : Counting) (r : Result T SpillError) (disk : D) (work : Work) → IsErrAnd r (λ e. e ≡ NoMemory)
     → Ran g hash_of query means Counts (ended r) disk work disk work

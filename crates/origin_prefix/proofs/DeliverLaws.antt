@@ -123,7 +123,7 @@ unknown part number above none =
     let out : nat_le number part.prefix ≡ false = grind arith in λ i. and_right (nat_le 1 number) (nat_le number part.prefix) out i
     || is_some (none i)
 
--- and so it may be refused for want of memory
+-- and so it may be refused because memory ran out
 pub kept_refuses : (old new : Part) (batch : Batch) (r : Result Delivered RefusedBatch) → tells old batch.number ≡ false
     → IfErr r (λ e. (e.batch ≡ batch) × (e.why ≡ no_memory) × (new ≡ old)) → IfErr r (Refuses old batch new)
 kept_refuses old new batch r unknown refused =

@@ -7,7 +7,7 @@ use Rattle.origin_prefix.specs.declared.error.JoinError.{JoinError}
 use Rattle.origin_prefix.specs.declared.error.JoinError.TheVariants.{OriginDisagrees, Spill}
 use Rattle.origin_prefix.specs.declared.error.RefusedBatch.{RefusedBatch}
 
--- want of memory
+-- out of memory
 abbrev pub no_memory : JoinError
 no_memory = Spill NoMemory
 

@@ -7,7 +7,7 @@ use Rattle.grouping_model.specs.declared.limits.TheConstants.{LAST_ORIGIN}
 use Rattle.query_checks.specs.Checks.{Checked}
 use Rattle.origin_prefix.specs.Parts.{Part, IsPartOf}
 
--- the parts of some origins, by rising origin
+-- the parts of some origins, by ascending origin
 abbrev pub Parts : Type 0
 Parts = List (ℕ × Part)
 

@@ -1,4 +1,4 @@
--- What becomes of two parts of one origin that are joined. All of this is our own.
+-- Joining two parts of one origin. All of this is our own.
 use Rattle.std.specs.Prelude.{◌≡◌, ◌≢◌, ℕ, ◌+◌, ◌<◌, ◌≤◌, ◌⊎◌, max, nat_lt, nat_eq, Bool, List, [], map, length, Option, Some, None, option_map}
 use Rattle.std.specs.Prelude.{unwrap_or}
 use Rattle.std.specs.Prelude.{if◌then◌else◌, Result, IfOk, IfErr, OnOk}
@@ -15,7 +15,7 @@ use Rattle.query_checks.specs.Checks.{Checked}
 use Rattle.having_filter.specs.Meaning.{meaning}
 use Rattle.origin_prefix.specs.Parts.{Batches, Part, rows_at, IsPartOf, Drains, aggregations_behind}
 
--- the part whose prefix is the longer one, and the other
+-- the part with the longer prefix, and the other
 abbrev pub longer : Part → Part → Part
 longer a b = if nat_lt a.prefix b.prefix then b else a
 
@@ -27,7 +27,7 @@ abbrev pub either : {X : Type 0} → Option X → Option X → Option X
 either None y = y
 either (Some x) y = Some x
 
--- a number behind another one is there in both, with different rows
+-- a number after another one is in both, with different rows
 pub record DiffersAt (above : ℕ) (one other : Batches) (number : ℕ) : Type 0 where
   pub behind : above < number
   pub rows : List (List ℕ)
@@ -45,11 +45,11 @@ IsFirstDifference above one other None = ¬ (DiffersBehind above one other)
 IsFirstDifference above one other (Some number) = DiffersAt above one other number
     × ((lower : ℕ) → lower < number → ¬ (DiffersAt above one other lower))
 
--- two parts disagree: the same prefix has different groups, or a number behind both prefixes different rows
+-- two parts disagree: the same prefix has different groups, or a number after both prefixes has different rows
 abbrev pub PartsDisagree : Part → Part → Type 0
 PartsDisagree a b = ((a.prefix ≡ b.prefix) × (a.run ≢ b.run)) ⊎ DiffersBehind (max a.prefix b.prefix) a.early b.early
 
--- where they do first: in the groups of the same prefix, or at the first such number
+-- their first disagreement: the groups of the same prefix, or the first such number
 abbrev pub DisagreeAt : Option ℕ → Part → Part → Type 0
 DisagreeAt None a b = (a.prefix ≡ b.prefix) × (a.run ≢ b.run)
 DisagreeAt (Some number) a b = (a.prefix ≡ b.prefix → a.run ≡ b.run)
@@ -60,7 +60,7 @@ abbrev pub JoinTells : JoinError → Part → Part → Type 0
 JoinTells (OriginDisagrees number) a b = DisagreeAt number a b
 JoinTells (Spill error) a b = ¬ (PartsDisagree a b)
 
--- the batches behind a number that are early in either of two parts, by rising number
+-- the batches behind a number that are early in either of two parts, by ascending number
 pub record Unites (prefix : ℕ) (a b : Part) (behind : Batches) : Type 0 where
   pub rising : IsStrictlySortedBy nat_cmp (map (λ (batch : ℕ × List (List ℕ)). batch.0) behind)
   pub above : AllByRecursion (λ (batch : ℕ × List (List ℕ)). prefix < batch.0) behind
@@ -78,13 +78,13 @@ pub record Includes (own other : Part) : Type 0 where
   pub groups : own.prefix ≡ other.prefix → own.run ≡ other.run
   pub early : AreAmong own.prefix other.early own.early
 
--- what two parts give that are joined: the longer prefix's groups, and the early batches of both, as far as they follow, folded
+-- the join of two parts: the longer prefix's groups, and the early batches of both, folded as far as they follow
 pub record Joins (honest : Bool) (query : Query) (a b new : Part) : Type 0 where
   pub behind : Batches
   pub united : Unites (longer a b).prefix (longer a b) (shorter a b) behind
   pub drained : Drains honest query (longer a b).prefix (longer a b).run behind new
 
--- what two parts do that are joined: they agree and give a part of the query, or what refuses them says why
+-- joining two parts: they agree and give a part of the query, or the refusal says why not
 pub record Joining (honest : Bool) (query : Checked) (a b : Part) (result : Result Part JoinError) : Type 0 where
   pub joins : IfOk result (Joins honest (meaning query) a b)
   pub part : IfOk result (IsPartOf query)
@@ -112,7 +112,7 @@ gaining own aside = record {
 abbrev pub settled : (own aside : Part) → Part
 settled own aside = if nat_eq aside.prefix 0 then gaining own aside else aside
 
--- a part keeps its prefix and its groups where it is joined with another one, whose prefix is not longer and whose early batches don't follow
+-- a part keeps its prefix and its groups if the other one's prefix is not longer and none of its early batches follow
 pub record KeepsGroups (own other : Part) : Type 0 where
   pub longer : other.prefix ≤ own.prefix
   pub gap : rows_at other.early (own.prefix + 1) ≡ None
@@ -133,7 +133,7 @@ pub record JoiningAside (honest : Bool) (query : Checked) (a b : Part) (result :
   pub agree : OnOk result (¬ (PartsDisagree a b))
   pub tells : IfErr result (λ why. JoinTells why a b)
 
--- what joining two parts takes was counted: the aggregation of the early batches of both that follow the longer prefix
+-- the cost of joining two parts was counted: the aggregation of the early batches of both that follow the longer prefix
 pub record UniteIsCounted (long short : Part) (query : Query) (setting : Setting) (old : Work) (writes : ℕ) (new : Work) (written : ℕ) :
     Type 0 where
   pub behind : Batches
@@ -143,7 +143,7 @@ pub record UniteIsCounted (long short : Part) (query : Query) (setting : Setting
 abbrev pub JoinIsCounted : (a b : Part) → Query → Setting → Work → ℕ → Work → ℕ → Type 0
 JoinIsCounted a b = UniteIsCounted (longer a b) (shorter a b)
 
--- a part stays where it is joined with another one: both agree, they give it again, and nothing is aggregated
+-- joining a part with another one gives it again: both agree, and nothing is aggregated
 pub record StaysJoined (query : Checked) (own other : Part) : Type 0 where
   pub joins : (honest : Bool) → Joins honest (meaning query) own other own
   pub agree : ¬ (PartsDisagree own other)

@@ -1,4 +1,4 @@
--- What is held of one origin, and what becomes of it where batches follow its prefix. All of this is our own.
+-- What is held of one origin, and how it changes when batches follow its prefix. All of this is our own.
 use Rattle.std.specs.Prelude.{◌≡◌, ◌≢◌, ℕ, suc, ◌+◌, ◌*◌, ◌<◌, ◌≤◌, ◌==◌, ◌||◌, ◌&&◌, Bool, false, nat_le, nat_eq, List, [], ◌∷◌, map, take}
 use Rattle.std.specs.Prelude.{drop, length, Option, Some, None, if◌then◌else◌, IsTrue, Result, IfOk, IfErr}
 use Rattle.std.specs.List.{AllByRecursion}
@@ -34,14 +34,14 @@ pub record Part : Type 0 where
   pub prefix : ℕ
   -- the groups of their rows
   pub run : List Entry
-  -- the batches that came early, by rising number
+  -- the batches that came early, by ascending number
   pub early : Batches
 
 -- nothing is held
 abbrev pub empty : Part
 empty = record { prefix = 0; run = []; early = [] }
 
--- the rows of a batch, where it is among these
+-- the rows of a batch, if it is among these
 abbrev pub rows_at : Batches → ℕ → Option (List (List ℕ))
 rows_at batches number = lookup (eq_by_cmp nat_cmp number) batches
 
@@ -53,13 +53,13 @@ tells part number = (nat_le 1 number && nat_le number part.prefix) || is_some (r
 abbrev pub is_nothing : Part → Bool
 is_nothing part = nat_eq part.prefix 0 && nat_eq (length part.early) 0
 
--- a batch that may follow a prefix, at once or later
+-- a batch that may follow a prefix, now or later
 pub record IsBehind (kinds : List Kind) (prefix : ℕ) (batch : ℕ × List (List ℕ)) : Type 0 where
   pub behind : prefix < batch.0
   pub within : batch.0 ≤ LAST_NUMBER
   pub rows : ArePackedRows kinds batch.1
 
--- a batch that may be early behind a prefix: one number at least is between them
+-- a batch that may be early after a prefix: at least one number is between them
 abbrev pub IsEarly : List Kind → ℕ → ℕ × List (List ℕ) → Type 0
 IsEarly kinds prefix = IsBehind kinds (prefix + 1)
 
@@ -89,18 +89,18 @@ following number (batch ∷ batches) = if batch.0 == number + 1 then suc (follow
 abbrev pub rows_following : ℕ → Batches → List (List (List ℕ))
 rows_following number batches = map (λ (batch : ℕ × List (List ℕ)). batch.1) (take (following number batches) batches)
 
--- batches are folded into a run that counts at most so many rows: it becomes what is answered of it and of them, over a disk that may be
--- honest, and it stays what it is where there are none
+-- batches are folded into a run that counts at most so many rows: it becomes the run of its groups and theirs, over a disk that may be
+-- honest, and it stays the same if there are none
 abbrev pub Folds : (honest : Bool) → Query → List Entry → ℕ → List (List (List ℕ)) → List Entry → Type 0
 Folds honest query old rows [] new = new ≡ old
 Folds honest query old rows (batch ∷ batches) new = Aggregated honest query (Counted old rows ∷ map Packed (batch ∷ batches)) new
 
--- the batches behind a prefix: the early ones, and the one next to it where its rows are given
+-- the batches after a prefix: the early ones, and the one next to it if its rows are given
 abbrev pub behind : ℕ → Batches → Option (List (List ℕ)) → Batches
 behind prefix early None = early
 behind prefix early (Some rows) = (prefix + 1, rows) ∷ early
 
--- the aggregations that folding takes of the batches behind a prefix that follow it without a gap: one of all of them, if there are any
+-- the aggregations that folding takes, of the batches after a prefix that follow it without a gap: one of all of them, if there are any
 abbrev pub aggregation_of : List (List (List ℕ)) → List (List Brought)
 aggregation_of [] = []
 aggregation_of (batch ∷ batches) = map Packed (batch ∷ batches) ∷ []
@@ -130,19 +130,19 @@ IsOpenWith query part next = IsOpen query part.prefix part.run (behind part.pref
 abbrev pub DrainsWith : (honest : Bool) → Query → Part → Option (List (List ℕ)) → Part → Type 0
 DrainsWith honest query old next new = Drains honest query old.prefix old.run (behind old.prefix old.early next) new
 
--- a batch is there already, with other rows
+-- a batch is known early, with other rows
 pub record Disagrees (part : Part) (number : ℕ) (rows : List (List ℕ)) : Type 0 where
   pub kept : List (List ℕ)
   pub there : rows_at part.early number ≡ Some kept
   pub other : kept ≢ rows
 
--- what a refusal of a batch says of the part that doesn't take it: where it disagrees it is there with other rows, and anything else is a
--- reason only for a number that is not told
+-- what a refusal of a batch says of the part that doesn't take it: if it disagrees, it is early with other rows; anything else is a reason
+-- only for a number that is not told
 abbrev pub BatchTells : JoinError → Part → ℕ → List (List ℕ) → Type 0
 BatchTells (OriginDisagrees told) part number rows = (told ≡ Some number) × Disagrees part number rows
 BatchTells (Spill error) part number rows = tells part number ≡ false
 
--- what becomes of a part to which a batch is delivered, and what is replied
+-- the part after a batch is delivered to it, and the reply
 abbrev pub Delivers : (honest : Bool) → Query → Part → ℕ → List (List ℕ) → Part → Delivered → Type 0
 Delivers honest query old number rows new reply.Known =
     IsTrue (tells old number) × ((kept : List (List ℕ)) → rows_at old.early number ≡ Some kept → kept ≡ rows) × (new ≡ old)
@@ -151,13 +151,13 @@ Delivers honest query old number rows new reply.Early =
 Delivers honest query old number rows new (reply.Folded upto) =
     (number ≡ old.prefix + 1) × (upto ≡ new.prefix) × DrainsWith honest query old (Some rows) new
 
--- a batch is refused to a part: it is handed back, the part stays, and why
+-- a part refuses a batch: it is handed back, the part stays, and the reason
 pub record Refuses (old : Part) (batch : packed.Batch) (new : Part) (refused : RefusedBatch) : Type 0 where
   pub back : refused.batch ≡ batch
   pub same : new ≡ old
   pub tells : BatchTells refused.why old batch.number batch.rows
 
--- a batch is delivered to a part of a query: the part takes it or refuses it, and is one of the query in any case
+-- a batch is delivered to a part of a query: the part takes it or refuses it, and in either case stays one of the query
 pub record Delivery (honest : Bool) (query : Checked) (old : Part) (batch : packed.Batch) (new : Part)
     (result : Result Delivered RefusedBatch) : Type 0 where
   pub delivers : IfOk result (Delivers honest (meaning query) old batch.number batch.rows new)

@@ -44,7 +44,7 @@ pub(crate) fn add_following<'a>(
     Ok(upto)
 }
 
-/// Gives up the first early batches, so many.
+/// Removes so many of the first early batches.
 pub(crate) fn drop_first(early: &mut BTreeMap<u32, PackedRows>, count: u32)
     ensures { early.new.entries ≡ drop count early.old.entries }
 {

@@ -12,14 +12,14 @@ use thiserror::Error;
 /// Why a batch is not taken, or parts are not joined.
 #[derive(Clone, Copy, Debug, PartialEq, Eq, Error)]
 pub enum JoinError {
-    /// A number of the origin has two different batches: this one, which is early, or where none is told, one within equal prefixes,
-    /// which have different groups.
+    /// A number of the origin has two different batches: the given one, which is early, or else one within equal prefixes that have
+    /// different groups.
     #[error("one number of an origin has two different batches")]
     OriginDisagrees {
         /// The number, if it is early.
         number: Option<u32>,
     },
-    /// Memory was wanting, or the disk of tapes failed while batches were folded.
+    /// Memory ran out, or the tape disk failed while batches were folded.
     #[error(transparent)]
     Spill(SpillError),
 }

@@ -19,10 +19,9 @@ use std::alloc::AllocError;
 use std::collections::BTreeMap;
 
 impl OriginPart {
-    /// The longer prefix of two parts of one origin with its groups, and the early batches of both, of which those are folded that
-    /// follow it without a gap. Parts disagree whose prefixes are equal with different groups, or that have different rows of one
-    /// number behind both prefixes. What the aggregation of those that are folded took is added to `work`; a
-    /// refusal adds nothing to it.
+    /// The longer prefix of two parts of one origin with its groups, and the early batches of both. Those that follow the prefix without a
+    /// gap are folded. Parts disagree if their prefixes are equal with different groups, or if they have different rows of one number
+    /// after both prefixes. The cost of aggregating the folded batches is added to `work`; a refusal adds nothing.
     pub fn join<H: KeyHash + Copy, D: TapeDisk>(
         &self,
         other: &OriginPart,
@@ -44,8 +43,8 @@ impl OriginPart {
         Ok(self.united(other, query, means, disk, work)?)
     }
 
-    /// What this part takes in so that it is what [`join`](OriginPart::join) gives of both: [`settle`](OriginPart::settle) moves it in. Where
-    /// early batches alone are added, neither the groups nor the rows of this part are copied.
+    /// What this part takes in to become what [`join`](OriginPart::join) gives of both: [`settle`](OriginPart::settle) moves it in. If only
+    /// early batches are added, neither the groups nor the rows of this part are copied.
     pub fn join_aside<H: KeyHash + Copy, D: TapeDisk>(
         &self,
         other: &OriginPart,
@@ -67,7 +66,7 @@ impl OriginPart {
         Ok(self.early_aside(other)?)
     }
 
-    /// Takes the place of another part of the origin: this one has stood aside for it since both were joined. It takes no memory.
+    /// Replaces another part of the origin, for which [`join_aside`](OriginPart::join_aside) built this one. It takes no memory.
     pub fn settle(&mut self, own: OriginPart)
         ensures { self.new ≡ settled own self.old }
     {
@@ -89,7 +88,7 @@ impl OriginPart {
         self.run = run;
     }
 
-    /// Whether this part keeps its prefix and its groups where it is joined with another one.
+    /// Whether this part keeps its prefix and its groups if it is joined with another one.
     fn keeps_groups(&self, other: &OriginPart) -> bool
         ensures { IsTrue result ↔ ((self.now.prefix ≢ LAST_NUMBER) × KeepsGroups self.now other.now) }
     {
@@ -102,7 +101,7 @@ impl OriginPart {
         !other.early.contains_key(&(self.prefix + 1))
     }
 
-    /// The early batches of both parts behind the prefix of this one, with a place for each of its own.
+    /// The early batches of both parts after the prefix of this one, with a place for each of its own.
     fn early_aside(&self, other: &OriginPart) -> Result<OriginPart, AllocError>
         ensures { IfOk result (StandAside self.now other.now) }
     {
@@ -111,9 +110,9 @@ impl OriginPart {
         Ok(OriginPart::from_fields(self.alloc, 0, Run::new(self.alloc), early))
     }
 
-    /// Whether this part includes another one of the origin: then both agree, and joined they give this part again, so that a caller need
-    /// not copy it. That is so where the other's prefix is not longer, has the same groups if it is as long, and its early batches behind
-    /// the prefix are early here too.
+    /// Whether this part includes another one of the origin: then both agree, and joining them gives this part again, so a caller need
+    /// not copy it. It does if the other's prefix is not longer, has the same groups if it is as long, and its early batches after the
+    /// prefix are early here, too.
     pub fn includes(&self, other: &OriginPart) -> bool
         ensures { IsTrue result ↔ Includes self.now other.now }
     {
@@ -126,7 +125,7 @@ impl OriginPart {
         are_among(self.prefix, &other.early, &self.early)
     }
 
-    /// Refuses parts that disagree, and tells where they do first.
+    /// Refuses parts that disagree, and gives the first disagreement.
     fn agree(&self, other: &OriginPart) -> Result<(), JoinError>
         ensures agree { IfOk result (λ _. ¬ (PartsDisagree self.now other.now)) }
         ensures disagree { IfErr result (λ why. (number : Option ℕ) × (why ≡ OriginDisagrees number)

@@ -14,7 +14,7 @@ ghost use Rattle.origin_prefix.specs.Fitting.{FitsOrigin};
 ghost use Rattle.origin_prefix.specs.Parts.{Part, tells, IsPartOf, Delivers, Disagrees};
 ghost use Rattle.origin_prefix.specs.Joins.{Joins, PartsDisagree, Includes, StaysJoined};
 
-/// What a part tells after a batch was delivered is that number more, and what joined parts tell is what either tells.
+/// After a delivery a part tells one more number, and joined parts tell what either tells.
 pub fn told_numbers()
     ensures delivered { (honest : Bool) (query : Checked) (q : Query) (old new : Part) (number : ℕ) (rows : List (List ℕ))
         (reply : Delivered) → IsPartOf query old → 1 ≤ number → Delivers honest q old number rows new reply →
@@ -23,7 +23,7 @@ pub fn told_numbers()
         IsPartOf query b → Joins honest q a b new → (m : ℕ) → tells new m ≡ (tells a m || tells b m) }
 {}
 
-/// Parts that fit a world fit it still when they take a batch of the world and when they are joined, and none of this is refused for
+/// Parts that fit a world still fit it after they take a batch of the world or are joined, and none of this is refused for
 /// disagreement.
 pub fn fitting_parts()
     ensures delivered { (honest : Bool) → IsTrue honest → (query : Checked) (world : World) (origin number : ℕ) (old new : Part)
@@ -44,7 +44,7 @@ pub fn fitting_parts()
         ¬ (PartsDisagree a b) }
 {}
 
-/// A part that includes another one stays where it is joined with that.
+/// Joining a part with one that it includes gives the same part.
 pub fn included_parts()
     ensures { (query : Checked) (own other : Part) → IsPartOf query own → Includes own other → StaysJoined query own other }
 {}

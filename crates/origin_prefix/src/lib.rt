@@ -1,4 +1,4 @@
-//! What a replica holds of one origin: the groups of its unbroken prefix, and the batches that came early.
+//! What a replica holds of one origin: the groups of its unbroken prefix, and its early batches.
 #![tactic(auto)]
 
 mod early;

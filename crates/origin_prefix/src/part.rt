@@ -30,7 +30,7 @@ use std::alloc::{AllocError, Global};
 use std::collections::BTreeMap;
 use std::marker::Model;
 
-/// What is held of one origin: its unbroken prefix, the groups of the rows of these batches, and the batches that came early.
+/// What is held of one origin: its unbroken prefix, the groups of the prefix's rows, and the early batches.
 #[derive(Drop)]
 pub struct OriginPart {
     pub(crate) alloc: Global,
@@ -57,7 +57,7 @@ pub fn most_rows(number: u32) -> u64
     u64::from(number) * u64::from(MAX_ROWS)
 }
 
-/// What is replied to a batch whose number is kept early, with these rows.
+/// The reply to a batch whose number is early already, with these rows.
 fn known_again(kept: &PackedRows, batch: Batch) -> Result<Delivered, RefusedBatch>
     ensures known { IfOk result (λ reply. (reply ≡ Known) × (kept.now ≡ batch.rows)) }
     ensures other { IfErr result (λ e. (e.batch ≡ batch)
@@ -71,8 +71,8 @@ fn known_again(kept: &PackedRows, batch: Batch) -> Result<Delivered, RefusedBatc
     Err(RefusedBatch { batch, why })
 }
 
-/// The rows of the batch next to a prefix, where they are given, and of the early batches that follow without a gap, as inputs, and
-/// the last of their numbers.
+/// The rows of the batch next to a prefix, if given, and of the early batches that follow without a gap, as inputs, and the last of
+/// their numbers.
 fn following_inputs<'a>(
     alloc: Global,
     prefix: u32,
@@ -111,7 +111,7 @@ impl OriginPart {
         }
     }
 
-    /// A part of these: the unbroken prefix, the groups of its rows, and the batches that came early.
+    /// A part of the unbroken prefix, the groups of its rows, and the early batches.
     pub fn from_fields(
         alloc: Global,
         prefix: u32,
@@ -142,7 +142,7 @@ impl OriginPart {
         &self.run
     }
 
-    /// The batches that came early, by rising number.
+    /// The early batches, by ascending number.
     pub fn early(&self) -> &BTreeMap<u32, PackedRows>
         ensures { result.now.entries ≡ self.now.early }
     {
@@ -163,8 +163,8 @@ impl OriginPart {
         number <= self.prefix || self.early.contains_key(&number)
     }
 
-    /// Folds the early batches that follow the prefix without a gap, behind the rows of the batch next to it where these
-    /// are given; what their aggregation took is added to `work`. A refusal changes nothing.
+    /// Folds the early batches that follow the prefix without a gap, after the rows of the batch next to it, if these are given.
+    /// The cost of aggregating them is added to `work`. A refusal changes nothing.
     pub(crate) fn drain<H: KeyHash + Copy, D: TapeDisk>(
         &mut self,
         query: &Query,
@@ -234,10 +234,10 @@ impl OriginPart {
         }
     }
 
-    /// Takes a batch of the origin for a query, whose table it is a batch of. A number that is known already changes nothing; one
-    /// next to the unbroken prefix is folded with the early ones that follow without a gap, by `means` and over a disk; any other is
-    /// kept until then. A refused batch is handed back and changes nothing: one whose number is kept early with other rows disagrees. A
-    /// number within the prefix is known, whatever its rows. What the aggregation of the batches that are folded took is added to `work`.
+    /// Takes a batch of the origin, for a query over the batch's columns. A known number changes nothing. A batch next to the unbroken
+    /// prefix is folded with the early ones that follow without a gap, by `means` and over a disk; any other is kept until then. A refused
+    /// batch is handed back and changes nothing: one whose number is early with other rows disagrees. A number within the prefix is known,
+    /// whatever its rows. The cost of aggregating the folded batches is added to `work`.
     pub fn deliver<H: KeyHash + Copy, D: TapeDisk>(
         &mut self,
         query: &Query,

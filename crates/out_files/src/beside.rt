@@ -5,10 +5,10 @@ use std::io;
 use std::io::ErrorKind;
 use std::rt::Files;
 
-/// How many names are tried for the new file that takes the place of an old one.
+/// How many names are tried for the new file that replaces an old one.
 const MAX_ATTEMPTS: u32 = 100;
 
-/// What the folder of a path is written as, with the slash at its end.
+/// The folder of a path, as it is written, with its last slash.
 fn folder_of(path: &str) -> &str {
     match path.rfind('/') {
         Some(end) => path.get(..end.saturating_add(1)).unwrap_or(""),
@@ -16,7 +16,7 @@ fn folder_of(path: &str) -> &str {
     }
 }
 
-/// Makes an empty file whose path begins so, and answers its path.
+/// Creates an empty file whose path begins so, and answers its path.
 fn create_named<R: Files + AllocGlobal>(rt: &R, front: &str) -> io::Result<(String, R::File)> {
     for attempt in 0..MAX_ATTEMPTS {
         let beside = format!(in rt.alloc(); "{front}.part{attempt}")?;
@@ -29,8 +29,8 @@ fn create_named<R: Files + AllocGlobal>(rt: &R, front: &str) -> io::Result<(Stri
     Err(io::Error::from(ErrorKind::AlreadyExists))
 }
 
-/// Makes an empty file beside that of a path, and answers its path: under the name of that with `.part0` behind it, or `.agg_tool.part0`
-/// where that would be too long.
+/// Creates an empty file beside that of a path, and answers its path: the same name with `.part0` after it, or `.agg_tool.part0` if that
+/// would be too long.
 pub(crate) fn create_beside<R: Files + AllocGlobal>(
     rt: &R,
     path: &str,

@@ -1,4 +1,4 @@
-//! What stands in the place of a file.
+//! What exists at a path.
 
 use std::fs::Metadata;
 use std::io::ErrorKind;
@@ -6,14 +6,14 @@ use std::os::unix::fs::MetadataExt;
 use std::rt::Files;
 use std::{fs, io};
 
-/// What is there at a path.
+/// What exists at a path.
 #[derive(Clone, Copy)]
 pub enum Occupant {
-    /// Nothing, or a link that leads nowhere.
+    /// Nothing, or a dangling link.
     Nothing,
     /// A folder, a device or a pipe.
     Special,
-    /// The file that a list has at this place.
+    /// The file at this place of a list.
     Listed(usize),
     /// Another regular file.
     Another,
@@ -29,7 +29,7 @@ fn is_same_file<R: Files>(rt: &R, found: &Metadata, path: &str) -> io::Result<bo
     }
 }
 
-/// What is there at a path, beside a list of files, of which the first that is it is told. The error is that it can't be found out.
+/// What exists at a path. If it is one of the files of a list, the first place of it is given. The error is that this can't be found out.
 pub fn occupant_of<R: Files>(rt: &R, path: &str, listed: &[&str]) -> io::Result<Occupant> {
     let found = match fs::metadata(rt, path) {
         Ok(found) => found,

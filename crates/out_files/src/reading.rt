@@ -1,6 +1,7 @@
-//! What a file has.
+//! The bytes of a file.
 
 ghost use Rattle.std.specs.Prelude.{◌≡◌, ◌≤◌, IfOk, length, true, false};
+ghost use Rattle.std.specs.Io.KnownBytes.{ReadConsumes};
 ghost use Rattle.out_files.specs.Reading.{GaveAll, HadOthers};
 
 use std::fs::File;
@@ -8,7 +9,7 @@ use std::io::Read;
 use std::rt::Files;
 use std::{fs, io};
 
-/// How many bytes one call of `read` is asked for.
+/// How many bytes one call of `read` asks for.
 const CHUNK_BYTES: usize = 8192;
 
 /// Whether a reader gives these bytes, and no more.
@@ -30,7 +31,7 @@ pub fn gives<F: Read>(reader: &mut F, bytes: &[u8]) -> io::Result<bool>
     }
 }
 
-/// Whether the file of a path has these bytes. One that is not there has none.
+/// Whether the file of a path has these bytes. A file that does not exist has none.
 pub(crate) fn has_bytes<R: Files>(rt: &R, path: &str, bytes: &[u8]) -> io::Result<bool> {
     match fs::open(rt, path) {
         Ok(mut file) => gives(&mut file, bytes),
@@ -39,10 +40,19 @@ pub(crate) fn has_bytes<R: Files>(rt: &R, path: &str, bytes: &[u8]) -> io::Resul
     }
 }
 
-/// Reads the first bytes of a file, by one call of `read`, and answers how many it gave.
+/// Reads the first bytes that a reader has left, by one call of `read`, and answers how many it gave: none only at its end, or where there
+/// is no room for one.
+pub fn front_from<F: Read>(reader: &mut F, front: &mut [u8]) -> io::Result<usize>
+    ensures bound { IfOk result (λ count. count ≤ length front.new) }
+    ensures read { ReadConsumes (F.remaining reader.old) (F.remaining reader.new) result front.new }
+{
+    reader.read(front)
+}
+
+/// Reads the first bytes of a file, as [`front_from`] reads them of a reader, and answers how many they are.
 pub fn front_of<R: Files>(rt: &R, path: &str, front: &mut [u8]) -> io::Result<usize>
     ensures bound { IfOk result (λ count. count ≤ length front.new) }
 {
     let mut file: R::File = File::open(rt, path)?;
-    file.read(front)
+    front_from(&mut file, front)
 }

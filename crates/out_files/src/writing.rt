@@ -11,9 +11,9 @@ use std::{fs, io};
 /// Why a file was not written.
 #[derive(Clone, Copy)]
 pub enum Unwritten {
-    /// Other bytes stand there by now than those that were to be replaced.
+    /// The file no longer has the bytes that were to be replaced.
     Changed,
-    /// The system could not do it.
+    /// A system call failed.
     Failed(io::Error),
 }
 
@@ -29,7 +29,7 @@ fn fill<F: Write + OpenFile>(file: &mut F, bytes: &[u8]) -> io::Result<()> {
     file.sync_all()
 }
 
-/// Refuses to go on where the file of a path has other bytes than old ones, if these are known.
+/// Stops if the file of a path no longer has its old bytes, if these are known.
 fn keep_others<R: Files>(rt: &R, path: &str, old: Option<&[u8]>) -> Result<(), Unwritten> {
     match old {
         Some(bytes) if !has_bytes(rt, path, bytes)? => Err(Unwritten::Changed),
@@ -37,8 +37,8 @@ fn keep_others<R: Files>(rt: &R, path: &str, old: Option<&[u8]>) -> Result<(), U
     }
 }
 
-/// Whether the system does not let a file take a place, though it may let the one be written over that stands there: it is another user's
-/// in a folder where each may move his own alone, or a file system is mounted on it.
+/// Whether the system does not let a file be replaced, though it may be overwritten in place: it is another user's in a folder with the
+/// sticky bit, or a file system is mounted on it.
 fn is_unmovable(error: io::Error) -> bool {
     matches!(
         error.kind(),
@@ -46,8 +46,8 @@ fn is_unmovable(error: io::Error) -> bool {
     )
 }
 
-/// Fills a new file for the place of the one of a path, or of none, and gives it that place. The answer is whether it took it: where the
-/// system does not let it, the path has what it had.
+/// Writes a new file and renames it to a path. The answer is whether it took that place: if the system does not let it, the path has what
+/// it had.
 fn put_in_place<R: Files>(
     rt: &R,
     file: &mut R::File,
@@ -60,7 +60,7 @@ fn put_in_place<R: Files>(
         file.set_permissions(found.permissions())?;
     }
     fill(file, bytes)?;
-    // It is looked at last, so that little time is left in which another command could replace it.
+    // This check is last, so that another command has little time left to replace the file.
     keep_others(rt, path, old)?;
     match fs::rename(rt, beside, path) {
         Ok(()) => Ok(true),
@@ -69,8 +69,7 @@ fn put_in_place<R: Files>(
     }
 }
 
-/// Writes a file over, where no new one can take its place. What a crash or a full disk leaves may be neither the old bytes nor the new
-/// ones.
+/// Overwrites a file in place, since no new one can replace it. A crash or a full disk may leave neither the old bytes nor the new ones.
 fn write_over<R: Files>(
     rt: &R,
     path: &str,
@@ -85,8 +84,8 @@ fn write_over<R: Files>(
     Ok(Place::Over)
 }
 
-/// Replaces a file at once: whoever reads it, or comes after a crash, finds the old bytes or the new ones. Only where its folder takes no
-/// new file, or does not let it take the place of one that is there, that is written over.
+/// Replaces a file atomically: a reader, also after a crash, finds the old bytes or the new ones. Only if its folder takes no new file, or
+/// does not let it replace the existing one, is that overwritten in place.
 fn replace<R: Files + AllocGlobal>(
     rt: &R,
     path: &str,
@@ -111,7 +110,7 @@ fn replace<R: Files + AllocGlobal>(
     }
 }
 
-/// Makes a file where its file system has no links: nothing that is there is replaced, but whoever looks for it meanwhile may find a part.
+/// Creates a file on a file system without hard links: it replaces nothing, but a reader may meanwhile find a part of it.
 fn make_in_parts<R: Files>(rt: &R, path: &str, bytes: &[u8]) -> io::Result<()> {
     let mut file = File::create_new(rt, path)?;
     let made = fill(&mut file, bytes);
@@ -121,7 +120,7 @@ fn make_in_parts<R: Files>(rt: &R, path: &str, bytes: &[u8]) -> io::Result<()> {
     made
 }
 
-/// Gives a file that was written the name of a path, under which nothing may be by then, which a renaming would replace.
+/// Gives a written file the name of a path, at which nothing may exist by then: a rename would replace it.
 fn name_new<R: Files>(rt: &R, beside: &str, path: &str, bytes: &[u8]) -> io::Result<()> {
     match fs::hard_link(rt, beside, path) {
         Err(error)
@@ -133,7 +132,7 @@ fn name_new<R: Files>(rt: &R, beside: &str, path: &str, bytes: &[u8]) -> io::Res
     }
 }
 
-/// Makes a file at once: whoever looks for it, or comes after a crash, finds all of it or none.
+/// Creates a file atomically: a reader, also after a crash, finds all of it or none.
 fn make<R: Files + AllocGlobal>(rt: &R, path: &str, bytes: &[u8]) -> io::Result<()> {
     let (beside, mut file) = create_beside(rt, path)?;
     let made = match fill(&mut file, bytes) {
@@ -150,7 +149,7 @@ fn write_to<R: Files>(rt: &R, path: &str, bytes: &[u8]) -> Result<Place, Unwritt
     Ok(Place::Device)
 }
 
-/// Writes the file of a path that is no link: a regular file is replaced at once, or made, and a device or a pipe written to.
+/// Writes the file of a path that is not a link: a regular file is replaced atomically or created, a device or a pipe is written to.
 fn write_at<R: Files + AllocGlobal>(
     rt: &R,
     path: &str,
@@ -163,14 +162,14 @@ fn write_at<R: Files + AllocGlobal>(
     }
 }
 
-/// Makes the file that a link leads to, and that is not there yet.
+/// Creates the target of a dangling link.
 fn write_new<R: Files>(rt: &R, link: &str, bytes: &[u8]) -> Result<Place, Unwritten> {
     fs::write(rt, link, bytes)?;
     Ok(Place::Beside)
 }
 
-/// Writes the file that a link leads to. Where its path can't be found out, the link is refused, and never written through: so the file is
-/// replaced at once, or stays.
+/// Writes the target of a link. If its path can't be found out, the link is refused and never written through: so the target is replaced
+/// atomically, or stays.
 fn write_through<R: Files + AllocGlobal>(
     rt: &R,
     link: &str,
@@ -184,9 +183,8 @@ fn write_through<R: Files + AllocGlobal>(
     }
 }
 
-/// Writes a file. One that is there is replaced at once, or, where it is a device or a pipe, written to; where it is a link, so is the file
-/// that it leads to. Where the old bytes of the file are told, and others stand there by now, or none, these stay. The answer is how it was
-/// written: it is written over only where no new file can take its place.
+/// Writes a file. An existing one is replaced atomically; a device or a pipe is written to; a link is followed. If the old bytes are given,
+/// and the file has others or none by now, it stays. The answer is how it was written: in place only if no new file can replace it.
 pub fn write_file<R: Files + AllocGlobal>(
     rt: &R,
     path: &str,
@@ -199,7 +197,7 @@ pub fn write_file<R: Files + AllocGlobal>(
     }
 }
 
-/// Makes the file that a link leads to. One that is there by then stays.
+/// Creates the target of a link. One that exists by then stays.
 fn make_through<R: Files + AllocGlobal>(rt: &R, link: &str, bytes: &[u8]) -> io::Result<()> {
     match fs::canonicalize(rt, link) {
         Ok(_) => Err(io::Error::from(ErrorKind::AlreadyExists)),
@@ -208,8 +206,8 @@ fn make_through<R: Files + AllocGlobal>(rt: &R, link: &str, bytes: &[u8]) -> io:
     }
 }
 
-/// Writes a file where none was. One that is there by then stays, and the error is `AlreadyExists`; where a link leads nowhere, the file is
-/// made to which it leads.
+/// Creates a file where none was. One that exists by then stays, and the error is `AlreadyExists`. The target of a dangling link is
+/// created.
 pub fn write_new_file<R: Files + AllocGlobal>(
     rt: &R,
     path: &str,
@@ -221,10 +219,10 @@ pub fn write_new_file<R: Files + AllocGlobal>(
     }
 }
 
-/// How many bytes are tried to be written behind a file.
+/// How many bytes are written after a file to find a fault.
 const PAGE_BYTES: usize = 8192;
 
-/// Writes a page behind a file, and takes it away again.
+/// Appends a page to a file, and removes it again.
 fn append_page<R: Files>(rt: &R, path: &str) -> io::Result<()> {
     let length = fs::metadata(rt, path)?.len();
     let mut options = OpenOptions::new();
@@ -235,7 +233,7 @@ fn append_page<R: Files>(rt: &R, path: &str) -> io::Result<()> {
     written
 }
 
-/// Why a page can't be written behind a file, where it can't. The file has what it had.
+/// Why a page can't be appended to a file, if it can't. The file has what it had.
 pub fn append_fault<R: Files>(rt: &R, path: &str) -> Option<io::Error> {
     append_page(rt, path).err()
 }

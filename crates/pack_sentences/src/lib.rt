@@ -1,4 +1,4 @@
-//! Why a plain CSV is no batch, said of its bytes.
+//! Why a plain CSV is not a batch.
 #![tactic(auto)]
 
 use csv::{ByteRecord, ReaderBuilder};
@@ -166,7 +166,7 @@ impl PlainText<'_> {
         };
         let (names, columns) = (self.unknown_names(alloc, &header)?, self.schema.print()?);
         let mut said = format!(in alloc;
-            "the header has {names}, and the columns are {columns}; --skip-columns leaves others out"
+            "the header has {names}; the columns are {columns}; --skip-columns ignores others"
         )?;
         self.add_delimiter(&mut said, &header)?;
         Ok(said)
@@ -178,7 +178,7 @@ impl PlainText<'_> {
             return Ok(String::new(alloc));
         };
         let (names, columns) = (self.missing_names(alloc, &header)?, self.schema.print()?);
-        let mut said = format!(in alloc; "the header lacks {names}, of the columns {columns}")?;
+        let mut said = format!(in alloc; "the header lacks {names}; the columns are {columns}")?;
         self.add_delimiter(&mut said, &header)?;
         Ok(said)
     }
@@ -204,11 +204,11 @@ impl PlainText<'_> {
                 None => 0,
             };
             format!(in alloc;
-                "line {line}: fields found: {found}, wanted: {wanted}, as in the header"
+                "line {line}: fields found: {found}, expected: {wanted}, as in the header"
             )?
         } else {
             let (wanted, columns) = (self.schema.width(), self.schema.print()?);
-            format!(in alloc; "line {line}: fields found: {found}, wanted: {wanted}, as {columns}")?
+            format!(in alloc; "line {line}: fields found: {found}, expected: {wanted} ({columns})")?
         };
         self.add_delimiter(&mut said, &record)?;
         Ok(said)
@@ -226,7 +226,7 @@ impl PlainText<'_> {
         }
     }
 
-    /// Says why a field of a row is no value of its column.
+    /// Says why a field of a row is not a value of its column.
     fn say_field(&self, alloc: Global, row: usize, column: usize) -> Result<String, AllocError> {
         let place = self.place_of_column(alloc, column)?;
         let Some(record) = self.row_at(alloc, row)? else {
@@ -241,22 +241,22 @@ impl PlainText<'_> {
         let (fault, kind) = (FieldFault::of(field, kind), kind.as_str());
         let mut said = format!(in alloc; "line {line}, column {name} {kind}: {shown}: {fault}")?;
         if matches!(fault, FieldFault::Empty | FieldFault::Null) {
-            said.push_str("; --null TEXT tells what else is null")?;
+            said.push_str("; --null TEXT sets another field that is null")?;
         }
         if row == 0 && !self.layout.has_header && self.has_column(field) {
-            said.push_str("; is it a header? --header")?;
+            said.push_str("; if the line is a header, use --header")?;
         }
         Ok(said)
     }
 
-    /// Says why it is no batch.
+    /// Says why it is not a batch.
     fn say(&self, alloc: Global, why: PackError) -> Result<String, AllocError> {
         match why {
             PackError::NoMemory => Ok(String::new(alloc)),
             PackError::NoHeader => {
                 let columns = self.schema.print()?;
                 format!(in alloc;
-                    "it has no record, and a header is wanted, of the columns {columns}"
+                    "there is no record; a header is expected, with the columns {columns}"
                 )
             }
             PackError::UnknownColumn { .. } => self.say_unknown(alloc),
@@ -264,16 +264,16 @@ impl PlainText<'_> {
             PackError::RepeatedColumn { column } => self.say_repeated(alloc, column),
             PackError::WrongWidth { row } => self.say_width(alloc, row),
             PackError::TooManyRows => format!(in alloc;
-                "it has more than {MAX_ROWS} rows, the most of a batch: agg_make_batches cuts a file into batches"
+                "more than {MAX_ROWS} rows, the limit of a batch: split the file with agg_make_batches"
             ),
             PackError::TooLong => format!(in alloc;
-                "its batch file would be longer than {MAX_INPUT_LEN} bytes: agg_make_batches cuts a file into batches"
+                "the batch file would be longer than {MAX_INPUT_LEN} bytes: split the file with agg_make_batches"
             ),
             PackError::BadField { row, column } => self.say_field(alloc, row, column),
         }
     }
 
-    /// Why it is no batch, where something is said of that.
+    /// Why it is not a batch, if there is more to say than the general sentence.
     pub fn reason(&self, alloc: Global, why: PackError) -> Result<Option<Reason>, AllocError> {
         let said = self.say(alloc, why)?;
         if said.is_empty() {

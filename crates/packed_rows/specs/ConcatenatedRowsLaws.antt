@@ -1,8 +1,9 @@
 -- Laws: rows that lie end to end; these definitions serve the laws alone.
 use Rattle.std.specs.Prelude.{◌≡◌, refl, ℕ, zero, suc, ◌+◌, ◌-◌, ◌<◌, ◌≤◌, List, [], ◌∷◌, ◌++◌, length, Some, slice_get, slice_index_or}
-use Rattle.std.specs.Prelude.{slice_range}
+use Rattle.std.specs.Prelude.{drop, slice_range, take}
 use Rattle.std.proofs.Common.{sym, ◌∙◌, ap, subst, append_assoc, append-nil, arith}
-use Rattle.std.proofs.lemmas.List.{length-append}
+use Rattle.std.proofs.lemmas.List.{length-append, take-append-drop}
+use Rattle.std.proofs.Math.Seq.{take-add}
 use Rattle.std.proofs.lemmas.List.Edits.{length-between, get_or-between}
 use Rattle.std.proofs.lemmas.Option.{slice_get-get_or, get_or_from_slice_get}
 use Rattle.std.proofs.lemmas.Grind.{flat_map-append, common_steps}
@@ -128,3 +129,47 @@ element_is elements rows p from to k x at low is =
     ∙ ap Some (get_or-between elements from to k x
     (subst (λ n. from + k < n) (add-sub_of_le at.low) (add-lt-add_of_le_of_lt (le_refl from) inside))
     ∙ get_or_from_slice_get elements (from + k) x x is)
+
+-- where rows side by side lie
+pub record PartAt {X : Type 0} (elements : List X) (from to : ℕ) (part : List X) : Type 0 where
+  pub low : from ≤ to
+  pub high : to ≤ length elements
+  pub there : slice_range elements from to ≡ part
+
+-- where the first rows end
+end_at : {X : Type 0} (from : ℕ) (rows : List (List X)) (i : ℕ) → i ≤ length rows → slice_index_or (from ∷ ends_of from rows) i 0
+    ≡ from + length (concatenated (take i rows))
+end_at from rows zero h = sym (add-zero from)
+end_at from [] (suc i) h = absurd (not-suc-le-zero h)
+end_at from (row ∷ rows) (suc i) h =
+    end_at (from + length row) rows i (le_of_suc-le-suc h)
+    ∙ add_assoc from (length row) (length (concatenated (take i rows)))
+    ∙ ap (λ n. from + n) (sym (length-append row (concatenated (take i rows))))
+
+pub part_at : {X : Type 0} (elements : List X) (ends : List ℕ) (rows : List (List X)) (i n : ℕ) → LieAs elements ends rows
+    → i + n ≤ length rows
+    → PartAt elements (slice_index_or (0 ∷ ends) i 0) (slice_index_or (0 ∷ ends) (i + n) 0) (concatenated (take n (drop i rows)))
+part_at {X} elements ends rows i n lie within =
+    let front : List X = concatenated (take i rows) in
+    let part : List X = concatenated (take n (drop i rows)) in
+    let behind : List X = concatenated (drop n (drop i rows)) in
+    let both : concatenated (take (i + n) rows) ≡ front ++ part =
+    ap concatenated (take-add i n rows) ∙ flat_map-append (λ (row : List X). row) (take i rows) (take n (drop i rows)) in
+    let after : concatenated (drop i rows) ≡ part ++ behind =
+    ap concatenated (sym (take-append-drop n (drop i rows)))
+    ∙ flat_map-append (λ (row : List X). row) (take n (drop i rows)) (drop n (drop i rows)) in
+    let whole : elements ≡ front ++ (part ++ behind) =
+    lie.elements_are ∙ ap concatenated (sym (take-append-drop i rows))
+    ∙ flat_map-append (λ (row : List X). row) (take i rows) (drop i rows) ∙ ap (λ (w : List X). front ++ w) after in
+    let from : slice_index_or (0 ∷ ends) i 0 ≡ length front =
+    ap (λ ends. slice_index_or (0 ∷ ends) i 0) lie.ends_are ∙ end_at 0 rows i (omega (arith, within)) ∙ zero-add (length front) in
+    let to : slice_index_or (0 ∷ ends) (i + n) 0 ≡ length front + length part =
+    ap (λ ends. slice_index_or (0 ∷ ends) (i + n) 0) lie.ends_are ∙ end_at 0 rows (i + n) within
+    ∙ zero-add (length (concatenated (take (i + n) rows))) ∙ ap length both ∙ length-append front part in
+    let long : length elements ≡ length front + (length part + length behind) =
+    ap length whole ∙ length-append front (part ++ behind) ∙ ap (λ k. length front + k) (length-append part behind) in
+    record {
+      low = omega (arith, from, to);
+      high = omega (arith, to, long);
+      there = (λ j. slice_range (whole j) (from j) (to j)) ∙ between_seams front part behind;
+    }

@@ -1,8 +1,9 @@
 -- The bytes of rows and keys. All of this is our own.
-use Rattle.std.specs.Prelude.{◌≡◌, ◌≢◌, ℕ, ◌+◌, ◌-◌, ◌^◌, ℤ, pos, negsuc, List, [], ◌∷◌, ◌++◌, if◌then◌else◌}
+use Rattle.std.specs.Prelude.{◌≡◌, ◌≢◌, ℕ, ◌+◌, ◌-◌, ◌^◌, ℤ, pos, negsuc, List, [], ◌∷◌, ◌++◌, if◌then◌else◌, map}
 use Rattle.std.specs.List.{flat_map}
 use Rattle.std.specs.Int.{w64, to_be_bytes}
-use Rattle.grouping_model.specs.Datum.{Datum, Kind, Row, HasKinds, Null, Bigint, Boolean, Text}
+use Rattle.packed_rows.specs.ConcatenatedRows.{LieAs}
+use Rattle.grouping_model.specs.Datum.{Datum, Kind, Row, HasKind, HasKinds, Null, Bigint, Boolean, Text}
 
 -- how far a number lies above the least of 64 bits: its two's complement with the topmost bit flipped
 abbrev pub above_least : ℤ → ℕ
@@ -19,6 +20,18 @@ value_packing (Text text) = 1 ∷ text ++ 0 ∷ []
 -- the values of a row or a key in their order, with nothing between
 abbrev pub packing : Row → List ℕ
 packing row = flat_map value_packing row
+
+-- the bytes of a row of these kinds
+abbrev pub IsPacking : List Kind → List ℕ → Type 0
+IsPacking kinds bytes = (row : Row) × HasKinds kinds row × (bytes ≡ packing row)
+
+-- bytes that begin with a value of this kind
+abbrev pub BeginsWithValue : Kind → List ℕ → Type 0
+BeginsWithValue kind bytes = (value : Datum) × (rest : List ℕ) × HasKind kind value × (bytes ≡ value_packing value ++ rest)
+
+-- bytes are the packings of values, each of which ends where these say
+abbrev pub LieAsValues : List ℕ → List ℕ → Type 0
+LieAsValues bytes ends = (row : Row) × LieAs bytes ends (map value_packing row)
 
 -- the bytes of no row of these kinds
 abbrev pub IsNoPacking : List Kind → List ℕ → Type 0

@@ -1,23 +1,72 @@
 //! Reading an input field.
 
-ghost use Rattle.std.specs.Prelude.{ℤ, IfSome, IfNone, Bool};
+ghost use Rattle.std.specs.Prelude.{ℤ, IfSome, IfNone, IsTrue, Bool, All};
 ghost use Rattle.packed_rows.specs.View.{datum_of, kind_of};
 ghost use Rattle.packed_rows.specs.Field.{Reads, ReadsRow, IsBadField, IsBigintField, IsBooleanField, IsTextField};
-ghost use Rattle.std.specs.Prelude.{◌≡◌, ◌≢◌, List, ℕ};
+ghost use Rattle.std.specs.Prelude.{◌≡◌, ◌≢◌, ◌<◌, ◌^◌, ◌↔◌, List, ℕ};
+ghost use Rattle.std.specs.Str.Parse.{IsNumeral, digits_value};
 ghost use Rattle.grouping_model.specs.Datum.{Datum, Kind, Row, HasKind, HasKinds, null_field};
 
 use crate::value::{Value, ValueKind};
 use grouping_model::limits::MAX_TEXT_LEN;
 use std::str;
 
-/// The field of a null, in a column of whatever kind.
-pub(crate) const NULL_FIELD: &[u8] = b"\\N";
+/// Whether a field is that of a null, in a column of whatever kind.
+pub(crate) fn is_null(field: &[u8]) -> bool
+    ensures { IsTrue result ↔ (field.now ≡ null_field) }
+{
+    matches!(field, [b'\\', b'N'])
+}
+
+/// As many digits stand for a number below 2^63, whichever they are.
+const SURE_DIGITS: usize = 18;
+
+/// The number that 1 to 18 digits stand for. What else there is may stand for one as well.
+fn short_number(digits: &[u8]) -> Option<u64>
+    ensures numeral { IfSome result (λ _. IsNumeral 10 digits.now) }
+    ensures value { IfSome result (λ n. digits_value 10 digits.now ≡ n) }
+    ensures low { IfSome result (λ n. n < 2 ^ 63) }
+{
+    if digits.is_empty() || digits.len() > SURE_DIGITS {
+        return None;
+    }
+    let mut value = 0;
+    for digit in digits {
+        if !digit.is_ascii_digit() {
+            return None;
+        }
+        value = value * 10 + u64::from(*digit - b'0');
+    }
+    Some(value)
+}
+
+/// The number that a field of up to 18 digits stands for, with a sign or without. What else there is may stand for one as well.
+fn short_bigint(field: &[u8]) -> Option<i64>
+    ensures { IfSome result (λ z. IsBigintField field.now z) }
+{
+    match field {
+        [b'-', digits @ ..] => Some(-(short_number(digits)? as i64)),
+        [b'+', digits @ ..] => Some(short_number(digits)? as i64),
+        digits => Some(short_number(digits)? as i64),
+    }
+}
+
+/// The number that a field of any length stands for.
+fn long_bigint(field: &[u8]) -> Option<i64>
+    ensures found { IfSome result (λ z. IsBigintField field.now z) }
+    ensures none { IfNone result ((z : ℤ) → ¬ (IsBigintField field.now z)) }
+{
+    str::from_utf8(field).ok()?.parse().ok()
+}
 
 fn read_bigint(field: &[u8]) -> Option<i64>
     ensures found { IfSome result (λ z. IsBigintField field.now z) }
     ensures none { IfNone result ((z : ℤ) → ¬ (IsBigintField field.now z)) }
 {
-    str::from_utf8(field).ok()?.parse().ok()
+    match short_bigint(field) {
+        Some(number) => Some(number),
+        None => long_bigint(field),
+    }
 }
 
 fn read_boolean(field: &[u8]) -> Option<bool>
@@ -33,12 +82,31 @@ fn read_boolean(field: &[u8]) -> Option<bool>
     }
 }
 
+/// Whether all bytes are of ASCII, and none is zero.
+fn are_plain(bytes: &[u8]) -> bool
+    ensures { IsTrue result → All (λ b. (0 < b) × (b < 128)) bytes.now }
+{
+    for byte in bytes {
+        if *byte == 0 || *byte >= 128 {
+            return false;
+        }
+    }
+    true
+}
+
 pub(crate) fn read_text(field: &[u8]) -> Option<&str>
     requires { field.now ≢ null_field }
     ensures found { IfSome result (λ text. IsTextField field.now text.now) }
     ensures none { IfNone result ((text : List ℕ) → ¬ (IsTextField field.now text)) }
 {
-    if field.len() > MAX_TEXT_LEN || field.contains(&0) {
+    if field.len() > MAX_TEXT_LEN {
+        return None;
+    }
+    if are_plain(field) {
+        // SAFETY: bytes of ASCII are UTF-8.
+        return Some(unsafe { str::from_utf8_unchecked(field) });
+    }
+    if field.contains(&0) {
         return None;
     }
     str::from_utf8(field).ok()
@@ -58,11 +126,12 @@ pub fn reading()
 {}
 
 /// The value that a field stands for in a column of this kind, or `None` for a bad field.
+#[inline(always)]
 pub fn read_value(field: &[u8], kind: ValueKind) -> Option<Value<'_>>
     ensures found { IfSome result (λ v. Reads (kind_of kind) field.now (datum_of v)) }
     ensures bad { IfNone result (IsBadField (kind_of kind) field.now) }
 {
-    if field == NULL_FIELD {
+    if is_null(field) {
         return Some(Value::Null);
     }
     let value = match kind {

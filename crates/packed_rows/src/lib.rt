@@ -21,5 +21,5 @@ pub use packing::{pack_key, pack_value};
 pub use rows::{pack_row, unpack_row};
 pub use rows_concatenated::{PackedRows, bound};
 pub use schema::Schema;
-pub use unpacking::{unpack_into, unpack_key};
+pub use unpacking::{part_at, unpack_into, unpack_key, unpack_known};
 pub use value::{Value, ValueKind};

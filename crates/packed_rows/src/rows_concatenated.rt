@@ -36,7 +36,7 @@ pub fn bound(ends: &[usize], rows: usize) -> usize
 }
 
 /// The bytes from one place up to another.
-fn part(bytes: &[u8], from: usize, to: usize) -> &[u8]
+pub(crate) fn part(bytes: &[u8], from: usize, to: usize) -> &[u8]
     requires rises { from ≤ to }
     requires within { to ≤ length bytes.now }
     ensures { result.now ≡ slice_range bytes.now from to }
@@ -56,6 +56,7 @@ impl PackedRows {
     }
 
     /// Adds a row at the end. The only error is a failed allocation, which changes nothing.
+    #[inline(always)]
     pub fn push(&mut self, packed: &[u8]) -> Result<(), AllocError>
         ensures pushed { OnOk result (self.new ≡ self.old ++ packed.now ∷ []) }
         ensures refused { OnErr result (self.new ≡ self.old) }

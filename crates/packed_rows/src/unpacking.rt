@@ -1,18 +1,22 @@
 //! Reading values back from bytes.
 
-ghost use Rattle.std.specs.Prelude.{◌≡◌, ◌≢◌, ◌++◌, ◌∷◌, ◌<◌, ℕ, ℤ, Bool, List, if◌then◌else◌, IfSome, IfNone, IfOk, IfErr, OnErr, OnOk};
+ghost use Rattle.std.specs.Prelude.{◌≡◌, ◌≢◌, ◌++◌, ◌∷◌, ◌-◌, ◌<◌, ◌≤◌, ℕ, ℤ, Bool, List, if◌then◌else◌, IfSome, IfNone, IfOk, IfErr, OnErr, OnOk, drop, map, take};
 ghost use Rattle.std.specs.Prelude.{length, Contains, FitsSigned};
+ghost use Rattle.std.specs.List.{AllByRecursion};
 ghost use Rattle.std.specs.Int.{w64, to_be_bytes};
-ghost use Rattle.grouping_model.specs.Datum.{Datum, Kind, Row, IsText, HasKind, HasKinds, null_field};
+ghost use Rattle.grouping_model.specs.Datum.{Datum, Kind, Row, IsText, HasKind, HasKinds, at_place, null_field};
 ghost use Rattle.packed_rows.specs.View.{datum_of, row_of, kind_of, kinds_of};
-ghost use Rattle.packed_rows.specs.Packing.{above_least, value_packing, packing};
+ghost use Rattle.packed_rows.specs.ConcatenatedRows.{LieAs};
+ghost use Rattle.packed_rows.specs.Packing.{BeginsWithValue, IsPacking, LieAsValues, above_least, value_packing, packing};
 ghost use Rattle.packed_rows.specs.Refusal.{UnpackFault};
 
 use crate::error::RowError;
-use crate::field::{NULL_FIELD, read_text};
+use crate::field::{is_null, read_text};
 use crate::packing::{NULL, PRESENT};
+use crate::rows_concatenated::{bound, part};
 use crate::value::{Value, ValueKind};
-use std::alloc::Global;
+use std::alloc::{AllocError, Global};
+use std::str;
 
 fn unpack_bigint(bytes: &[u8]) -> Option<(i64, &[u8])>
     ensures found { IfSome result (λ x. bytes.now ≡ to_be_bytes w64 (above_least x.0) ++ x.1.now) }
@@ -57,13 +61,14 @@ fn unpack_text(bytes: &[u8]) -> Option<(&str, &[u8])>
         bytes.now ≢ text ++ 0 ∷ rest) }
 {
     let (front, rest) = split_at_zero(bytes)?;
-    if front == NULL_FIELD {
+    if is_null(front) {
         return None;
     }
     let text = read_text(front)?;
     Some((text, rest))
 }
 
+#[inline(always)]
 fn unpack_present(kind: ValueKind, bytes: &[u8]) -> Option<(Value<'_>, &[u8])>
     ensures found { IfSome result (λ x. HasKind (kind_of kind) (datum_of x.0)
         × (1 ∷ bytes.now ≡ value_packing (datum_of x.0) ++ x.1.now)) }
@@ -86,6 +91,7 @@ fn unpack_present(kind: ValueKind, bytes: &[u8]) -> Option<(Value<'_>, &[u8])>
     }
 }
 
+#[inline(always)]
 fn unpack_value(kind: ValueKind, bytes: &[u8]) -> Option<(Value<'_>, &[u8])>
     ensures found { IfSome result (λ x. HasKind (kind_of kind) (datum_of x.0)
         × (bytes.now ≡ value_packing (datum_of x.0) ++ x.1.now)) }
@@ -129,6 +135,99 @@ pub fn unpack_into<'a>(
         return Err(RowError::BadPacked);
     }
     Ok(())
+}
+
+/// The text before the first zero, and the bytes after it. What comes before the zero is UTF-8.
+fn known_text(bytes: &[u8]) -> (&str, &[u8])
+    requires { (text : List ℕ) × (rest : List ℕ) × IsText text × (bytes.now ≡ text ++ 0 ∷ rest) }
+    ensures text { IsText result.0.now }
+    ensures spelled { bytes.now ≡ result.0.now ++ 0 ∷ result.1.now }
+{
+    match split_at_zero(bytes) {
+        // SAFETY: a text is UTF-8.
+        Some((text, rest)) => (unsafe { str::from_utf8_unchecked(text) }, rest),
+        None => unreachable!(),
+    }
+}
+
+/// The value of a kind that these bytes begin with, and the bytes after it.
+#[inline(always)]
+fn known_value(kind: ValueKind, bytes: &[u8]) -> (Value<'_>, &[u8])
+    requires { BeginsWithValue (kind_of kind) bytes.now }
+    ensures kind { HasKind (kind_of kind) (datum_of result.0) }
+    ensures spelled { bytes.now ≡ value_packing (datum_of result.0) ++ result.1.now }
+{
+    if kind == ValueKind::Text {
+        if let [PRESENT, rest @ ..] = bytes {
+            let (text, after) = known_text(rest);
+            return (Value::Text(text), after);
+        }
+    }
+    match unpack_value(kind, bytes) {
+        Some(found) => found,
+        None => unreachable!(),
+    }
+}
+
+/// Reads the values of a key of these kinds from its packing into `key`, and where the packing of each ends into `ends`, in place of what
+/// they held. It is `unpack_into` for bytes that are known to be a packing: no text is checked again. The only error is a failed allocation.
+pub fn unpack_known<'a>(
+    kinds: &[ValueKind],
+    bytes: &'a [u8],
+    key: &mut Vec<Value<'a>>,
+    ends: &mut Vec<usize>,
+) -> Result<(), AllocError>
+    requires { IsPacking (kinds_of kinds.now) bytes.now }
+    ensures found { OnOk result (HasKinds (kinds_of kinds.now) (row_of key.new.items)
+        × (bytes.now ≡ packing (row_of key.new.items))) }
+    // The packings of the values lie end to end, and these are their ends.
+    ensures ends { OnOk result (LieAs bytes.now ends.new.items (map value_packing (row_of key.new.items))) }
+{
+    key.clear();
+    ends.clear();
+    let mut rest = bytes;
+    for kind in kinds {
+        let (value, after) = known_value(*kind, rest);
+        key.push(value)?;
+        ends.push(bytes.len() - after.len())?;
+        rest = after;
+    }
+    Ok(())
+}
+
+/// The packing of the values of a key from one place up to another, which lies in the key's own. `ends` tells where each value's ends.
+fn part_between<'a>(packed: &'a [u8], ends: &[usize], from: usize, to: usize) -> &'a [u8]
+    requires lie { LieAsValues packed.now ends.now }
+    requires rises { from ≤ to }
+    requires within { to ≤ length ends.now }
+    ensures { (row : Row) → LieAs packed.now ends.now (map value_packing row) →
+        result.now ≡ packing (take (to - from) (drop from row)) }
+{
+    let start = bound(ends, from);
+    let end = bound(ends, to);
+    part(packed, start, end)
+}
+
+/// The packing of the values at these places of a key, where it lies in the key's own: `None` if a place is not the next to the one before.
+/// `ends` tells where the packing of each value ends, as `unpack_known` does.
+pub fn part_at<'a>(packed: &'a [u8], ends: &[usize], places: &[usize]) -> Option<&'a [u8]>
+    requires lie { LieAsValues packed.now ends.now }
+    requires within { AllByRecursion (λ place. place < length ends.now) places.now }
+    ensures { IfSome result (λ part. (row : Row) → LieAs packed.now ends.now (map value_packing row) →
+        part.now ≡ packing (map (at_place row) places.now)) }
+{
+    let from = match places.first() {
+        Some(first) => *first,
+        None => 0,
+    };
+    let mut behind = from;
+    for place in places {
+        if *place != behind {
+            return None;
+        }
+        behind += 1;
+    }
+    Some(part_between(packed, ends, from, behind))
 }
 
 /// The values of a key of these kinds from its packing. The errors are `BadPacked`, and `NoMemory`.

@@ -1,9 +1,10 @@
 -- Why a plain CSV is refused, step by step.
-use Rattle.std.proofs.Common.{◌≡◌, ℕ, List, Some, ap, length, sym, ◌∙◌}
+use Rattle.std.proofs.Common.{◌≡◌, ℕ, Bool, List, Some, ap, length, sym, ◌∙◌}
+use Rattle.std.specs.Prelude.{Result, Ok, Err, IfErr}
 use Rattle.packed_rows.specs.Columns.{Column, names}
 use Rattle.script_io.specs.Records.{Record}
 use Rattle.plain_batches.specs.Plain.{parts_of, plain_records}
-use Rattle.plain_batches.specs.Refusal.{HasParts, HeaderFault, PlainFault, WidthFault}
+use Rattle.plain_batches.specs.Refusal.{HasNoOther, HasParts, HeaderFault, IsRightHeader, MisplacedFault, PlainFault, WidthFault}
 use Rattle.plain_batches.specs.declared.layout.Layout.{Layout}
 use Rattle.plain_batches.specs.declared.error.PackError.{PackError}
 use Rattle.plain_batches.specs.declared.error.PackError.TheVariants.{NoMemory, UnknownColumn, MissingColumn, RepeatedColumn}
@@ -24,11 +25,21 @@ header_refused columns layout csv header rows NoMemory parts fault = tt
 header_refused columns layout csv header rows (UnknownColumn place) parts fault = (header, rows, parts, fault)
 header_refused columns layout csv header rows (MissingColumn column) parts fault = (header, rows, parts, fault)
 header_refused columns layout csv header rows (RepeatedColumn column) parts fault = (header, rows, parts, fault)
-header_refused columns layout csv header rows error parts fault = absurd fault
+header_refused columns layout csv header rows error parts fault = absurd fault.1
+
+-- a header with no name too many is refused by the places of its names
+pub misplaced_header : {T : Type 0} (skips : Bool) (names header : Record) (result : Result T PackError) → HasNoOther skips names header
+    → IfErr result (MisplacedFault names header) → IfErr result (HeaderFault skips names header)
+misplaced_header skips names header (Ok places) known fault = tt
+misplaced_header skips names header (Err NoMemory) known fault = tt
+misplaced_header skips names header (Err (MissingColumn column)) known fault = (known, fault)
+misplaced_header skips names header (Err (RepeatedColumn column)) known fault = (known, fault)
+misplaced_header skips names header (Err error) known fault = absurd fault
 
 pub widths_refused : (columns : List Column) (layout : Layout) (csv : List ℕ) (header : Record) (rows : List Record) (error : PackError)
-    → HasParts columns layout csv header rows → WidthFault (length header) rows error → PlainFault columns layout csv error
-widths_refused columns layout csv header rows NoMemory parts fault = tt
-widths_refused columns layout csv header rows (WrongWidth row) parts fault = (header, rows, parts, fault)
-widths_refused columns layout csv header rows TooManyRows parts fault = (header, rows, parts, fault)
-widths_refused columns layout csv header rows error parts fault = absurd fault
+    → HasParts columns layout csv header rows → IsRightHeader layout.skips_columns (names columns) header
+    → WidthFault (length header) rows error → PlainFault columns layout csv error
+widths_refused columns layout csv header rows NoMemory parts right fault = tt
+widths_refused columns layout csv header rows (WrongWidth row) parts right fault = (header, rows, parts, right, fault)
+widths_refused columns layout csv header rows TooManyRows parts right fault = (header, rows, parts, right, fault)
+widths_refused columns layout csv header rows error parts right fault = absurd fault

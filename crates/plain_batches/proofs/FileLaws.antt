@@ -1,11 +1,11 @@
 -- The text of a batch file, read again.
-use Rattle.std.proofs.Common.{◌≡◌, ◌≤◌, ◌<◌, ◌+◌, ◌^◌, ◌∙◌, ℕ, zero, suc, List, [], ◌∷◌, ◌++◌, Bool, true, false, Option, Some, None}
-use Rattle.std.proofs.Common.{ap, sym, refl, arith, length, map, flat_map, codes, add-one, append_assoc, subst}
-use Rattle.std.specs.Prelude.{◌&&◌, if◌then◌else◌, option_map, nat_lt, nat_le}
+use Rattle.std.proofs.Common.{◌≡◌, ◌≤◌, ◌<◌, ◌+◌, ◌^◌, ◌∙◌, ℕ, zero, suc, List, [], ◌∷◌, ◌++◌, true, Option, Some}
+use Rattle.std.proofs.Common.{ap, refl, arith, length, map, flat_map, codes, subst}
+use Rattle.std.specs.Prelude.{if◌then◌else◌, option_map, nat_lt, nat_le}
 use Rattle.std.specs.List.{AllByRecursion, list_all}
 use Rattle.std.specs.Char.{is_ascii_digit}
 use Rattle.std.specs.Fmt.{decimal}
-use Rattle.std.specs.Str.Parse.{AllDigits, digits_value}
+use Rattle.std.specs.Str.Parse.{AllDigits}
 use Rattle.std.proofs.lemmas.Bool.{le-leb, lt-ltb}
 use Rattle.std.proofs.lemmas.Fmt.{decimal_is_IsNumeral, length-decimal-le}
 use Rattle.std.proofs.lemmas.List.{length-append, length-map}
@@ -13,12 +13,12 @@ use Rattle.std.proofs.lemmas.Str.Parse.{digit_from_value}
 use Rattle.csv.proofs.RoundTrip.{read-write}
 use Rattle.csv.specs.Machine.{next_record}
 use Rattle.csv.specs.Reading.{default_config, records_from, records_next, strip_bom}
-use Rattle.csv.specs.Writing.{default_writer, end_text, is_blank, read_back, row_body, row_text}
+use Rattle.csv.specs.Writing.{default_writer, is_blank, read_back, row_body, row_text}
 use Rattle.csv.specs.declared.parser.State.TheVariants as st
 use Rattle.grouping_model.specs.Datum.{Kind}
 use Rattle.packed_rows.specs.Columns.{Column, names}
 use Rattle.grouping_model.specs.declared.limits.TheConstants.{MAX_ROWS}
-use Rattle.script_io.specs.Digits.{are_digits, number_of, row_count}
+use Rattle.script_io.specs.Digits.{number_of}
 use Rattle.script_io.specs.Records.{Record, records_of}
 use Rattle.batch_reader.specs.File.{BatchFile, FileFault, FileHead, batch_file, file_head, read_file}
 use Rattle.batch_reader.specs.Refusal.{FirstFault}

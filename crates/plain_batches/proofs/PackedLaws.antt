@@ -1,11 +1,11 @@
 -- What was packed is read again: its head, and its rows and no others.
-use Rattle.std.proofs.Common.{◌≡◌, ◌<◌, ◌≤◌, ◌∙◌, ℕ, zero, suc, List, [], ◌∷◌, Some, ap, arith, length, map, refl, slice_index_or}
+use Rattle.std.proofs.Common.{◌≡◌, ◌<◌, ◌≤◌, ℕ, zero, suc, List, [], ◌∷◌, Some, ap, arith, length, refl, slice_index_or}
 use Rattle.std.proofs.Common.{subst, sym}
 use Rattle.std.specs.Prelude.{IsSomeAnd, Option}
 use Rattle.std.specs.Fmt.{decimal}
 use Rattle.std.proofs.lemmas.Fmt.{length-decimal-le}
 use Rattle.std.proofs.lemmas.List.{length-map}
-use Rattle.grouping_model.specs.Datum.{Datum, Kind, Row, Bigint_kind, Null}
+use Rattle.grouping_model.specs.Datum.{Kind, Row, Bigint_kind, Null}
 use Rattle.grouping_model.specs.declared.limits.TheConstants.{LAST_NUMBER, LAST_ORIGIN, MAX_ROWS}
 use Rattle.packed_rows.specs.Columns.{Column, kinds}
 use Rattle.packed_rows.specs.Field.{Reads, ReadsRow}
@@ -70,7 +70,7 @@ no_field_fault ks records rows row column reads first =
     let bad = first.fault.2 in
     bad.1 (slice_index_or at.0 column Null) (reads_at ks fields at.0 column at.1 bad.0)
 
--- a file of such records, whose head is read and tells their number, is refused for want of memory alone
+-- a file of such records, whose head is read and tells their number, is refused only because memory ran out
 for_memory : (ks : List Kind) (file : BatchFile) (rows : List Row) (error : BatchError) → HeadReads file.head.origin file.head.number
     → file.head.told ≤ MAX_ROWS → length file.records ≡ file.head.told → ReadsRows ks file.records rows → FileFault ks (Some file) error
     → error ≡ NoMemory

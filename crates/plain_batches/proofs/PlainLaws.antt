@@ -1,9 +1,8 @@
 -- Names in their places, and rows one more at a time.
-use Rattle.std.proofs.Common.{◌≡◌, ◌<◌, ◌≤◌, ◌+◌, ◌∙◌, ℕ, List, [], ◌∷◌, ◌++◌, ap, arith, flat_map, get_or, inl, inr, length, map}
+use Rattle.std.proofs.Common.{◌≡◌, ◌<◌, ◌≤◌, ◌+◌, ◌∙◌, ℕ, List, [], ◌∷◌, ◌++◌, ap, arith, flat_map, get_or, inl, inr, length}
 use Rattle.std.proofs.Common.{subst, suc}
-use Rattle.std.proofs.Common.{sym, take, zero, drop, Some, slice_get, add-zero}
-use Rattle.std.specs.Prelude.{◌⊎◌, All}
-use Rattle.std.specs.List.{AllZip}
+use Rattle.std.proofs.Common.{sym, take, drop, Some, slice_get, add-zero}
+use Rattle.std.specs.Prelude.{All}
 use Rattle.std.proofs.lemmas.Bool.{cases_order}
 use Rattle.std.proofs.lemmas.List.{drop-drop, flat_map_more, get_or-drop, length-drop, take_all, take_more}
 use Rattle.std.proofs.lemmas.List.Elements.{All-cons, All-nil, All-push}

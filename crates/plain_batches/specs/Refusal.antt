@@ -1,13 +1,13 @@
 -- When a plain CSV is refused, and by which refusal. All of this is our own.
-use Rattle.std.specs.Prelude.{◌≡◌, ◌≢◌, ℕ, ◌<◌, Bool, true, false, List, [], take, length, slice_index_or, Some, All}
+use Rattle.std.specs.Prelude.{◌≡◌, ◌≢◌, ℕ, ◌<◌, ◌≤◌, Bool, true, false, List, [], take, length, slice_index_or, Some, All}
 use Rattle.grouping_model.specs.declared.limits.TheConstants.{MAX_INPUT_LEN, MAX_ROWS}
 use Rattle.packed_rows.specs.Columns.{Column, kinds, names}
 use Rattle.script_io.specs.Records.{Record}
 use Rattle.batch_reader.specs.Refusal.{FirstFault}
 use Rattle.batch_reader.specs.declared.error.BatchError.TheVariants as batch
 use Rattle.plain_batches.specs.Plain.{parts_of, plain_records}
-use Rattle.plain_batches.specs.Columns.{ArePlaces, IsNamed, IsNowhere}
-use Rattle.plain_batches.specs.Packed.{IsPlain, Plain, batch_records, file_of, file_text}
+use Rattle.plain_batches.specs.Columns.{AreAmong, ArePlaces, IsNamed, IsNowhere}
+use Rattle.plain_batches.specs.Packed.{MakesFile, batch_records}
 use Rattle.plain_batches.specs.declared.layout.Layout.{Layout}
 use Rattle.plain_batches.specs.declared.error.PackError.{PackError}
 use Rattle.plain_batches.specs.declared.error.PackError.TheVariants.{NoMemory, NoHeader, UnknownColumn, MissingColumn, RepeatedColumn}
@@ -49,15 +49,27 @@ MisplacedFault names header (RepeatedColumn column) = IsFirstMisplaced names hea
     × IsTwice header (slice_index_or names column [])
 MisplacedFault names header error = ⊥
 
--- the error of a header, unless memory ran out: a name too many, where none may be left out, or one that has no place of its own
-abbrev pub HeaderFault : Bool → Record → Record → PackError → Type 0
-HeaderFault skips names header (UnknownColumn place) = (skips ≡ false) × IsFirstUnknown names header place
-HeaderFault skips names header error = MisplacedFault names header error
+-- a header has no name too many, where none may be left out
+abbrev pub HasNoOther : Bool → Record → Record → Type 0
+HasNoOther skips names header = skips ≡ false → AreAmong names header
 
--- the error of rows by their number and widths, unless memory ran out
+-- the error of a header, unless memory ran out: a name too many, where none may be left out, or else one that has no place of its own
+abbrev pub HeaderFault : Bool → Record → Record → PackError → Type 0
+HeaderFault skips names header NoMemory = Unit {0}
+HeaderFault skips names header (UnknownColumn place) = (skips ≡ false) × IsFirstUnknown names header place
+HeaderFault skips names header error = HasNoOther skips names header × MisplacedFault names header error
+
+-- a header is right: it has no name too many, and each column a place of its own
+pub record IsRightHeader (skips : Bool) (names header : Record) : Type 0 where
+  pub known : HasNoOther skips names header
+  pub places : List ℕ
+  pub at : ArePlaces header names places
+
+-- the error of rows by their number and widths, unless memory ran out: that of the first row, of those that a batch may have, which is
+-- wider or narrower than told, or else that there are more
 abbrev pub WidthFault : ℕ → List Record → PackError → Type 0
 WidthFault width rows NoMemory = Unit {0}
-WidthFault width rows (WrongWidth row) = (row < length rows) × (length (slice_index_or rows row []) ≢ width)
+WidthFault width rows (WrongWidth row) = (row < MAX_ROWS) × (row < length rows) × (length (slice_index_or rows row []) ≢ width)
     × All (λ fields. length fields ≡ width) (take row rows)
 WidthFault width rows TooManyRows = (MAX_ROWS < length rows) × All (λ fields. length fields ≡ width) (take MAX_ROWS rows)
 WidthFault width rows error = ⊥
@@ -73,14 +85,14 @@ PartsFault has_header records NoMemory = Unit {0}
 PartsFault has_header records NoHeader = (has_header ≡ true) × (records ≡ [])
 PartsFault has_header records error = ⊥
 
--- its header is refused, and its rows by their number and widths
+-- its header is refused; its header is right, and its rows are refused by their number and widths
 abbrev pub RefusesHeader : List Column → Layout → List ℕ → PackError → Type 0
 RefusesHeader columns layout csv error = (header : Record) × (rows : List Record) × HasParts columns layout csv header rows
     × HeaderFault layout.skips_columns (names columns) header error
 
 abbrev pub RefusesWidths : List Column → Layout → List ℕ → PackError → Type 0
 RefusesWidths columns layout csv error = (header : Record) × (rows : List Record) × HasParts columns layout csv header rows
-    × WidthFault (length header) rows error
+    × IsRightHeader layout.skips_columns (names columns) header × WidthFault (length header) rows error
 
 -- the error of a plain CSV before its batch file is made, unless memory ran out, in this order
 abbrev pub PlainFault : List Column → Layout → List ℕ → PackError → Type 0
@@ -93,10 +105,11 @@ PlainFault columns layout csv (WrongWidth row) = RefusesWidths columns layout cs
 PlainFault columns layout csv TooManyRows = RefusesWidths columns layout csv TooManyRows
 PlainFault columns layout csv error = ⊥
 
--- the error of a plain CSV, unless memory ran out, in this order: of the rows that it has, the first that stands for no row of the columns
+-- the error of a plain CSV, unless memory ran out, in this order. Of one that was made a batch file: this is longer than what is read, or
+-- else that of its first field that stands for no value of its column
 abbrev pub PackFault : List Column → Layout → ℕ → ℕ → List ℕ → PackError → Type 0
-PackFault columns layout origin number csv TooLong = (plain : Plain) × IsPlain columns layout csv plain
-    × (MAX_INPUT_LEN < length (file_text (file_of layout origin number plain)))
-PackFault columns layout origin number csv (BadField row column) = (plain : Plain) × IsPlain columns layout csv plain
-    × FirstFault (kinds columns) (batch_records layout plain) (batch.BadField row column)
+PackFault columns layout origin number csv TooLong = (file : List ℕ) × MakesFile columns layout origin number csv file
+    × (MAX_INPUT_LEN < length file)
+PackFault columns layout origin number csv (BadField row column) = (file : List ℕ) × (made : MakesFile columns layout origin number csv file)
+    × (length file ≤ MAX_INPUT_LEN) × FirstFault (kinds columns) (batch_records layout made.plain) (batch.BadField row column)
 PackFault columns layout origin number csv error = PlainFault columns layout csv error

@@ -66,8 +66,8 @@ fn make_file(
 }
 
 /// The batch file of a plain CSV, by a schema, with this origin and number. Its records are the rows, each with a field for each
-/// column of the schema, in the schema's order; a header, where there is one, tells which field is whose. The fields stand for
-/// values as in a batch file, and the file has been read again by `read_batch` before it is handed out.
+/// column of the schema, in the schema's order, or in that of a header. Fields are those of batch files. The file is handed out only
+/// after `read_batch` has read it again.
 pub fn pack_batch(
     alloc: Global,
     schema: &Schema,
@@ -89,7 +89,7 @@ pub fn pack_batch(
     match read_batch(alloc, schema, &file) {
         Ok(_) => Ok(file),
         Err(BatchError::BadField { row, column }) => Err(PackError::BadField { row, column }),
-        // For want of memory: the file is a batch of rows as wide as the schema.
+        // For out of memory: the file is a batch of rows as wide as the schema.
         Err(_) => Err(PackError::NoMemory),
     }
 }

@@ -4,7 +4,7 @@ ghost use Rattle.std.specs.Prelude.{◌≡◌, ◌≤◌, ◌<◌, ℕ, [], leng
 ghost use Rattle.csv.specs.Records.{fields_of, partial_of};
 ghost use Rattle.packed_rows.specs.Columns.{names};
 ghost use Rattle.plain_batches.specs.Columns.{AreAmong, ArePlaces, IsAlone, IsNamed, IsNowhere};
-ghost use Rattle.plain_batches.specs.Refusal.{HeaderFault, IsFirstUnknown, MisplacedFault, PlaceFault};
+ghost use Rattle.plain_batches.specs.Refusal.{HasNoOther, HeaderFault, IsFirstUnknown, MisplacedFault, PlaceFault};
 
 use crate::error::PackError;
 use csv::ByteRecord;
@@ -90,6 +90,7 @@ fn first_unknown(names: &ByteRecord, header: &ByteRecord) -> Option<usize>
 }
 
 /// The same where the header is right: it has no other name, unless columns may be left out.
+#[tactic(auto, using(crate::proofs::FaultLaws::misplaced_header))]
 pub(crate) fn checked_places(
     alloc: Global,
     names: &ByteRecord,
@@ -98,8 +99,7 @@ pub(crate) fn checked_places(
 ) -> Result<Vec<usize>, PackError>
     ensures places { IfOk result (λ places.
         ArePlaces (fields_of header.now) (fields_of names.now) places.items) }
-    ensures known { OnOk result (skips_columns ≡ false
-        → AreAmong (fields_of names.now) (fields_of header.now)) }
+    ensures known { OnOk result (HasNoOther skips_columns (fields_of names.now) (fields_of header.now)) }
     ensures refused { IfErr result (HeaderFault skips_columns (fields_of names.now)
         (fields_of header.now)) }
 {

@@ -1,4 +1,4 @@
-//! Why a plain CSV is no batch.
+//! Why a plain CSV is not a batch.
 
 ghost use Rattle.std.specs.Prelude.{◌≡◌};
 ghost use Rattle.plain_batches.specs.declared.error.PackError.TheVariants.{NoMemory};
@@ -6,19 +6,19 @@ ghost use Rattle.plain_batches.specs.declared.error.PackError.TheVariants.{NoMem
 use std::alloc::AllocError;
 use thiserror::Error;
 
-/// Why a plain CSV is no batch. The first that applies is told, in this order, `NoMemory` aside; `MissingColumn` and
-/// `RepeatedColumn` are of the first column that the header doesn't name once, and `WrongWidth` comes first where the row is one of
-/// the first [`MAX_ROWS`](grouping_model::limits::MAX_ROWS). Columns of the schema, places in the header and rows are counted from
-/// 0, and the header is no row.
+/// Why a plain CSV is not a batch: the first that applies, in this order, `NoMemory` aside. `MissingColumn` and `RepeatedColumn` name
+/// the first column that the header doesn't name exactly once. `WrongWidth` comes before `TooManyRows` if the row is one of the first
+/// [`MAX_ROWS`](grouping_model::limits::MAX_ROWS). Columns of the schema, places in the header and rows are counted from 0, and the
+/// header is not a row.
 #[derive(Clone, Copy, Debug, PartialEq, Eq, Error)]
 pub enum PackError {
-    /// An allocation failed.
+    /// Memory ran out.
     #[error("out of memory")]
     NoMemory,
-    /// A header is wanted, and there is no record.
+    /// A header is expected, and there is no record.
     #[error("there is no header")]
     NoHeader,
-    /// The header names a column that the schema doesn't have: the first of these.
+    /// The header names a column that the schema doesn't have; this is the first.
     #[error("the schema has no column of the name in place {place} of the header, the first being 0")]
     UnknownColumn { place: usize },
     /// The header doesn't name this column of the schema.
@@ -33,10 +33,10 @@ pub enum PackError {
     /// There are more rows than a batch may have.
     #[error("more rows than a batch may have")]
     TooManyRows,
-    /// The batch file would be longer than one may be.
+    /// The batch file would be too long.
     #[error("the batch file would be too long")]
     TooLong,
-    /// A row's field stands for no value of its column.
+    /// A row's field is not a value of its column.
     #[error("in row {row} a field stands for no value of column {column}, both counted from 0")]
     BadField { row: usize, column: usize },
 }

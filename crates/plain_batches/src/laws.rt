@@ -1,4 +1,4 @@
-//! What a caller may rely on beyond one call. Each is a function that does nothing: its clauses are the laws.
+//! Laws beyond single calls: functions without effect, whose clauses are the laws.
 
 ghost use Rattle.std.specs.Prelude.{◌≡◌, ◌≤◌, ℕ, List, decimal, IsSomeAnd};
 ghost use Rattle.grouping_model.specs.Datum.{Row};
@@ -12,8 +12,8 @@ ghost use Rattle.plain_batches.specs.declared.layout.Layout.{Layout};
 
 use batch_reader::BatchError;
 
-/// What is packed of a plain CSV is read by `read_batch` as the batch of its origin, its number and its rows, and refused only where
-/// memory runs out.
+/// The batch file of a plain CSV is read by `read_batch` as the batch of its origin, number and rows, and refused only if memory runs
+/// out.
 #[tactic(auto, using(crate::proofs::PackedLaws::reads_origin, crate::proofs::PackedLaws::reads_number))]
 pub fn packed_batches_are_read()
     ensures refused { (columns : List Column) (layout : Layout) (origin number : ℕ) (csv file : List ℕ) (error : BatchError)

@@ -1,14 +1,14 @@
-//! How a plain CSV is written.
+//! The format of a plain CSV.
 
-/// How a plain CSV is written, and what becomes of it.
+/// The format of a plain CSV, and how to read it.
 #[derive(Clone, Copy)]
 pub struct Layout<'a> {
     /// The byte between two fields, as `,`, `;` or a tab.
     pub delimiter: u8,
-    /// Whether the first record names the columns. Where it doesn't, they are those of the schema, in its order.
+    /// Whether the first record names the columns. If not, they are those of the schema, in its order.
     pub has_header: bool,
-    /// The field that stands for null. `\N` does in any case.
+    /// The field that is null. `\N` always is, too.
     pub null: &'a [u8],
-    /// Whether columns that the schema doesn't have are left out.
+    /// Whether columns that the schema doesn't have are ignored.
     pub skips_columns: bool,
 }

@@ -1,4 +1,4 @@
-//! Batch files from plain CSV: records that have no head of a batch, whose columns a header may name in any order.
+//! Batch files from plain CSV, which has no batch head, and may have a header that names the columns in any order.
 #![tactic(auto)]
 
 mod batch;

@@ -5,7 +5,8 @@ use Rattle.std.specs.List.{flat_map}
 use Rattle.grouping_model.specs.Aggregates.{Function}
 use Rattle.query_checks.specs.declared.condition.Cond.{Cond}
 use Rattle.query_checks.specs.Forms.{Call_where, form_of, names_of}
-use Rattle.query_checks.specs.Spelling.{call_text, spelled, parted}
+use Rattle.query_checks.specs.Parted.{parted}
+use Rattle.query_checks.specs.Spelling.{call_text, spelled}
 
 regroup : (t a b c d : List ℕ) → (((t ++ a) ++ b) ++ c) ++ d ≡ t ++ (((a ++ b) ++ c) ++ d)
 regroup t a b c d = ap (λ x. x ++ d) (ap (λ x. x ++ c) (append_assoc t a b) ∙ append_assoc t (a ++ b) c) ∙ append_assoc t ((a ++ b) ++ c) d

@@ -9,7 +9,8 @@ use Rattle.query_checks.specs.declared.error.QueryError.TheVariants.{NoMemory, T
 use Rattle.query_checks.specs.Order.{Asked, names_items}
 use Rattle.query_checks.specs.Reads.{filters_pass}
 use Rattle.query_checks.specs.Checks.{all_of, has_too_many, is_shallow, are_shallow, has_columns, placed, checked, checked_places}
-use Rattle.query_checks.specs.Checks.{checked_order, with_order, PassesFirst}
+use Rattle.query_checks.specs.Checks.{with_arrangement, PassesFirst}
+use Rattle.query_checks.specs.Arrangement.{checked_arrangement}
 
 pub gives_too_many : (columns : List Column) (q : Asked) → has_too_many q ≡ true → checked columns q ≡ Err TooMany
 unfolding checked
@@ -38,7 +39,7 @@ refused_as columns q (Err x) e failed told = subst (λ y. y ≢ NoMemory → che
 
 -- a query that passes the first checks goes on to the others
 pub reaches_places : (columns : List Column) (q : Asked) → PassesFirst columns q → checked columns q
-    ≡ with_order columns (checked_places columns (placed columns q.written)) (checked_order q)
+    ≡ with_arrangement columns (checked_places columns (placed columns q.written)) (checked_arrangement q)
 unfolding checked
 reaches_places columns q first =
     cond-false (has_too_many q) _ _ first.few

@@ -8,27 +8,29 @@ use Rattle.grouping_model.specs.Datum as datum
 use Rattle.grouping_model.specs.Datum.{Datum, Kind, Bigint_kind, Boolean_kind, Text_kind}
 use Rattle.grouping_model.specs.Aggregates.{Function}
 use Rattle.grouping_model.specs.Condition.{Is_null}
+use Rattle.grouping_model.specs.Order.{Arrangement}
 use Rattle.grouping_model.specs.declared.limits.TheConstants.{MAX_ITEMS, MAX_KEYS, MAX_CALLS, MAX_QUERY_LEN, DEEPEST_CONDITION}
 use Rattle.agg_protocol.specs.Signatures.{Argument, Values_of, signature}
 use Rattle.packed_rows.specs.Columns as packed
 use Rattle.packed_rows.specs.Columns.{place_of}
 use Rattle.query_checks.specs.declared.error.QueryError.{QueryError}
 use Rattle.query_checks.specs.declared.error.QueryError.TheVariants.{NoSuchColumn, NotGrouped, TypeMismatch, AggregateHere, TooMany}
-use Rattle.query_checks.specs.declared.error.QueryError.TheVariants.{TooDeep, AmbiguousOrder}
+use Rattle.query_checks.specs.declared.error.QueryError.TheVariants.{TooDeep}
 use Rattle.query_checks.specs.declared.order.OrderTerm.{OrderTerm}
 use Rattle.query_checks.specs.Forms.{Unary_operator, Testing, Binary_operator, Comparing, Form, Column, Call, Call_where, Literal, Unary}
 use Rattle.query_checks.specs.Forms.{Binary, Written, map_form}
 pub use Rattle.query_checks.specs.Reads.{is_plain, is_grouped_by, columns_pass, filters_pass}
 use Rattle.query_checks.specs.Sameness.{first_of_each}
-use Rattle.query_checks.specs.Order.{Asked, order_of, names_items, is_ambiguously_ordered}
+use Rattle.query_checks.specs.Order.{Asked, names_items}
+use Rattle.query_checks.specs.Arrangement.{checked_arrangement}
 use Rattle.query_checks.specs.Spelling.{spelling, own_name, kept_alias}
 use Rattle.query_checks.specs.Calls.{distinct_calls}
 
--- a query over the columns of a schema, by their places, and the order of its answer (own)
+-- a query over the columns of a schema, by their places, and how the rows of its answer are arranged (own)
 pub record Checked : Type 0 where
   pub columns : List packed.Column
   pub written : Written ℕ
-  pub order : List OrderTerm
+  pub arrangement : Arrangement OrderTerm
 
 -- whether all conditions of a query pass, WHERE and HAVING by a test of conditions, the items by one of their own
 abbrev pub all_of : {C : Type 0} → (Form C → Bool) → (Form C → Bool) → Written C → Bool
@@ -159,14 +161,11 @@ checked_places columns q =
     if not (is_grouped q) then Err NotGrouped else
     Ok q
 
--- the check of ORDER BY, which comes last
-unfoldable pub checked_order : Asked → Result (List OrderTerm) QueryError
-checked_order q = if is_ambiguously_ordered q then Err AmbiguousOrder else Ok (order_of q)
-
-abbrev pub with_order : List packed.Column → Result (Written ℕ) QueryError → Result (List OrderTerm) QueryError → Result Checked QueryError
-with_order columns (Err error) order = Err error
-with_order columns (Ok written) (Err error) = Err error
-with_order columns (Ok written) (Ok order) = Ok (record { columns = columns; written = written; order = order })
+-- and the check of what stands behind HAVING, which comes last
+abbrev pub with_arrangement : List packed.Column → Result (Written ℕ) QueryError → Result (Arrangement OrderTerm) QueryError → Result Checked QueryError
+with_arrangement columns (Err error) arrangement = Err error
+with_arrangement columns (Ok written) (Err error) = Err error
+with_arrangement columns (Ok written) (Ok arrangement) = Ok (record { columns = columns; written = written; arrangement = arrangement })
 
 -- the query that was checked, or the first of these that is found anywhere in it
 unfoldable pub checked : List packed.Column → Asked → Result Checked QueryError
@@ -174,7 +173,7 @@ checked columns q =
     if has_too_many q then Err TooMany else
     if not (all_of (filters_pass is_shallow) are_shallow q.written) then Err TooDeep else
     if not (has_columns columns q.written && names_items q) then Err NoSuchColumn else
-    with_order columns (checked_places columns (placed columns q.written)) (checked_order q)
+    with_arrangement columns (checked_places columns (placed columns q.written)) (checked_arrangement q)
 
 -- a query that passes the first three, which the others follow
 pub record PassesFirst (columns : List packed.Column) (q : Asked) : Type 0 where

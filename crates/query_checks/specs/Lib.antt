@@ -4,7 +4,9 @@ pub mod Sameness
 pub mod Reads
 pub mod Calls
 pub mod Labels
+pub mod Parted
 pub mod Order
+pub mod Arrangement
 pub mod Spelling
 pub mod Writable
 pub mod Checks

@@ -1,17 +1,22 @@
--- ORDER BY: its terms as they are written, and the items that they mean (PostgreSQL 17, 7.5 Sorting Rows, and SELECT, ORDER
+-- ORDER BY: its terms as they are written, the items that they mean, and their text (PostgreSQL 17, 7.5 Sorting Rows, and SELECT, ORDER
 -- BY Clause; that a term is the name or the place of an item, and no other expression, is our own).
-use Rattle.std.specs.Prelude.{ℕ, ◌-◌, ◌==◌, ◌&&◌, not, nat_le, ℤ, pos, Bool, false, if◌then◌else◌, List, length, map, string_bytes, Option}
-use Rattle.std.specs.Prelude.{Some, None, option_map, is_some, unwrap_or, filter, position}
+use Rattle.std.specs.Prelude.{ℕ, ◌+◌, ◌-◌, ◌==◌, ◌&&◌, not, nat_le, ℤ, pos, Bool, true, false, if◌then◌else◌, List, [], ◌∷◌, ◌++◌, length}
+use Rattle.std.specs.Prelude.{map, codes, string_bytes, Option, Some, None, option_map, is_some, unwrap_or, filter, position, FitsSigned}
+use Rattle.std.specs.Int.{w64}
 use Rattle.std.specs.List.{list_any, list_all, filter_map}
 use Rattle.std.specs.Str.{bytes_eq}
-use Rattle.query_checks.specs.declared.condition.RawQuery.{RawQuery}
+use Rattle.query_tokens.specs.Words.{Integer}
+use Rattle.query_tokens.specs.Spelling.{spell}
+use Rattle.grouping_model.specs.Order.{Arrangement}
+use Rattle.packed_rows.specs.Columns.{IsColumnName}
 use Rattle.query_checks.specs.declared.order.OrderBy.{OrderBy}
 use Rattle.query_checks.specs.declared.order.OrderBy.TheVariants as target
 use Rattle.query_checks.specs.declared.order.RawTerm.{RawTerm}
 use Rattle.query_checks.specs.declared.order.OrderTerm.{OrderTerm}
-use Rattle.query_checks.specs.Forms.{Form, Written, written_of}
+use Rattle.query_checks.specs.Forms.{Form, Written}
 use Rattle.query_checks.specs.Labels.{label_of}
 use Rattle.query_checks.specs.Sameness.{form_eq, first_of_each}
+use Rattle.query_checks.specs.Parted.{parted}
 
 -- what a term names: an item by its name, or by its place, the first being 1
 pub data Target : Type 0 where
@@ -24,10 +29,10 @@ pub record Term : Type 0 where
   pub descending : Bool
   pub nulls_first : Option Bool
 
--- a query with its terms
+-- a query with what stands behind its HAVING
 pub record Asked : Type 0 where
   pub written : Written (List ℕ)
-  pub terms : List Term
+  pub arrangement : Arrangement Term
 
 -- the same of what the code reads
 abbrev pub target_of : OrderBy → Target
@@ -36,9 +41,6 @@ target_of (target.Place place) = By_place place
 
 abbrev pub term_of : RawTerm → Term
 term_of term = record { target = target_of term.target; descending = term.descending; nulls_first = term.nulls_first }
-
-abbrev pub asked_of : RawQuery → Asked
-asked_of raw = record { written = written_of raw; terms = map term_of raw.order.items }
 
 -- whether this is an item's name
 abbrev pub has_name : List ℕ → Form (List ℕ) × Option (List ℕ) → Bool
@@ -79,11 +81,48 @@ same_item a b = a.item == b.item
 -- the order of the answer: the terms that mean an item, each unless one before it orders by this item (own: what is equal by
 -- the earlier term is by the later one)
 abbrev pub order_of : Asked → List OrderTerm
-order_of q = first_of_each same_item (filter_map (term_meant q.written.items) q.terms)
+order_of q = first_of_each same_item (filter_map (term_meant q.written.items) q.arrangement.order)
 
 -- whether each term names an item, and whether one names two
 abbrev pub names_items : Asked → Bool
-names_items q = list_all (λ term. is_some (item_meant q.written.items term.target)) q.terms
+names_items q = list_all (λ term. is_some (item_meant q.written.items term.target)) q.arrangement.order
 
 abbrev pub is_ambiguously_ordered : Asked → Bool
-is_ambiguously_ordered q = list_any (λ term. is_ambiguous q.written.items term.target) q.terms
+is_ambiguously_ordered q = list_any (λ term. is_ambiguous q.written.items term.target) q.arrangement.order
+
+-- a term as its canonical text says it: the place of its item, and NULLS only where it says what the direction doesn't (own)
+abbrev pub nulls_said : Bool → Bool → Option Bool
+nulls_said false false = None
+nulls_said false true = Some true
+nulls_said true true = None
+nulls_said true false = Some false
+
+abbrev pub canonical_term : OrderTerm → Term
+canonical_term term = record {
+  target = By_place (pos (term.item + 1));
+  descending = term.descending;
+  nulls_first = nulls_said
+      term.descending term.nulls_first;
+}
+
+-- the direction of a term, and where nulls come, unless that is the direction's default (PostgreSQL 17, 7.5)
+abbrev pub direction_text : Bool → Bool → List ℕ
+direction_text false false = []
+direction_text false true = codes " NULLS FIRST"
+direction_text true true = codes " DESC"
+direction_text true false = codes " DESC NULLS LAST"
+
+abbrev pub term_text : OrderTerm → List ℕ
+term_text term = spell (Integer (pos (term.item + 1))) ++ direction_text term.descending term.nulls_first
+
+abbrev pub order_text : List OrderTerm → List ℕ
+order_text [] = []
+order_text (term ∷ terms) = codes " ORDER BY " ++ parted (map term_text (term ∷ terms))
+
+-- a term of ORDER BY has a name that a column can have, or a number of 64 bits in two's complement
+abbrev pub IsTarget : Target → Type 0
+IsTarget (By_name name) = IsColumnName name
+IsTarget (By_place place) = FitsSigned w64 place
+
+pub record IsTerm (term : Term) : Type 0 where
+  pub target : IsTarget term.target

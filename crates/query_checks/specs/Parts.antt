@@ -3,9 +3,10 @@ use Rattle.std.specs.Prelude.{ℕ, List, option_map}
 use Rattle.packed_rows.specs.Columns.{Column}
 use Rattle.query_checks.specs.declared.parts.Parts.{Parts}
 use Rattle.query_checks.specs.Forms.{Written, form_of, places_of}
+use Rattle.query_checks.specs.Arrangement.{arrangement_held}
 use Rattle.query_checks.specs.Checks.{Checked}
 
--- the query that they say, and the same over the columns of a schema, in its order
+-- the query that they say, and the same over the columns of a schema, with how its answer is arranged
 abbrev pub written_of_parts : Parts → Written ℕ
 written_of_parts parts =
     record {
@@ -16,4 +17,4 @@ written_of_parts parts =
     }
 
 abbrev pub checked_of : List Column → Parts → Checked
-checked_of columns parts = record { columns = columns; written = written_of_parts parts; order = parts.order.items }
+checked_of columns parts = record { columns = columns; written = written_of_parts parts; arrangement = arrangement_held parts.arrangement }

@@ -10,11 +10,12 @@ pub use Rattle.agg_protocol.specs.Signatures.{Argument, Each_row, Any_value, Val
 unfoldable pub use Rattle.agg_protocol.specs.Signatures.{function_named}
 use Rattle.query_checks.specs.Forms.{Unary_operator, Negation, Testing, Binary_operator, Conjunction, Disjunction, Comparing, Form, Column}
 use Rattle.query_checks.specs.Forms.{Call, Call_where, Literal, Unary, Binary, Written}
-use Rattle.query_checks.specs.declared.order.OrderTerm.{OrderTerm}
 use Rattle.query_checks.specs.declared.levels.TheConstants as levels
 use Rattle.query_checks.specs.Operators.{comparison_text, test_text}
+use Rattle.query_checks.specs.Parted.{parted}
 pub use Rattle.query_checks.specs.Labels.{function_name, own_name, kept_alias, label_of}
-use Rattle.query_checks.specs.Order.{By_place, Term, Asked, order_of}
+use Rattle.query_checks.specs.Order.{Asked}
+use Rattle.query_checks.specs.Arrangement.{arrangement_of, canonical_arrangement, arrangement_text}
 use Rattle.query_checks.specs.Sameness.{first_of_each}
 
 -- an operator between its operands, and IS behind its operand
@@ -83,8 +84,8 @@ spelled (Unary operator x) = unary_text operator (operand (unary_level operator)
 spelled (Binary operator x y) = operand (left_level operator) x (spelled x) ++ operator_text operator
     ++ operand (right_level operator) y (spelled y)
 
--- the query that its canonical text says: each column of GROUP BY once, no alias that is the item's own name, and of ORDER
--- BY the terms that order, by their places, with NULLS only where it says what the direction doesn't (own)
+-- the query that its canonical text says: each column of GROUP BY once, no alias that is the item's own name, and what is left of the
+-- clauses behind HAVING (own)
 abbrev pub canonical_item : Form (List ℕ) × Option (List ℕ) → Form (List ℕ) × Option (List ℕ)
 canonical_item item = (item.0, kept_alias (own_name item.0) item.1)
 
@@ -97,22 +98,8 @@ canonical_written q = record {
       q.having;
 }
 
-abbrev pub nulls_said : Bool → Bool → Option Bool
-nulls_said false false = None
-nulls_said false true = Some true
-nulls_said true true = None
-nulls_said true false = Some false
-
-abbrev pub canonical_term : OrderTerm → Term
-canonical_term term = record {
-  target = By_place (pos (term.item + 1));
-  descending = term.descending;
-  nulls_first = nulls_said
-      term.descending term.nulls_first;
-}
-
 abbrev pub canonical : Asked → Asked
-canonical q = record { written = canonical_written q.written; terms = map canonical_term (order_of q) }
+canonical q = record { written = canonical_written q.written; arrangement = canonical_arrangement (arrangement_of q) }
 
 abbrev pub alias_text : Option (List ℕ) → List ℕ
 alias_text None = []
@@ -120,12 +107,6 @@ alias_text (Some alias) = codes " AS " ++ alias
 
 abbrev pub item_text : Form (List ℕ) × Option (List ℕ) → List ℕ
 item_text item = spelled item.0 ++ alias_text (kept_alias (own_name item.0) item.1)
-
--- texts, parted by commas
-abbrev pub parted : List (List ℕ) → List ℕ
-parted [] = []
-parted (text ∷ []) = text
-parted (text ∷ next ∷ texts) = text ++ codes ", " ++ parted (next ∷ texts)
 
 -- a condition behind a word
 abbrev pub clause_text : List ℕ → Option (Form (List ℕ)) → List ℕ
@@ -136,26 +117,12 @@ abbrev pub keys_text : List (List ℕ) → List ℕ
 keys_text [] = []
 keys_text (name ∷ names) = codes " GROUP BY " ++ parted (name ∷ names)
 
--- a query but its ORDER BY
+-- a query to its HAVING
 abbrev pub written_text : Written (List ℕ) → List ℕ
 written_text q =
     codes "SELECT " ++ parted (map item_text q.items) ++ codes " FROM batches" ++ clause_text (codes " WHERE ") q.condition
     ++ keys_text (first_of_each bytes_eq q.keys) ++ clause_text (codes " HAVING ") q.having
 
--- the direction of a term, and where nulls come, unless that is the direction's default (PostgreSQL 17, 7.5)
-abbrev pub direction_text : Bool → Bool → List ℕ
-direction_text false false = []
-direction_text false true = codes " NULLS FIRST"
-direction_text true true = codes " DESC"
-direction_text true false = codes " DESC NULLS LAST"
-
-abbrev pub term_text : OrderTerm → List ℕ
-term_text term = spell (Integer (pos (term.item + 1))) ++ direction_text term.descending term.nulls_first
-
-abbrev pub order_text : List OrderTerm → List ℕ
-order_text [] = []
-order_text (term ∷ terms) = codes " ORDER BY " ++ parted (map term_text (term ∷ terms))
-
--- a query. A term that is refused or orders by nothing more is as none
+-- a query. A term of ORDER BY that is refused or orders by nothing more is as none
 abbrev pub spelling : Asked → List ℕ
-spelling q = written_text q.written ++ order_text (order_of q)
+spelling q = written_text q.written ++ arrangement_text (arrangement_of q)

@@ -9,7 +9,8 @@ use Rattle.grouping_model.specs.Aggregates.{Function}
 use Rattle.agg_protocol.specs.Signatures.{Argument, Each_row, signature}
 use Rattle.packed_rows.specs.Columns.{IsColumnName}
 use Rattle.query_checks.specs.Forms.{Form, Column, Call, Call_where, Literal, Unary, Binary, Written}
-use Rattle.query_checks.specs.Order.{Target, By_name, By_place, Term, Asked}
+use Rattle.query_checks.specs.Order.{Asked}
+use Rattle.query_checks.specs.Arrangement.{CanBeArranged}
 
 -- what stands in a call's parentheses: no column where the function takes rows, and else a column, which passes a test
 -- (PostgreSQL 17, 4.2.7 Aggregate Expressions)
@@ -50,7 +51,7 @@ pub record IsItem (item : Form (List ℕ) × Option (List ℕ)) : Type 0 where
   pub form : IsForm IsColumnName item.0
   pub alias : ForSome item.1 IsColumnName
 
--- a query but its ORDER BY that a text can say, once it is read: some items, and each column and alias has a name that a column can have
+-- a query to its HAVING that a text can say, once it is read: some items, and each column and alias has a name that a column can have
 -- (PostgreSQL 17, SELECT, 4.1.1 Identifiers and Key Words)
 pub record IsWritable (q : Written (List ℕ)) : Type 0 where
   pub some : q.items ≢ []
@@ -59,15 +60,7 @@ pub record IsWritable (q : Written (List ℕ)) : Type 0 where
   pub keys : AllByRecursion IsColumnName q.keys
   pub having : ForSome q.having (IsForm IsColumnName)
 
--- a term of ORDER BY has a name that a column can have, or a number of 64 bits in two's complement
-abbrev pub IsTarget : Target → Type 0
-IsTarget (By_name name) = IsColumnName name
-IsTarget (By_place place) = FitsSigned w64 place
-
-pub record IsTerm (term : Term) : Type 0 where
-  pub target : IsTarget term.target
-
--- and the same with its ORDER BY
+-- and the same with what stands behind its HAVING
 pub record CanBeAsked (q : Asked) : Type 0 where
   pub written : IsWritable q.written
-  pub terms : AllByRecursion IsTerm q.terms
+  pub arrangement : CanBeArranged q.arrangement

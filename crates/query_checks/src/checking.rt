@@ -3,15 +3,14 @@
 ghost use Rattle.std.specs.Prelude.{◌≡◌, ◌≢◌, true, OnOk, IfOk, IfErr, Ok, Err, string_bytes};
 ghost use Rattle.packed_rows.specs.Columns.{kinds};
 ghost use Rattle.query_checks.specs.declared.error.QueryError.TheVariants.{NoMemory};
-ghost use Rattle.query_checks.specs.Order.{asked_of, order_of};
-ghost use Rattle.query_checks.specs.Checks.{PassesFirst, checked, checked_places, checked_order, kinds_fit};
+ghost use Rattle.query_checks.specs.Arrangement.{asked_of};
+ghost use Rattle.query_checks.specs.Checks.{PassesFirst, checked, checked_places, kinds_fit};
 ghost use Rattle.query_checks.specs.Spelling.{spelling};
 ghost use Rattle.query_checks.specs.Parts.{written_of_parts};
 
 use crate::condition::RawQuery;
 use crate::error::QueryError;
 use crate::limits::text_within;
-use crate::order::is_ambiguously_ordered;
 use crate::parts::Parts;
 use crate::whole::{are_plain, has_names, is_grouped, is_shallow_query, kinds_fit_in};
 use packed_rows::Schema;
@@ -66,23 +65,6 @@ pub fn check_parts(schema: &Schema, parts: &Parts) -> Result<(), QueryError>
     }
     if !is_grouped(parts) {
         return Err(QueryError::NotGrouped);
-    }
-    Ok(())
-}
-
-/// Whether each term of ORDER BY that names an item by its name means just one.
-///
-/// # Errors
-///
-/// `AmbiguousOrder` for a name that two items have that aren't the same column or call.
-#[tactic(auto, unfolding(crate::specs::Checks::checked_order))]
-pub fn check_order(raw: &RawQuery) -> Result<(), QueryError>
-    ensures passed { OnOk result (checked_order (asked_of raw.now)
-        ≡ Ok (order_of (asked_of raw.now))) }
-    ensures refused { IfErr result (λ e. checked_order (asked_of raw.now) ≡ Err e) }
-{
-    if is_ambiguously_ordered(raw) {
-        return Err(QueryError::AmbiguousOrder);
     }
     Ok(())
 }

@@ -1,6 +1,7 @@
 //! Queries as they are written: their parts, their canonical text, and the checks that they pass before they are evaluated.
 #![tactic(auto)]
 
+mod arrangement;
 mod calls;
 mod checking;
 mod checks;
@@ -18,7 +19,8 @@ mod same;
 mod spelling;
 mod whole;
 
-pub use checking::{check_order, check_parts, text_of_known};
+pub use arrangement::{Arrangement, check_arrangement};
+pub use checking::{check_parts, text_of_known};
 pub use condition::{AggCall, Cond, Item, RawQuery};
 pub use error::QueryError;
 pub use levels::precedence;

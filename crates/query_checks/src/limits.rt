@@ -4,16 +4,16 @@ ghost use Rattle.std.specs.Prelude.{◌≡◌, ◌≢◌, ◌<◌, ◌≤◌, ma
 ghost use Rattle.std.specs.Str.{bytes_eq};
 ghost use Rattle.packed_rows.specs.View.{texts_of};
 ghost use Rattle.query_checks.specs.declared.error.QueryError.TheVariants.{NoMemory, TooMany};
-ghost use Rattle.query_checks.specs.Order.{asked_of};
+ghost use Rattle.query_checks.specs.Arrangement.{asked_of};
 ghost use Rattle.query_checks.specs.Sameness.{first_of_each};
 ghost use Rattle.query_checks.specs.Spelling.{spelling};
 ghost use Rattle.query_checks.specs.Checks.{has_too_many};
 
+use crate::arrangement::arrangement_of;
 use crate::calls::has_too_many_calls;
 use crate::condition::RawQuery;
 use crate::distinct::distinct;
 use crate::error::QueryError;
-use crate::order::order_of;
 use crate::spelling::spelled;
 use grouping_model::limits::{MAX_ITEMS, MAX_KEYS, MAX_QUERY_LEN};
 use std::alloc::{AllocError, Global};
@@ -58,8 +58,8 @@ pub(crate) fn text_within(alloc: Global, raw: &RawQuery) -> Result<String, Query
     if has_too_many_calls(alloc, raw)? {
         return Err(QueryError::TooMany);
     }
-    let order = order_of(alloc, raw)?;
-    let text = spelled(alloc, raw, &keys, &order)?;
+    let arrangement = arrangement_of(alloc, raw)?;
+    let text = spelled(alloc, raw, &keys, &arrangement)?;
     if text.len() > MAX_QUERY_LEN {
         return Err(QueryError::TooMany);
     }

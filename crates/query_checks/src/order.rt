@@ -7,8 +7,9 @@ ghost use Rattle.std.specs.Option.{option_map_or};
 ghost use Rattle.query_checks.specs.Forms.{item_form, names_of, item_of, items_of};
 ghost use Rattle.query_checks.specs.Labels.{label_of};
 ghost use Rattle.query_checks.specs.Sameness.{form_eq};
-ghost use Rattle.query_checks.specs.Order.{target_of, term_of, asked_of, By_name, has_name, item_at, item_meant, is_ambiguous, term_meant};
+ghost use Rattle.query_checks.specs.Order.{target_of, term_of, By_name, has_name, item_at, item_meant, is_ambiguous, term_meant};
 ghost use Rattle.query_checks.specs.Order.{order_of, names_items, is_ambiguously_ordered};
+ghost use Rattle.query_checks.specs.Arrangement.{asked_of};
 
 use crate::condition::{Item, RawQuery};
 use crate::distinct::{Same, push_once};

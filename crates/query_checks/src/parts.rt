@@ -3,15 +3,15 @@
 ghost use Rattle.std.specs.Prelude.{◌≡◌, ◌==◌, map, option_map, IfOk, string_bytes};
 ghost use Rattle.query_checks.specs.Forms.{names_of, item_form, items_of, places_of, map_form, written_of};
 ghost use Rattle.query_checks.specs.Checks.{place, placed};
-ghost use Rattle.query_checks.specs.Order.{asked_of, order_of};
+ghost use Rattle.query_checks.specs.Arrangement.{asked_of, arrangement_held, arrangement_of};
 ghost use Rattle.query_checks.specs.Sameness.{first_of_each};
 ghost use Rattle.query_checks.specs.Spelling.{own_name, kept_alias};
 ghost use Rattle.query_checks.specs.Parts.{written_of_parts};
 
+use crate::arrangement::{Arrangement, arrangement_of};
 use crate::condition::{AggCall, Cond, Item, RawQuery};
 use crate::distinct::push_once;
 use crate::mapping::{Mapping, mapped_clause, mapped_item};
-use crate::order::{OrderTerm, order_of};
 use crate::spelling::{kept_alias, own_name};
 use packed_rows::Schema;
 use std::alloc::{AllocError, Global};
@@ -27,8 +27,8 @@ pub struct Parts {
     pub keys: Vec<usize>,
     /// HAVING, if there is one.
     pub having: Option<Cond<usize>>,
-    /// The order of the answer.
-    pub order: Vec<OrderTerm>,
+    /// How the rows of the answer are arranged.
+    pub arrangement: Arrangement,
 }
 
 /// The place of a column, which is there.
@@ -112,19 +112,20 @@ impl Parts {
     pub fn placed(alloc: Global, schema: &Schema, raw: &RawQuery) -> Result<Parts, AllocError>
         ensures written { IfOk result (λ p.
             written_of_parts p ≡ placed schema.now (written_of raw.now)) }
-        ensures order { IfOk result (λ p. p.order.items ≡ order_of (asked_of raw.now)) }
+        ensures arrangement { IfOk result (λ p.
+            arrangement_held p.arrangement ≡ arrangement_of (asked_of raw.now)) }
     {
         let keys = placed_keys(alloc, schema, &raw.keys)?;
         let condition = mapped_clause(alloc, schema, &raw.condition)?;
         let having = mapped_clause(alloc, schema, &raw.having)?;
         let items = placed_items(alloc, schema, &raw.items)?;
-        let order = order_of(alloc, raw)?;
+        let arrangement = arrangement_of(alloc, raw)?;
         Ok(Parts {
             items,
             condition,
             keys,
             having,
-            order,
+            arrangement,
         })
     }
 }

@@ -8,11 +8,14 @@ ghost use Rattle.query_tokens.specs.Spelling.{spell, spell_byte};
 ghost use Rattle.agg_protocol.specs.Kinds.{function_of};
 ghost use Rattle.packed_rows.specs.View.{texts_of};
 ghost use Rattle.query_checks.specs.Forms.{form_of, call_form, item_form, names_of, items_of, written_of};
-ghost use Rattle.query_checks.specs.Order.{asked_of, order_of};
+ghost use Rattle.query_checks.specs.Order.{direction_text, term_text, order_text};
+ghost use Rattle.query_checks.specs.Arrangement.{asked_of, arrangement_held, arrangement_of};
 ghost use Rattle.query_checks.specs.Sameness.{first_of_each};
-ghost use Rattle.query_checks.specs.Spelling.{call_text, level, operand, spelled, own_name, kept_alias, item_text, parted, clause_text};
-ghost use Rattle.query_checks.specs.Spelling.{keys_text, written_text, direction_text, term_text, order_text, spelling};
+ghost use Rattle.query_checks.specs.Spelling.{call_text, level, operand, spelled, own_name, kept_alias, item_text, clause_text};
+ghost use Rattle.query_checks.specs.Parted.{parted};
+ghost use Rattle.query_checks.specs.Spelling.{keys_text, written_text, spelling};
 
+use crate::arrangement::{Arrangement, push_arrangement};
 use crate::condition::{AggCall, Cond, Item, RawQuery};
 use crate::levels::{AND, COMPARISON, IS, NOT, OPERAND, OR};
 use crate::order::OrderTerm;
@@ -315,7 +318,7 @@ fn push_terms(text: &mut String, order: &[OrderTerm]) -> Result<(), AllocError>
 }
 
 /// Appends ORDER BY and its terms, if there are some.
-fn push_order(text: &mut String, order: &[OrderTerm]) -> Result<(), AllocError>
+pub(crate) fn push_order(text: &mut String, order: &[OrderTerm]) -> Result<(), AllocError>
     ensures { OnOk result (string_bytes text.new
         ≡ string_bytes text.old ++ order_text order.now) }
 {
@@ -326,7 +329,7 @@ fn push_order(text: &mut String, order: &[OrderTerm]) -> Result<(), AllocError>
     push_terms(text, order)
 }
 
-/// The text of a query but its ORDER BY, the distinct names of its columns of GROUP BY being given.
+/// The text of a query to its HAVING, the distinct names of its columns of GROUP BY being given.
 fn written(alloc: Global, raw: &RawQuery, keys: &[&str]) -> Result<String, AllocError>
     requires { texts_of keys.now ≡ first_of_each bytes_eq (written_of raw.now).keys }
     ensures { IfOk result (λ text. string_bytes text ≡ written_text (written_of raw.now)) }
@@ -340,18 +343,18 @@ fn written(alloc: Global, raw: &RawQuery, keys: &[&str]) -> Result<String, Alloc
     Ok(text)
 }
 
-/// The canonical text of a query, the distinct names of its columns of GROUP BY and its order being given.
+/// The canonical text of a query, the distinct names of its columns of GROUP BY and how its answer is arranged being given.
 pub(crate) fn spelled(
     alloc: Global,
     raw: &RawQuery,
     keys: &[&str],
-    order: &[OrderTerm],
+    arrangement: &Arrangement,
 ) -> Result<String, AllocError>
     requires keys { texts_of keys.now ≡ first_of_each bytes_eq (written_of raw.now).keys }
-    requires order { order.now ≡ order_of (asked_of raw.now) }
+    requires arrangement { arrangement_held arrangement.now ≡ arrangement_of (asked_of raw.now) }
     ensures { IfOk result (λ text. string_bytes text ≡ spelling (asked_of raw.now)) }
 {
     let mut text = written(alloc, raw, keys)?;
-    push_order(&mut text, order)?;
+    push_arrangement(&mut text, arrangement)?;
     Ok(text)
 }

@@ -9,7 +9,8 @@ ghost use Rattle.query_checks.specs.Forms.{form_of, item_form, names_of, items_o
 ghost use Rattle.query_checks.specs.Reads.{columns_pass, filters_pass, is_grouped_by, is_plain};
 ghost use Rattle.query_checks.specs.Checks.{all_of, is_shallow, are_shallow, is_column, has_columns, operands_fit, condition_fits};
 ghost use Rattle.query_checks.specs.Checks.{are_plain, kinds_fit, is_grouped};
-ghost use Rattle.query_checks.specs.Order.{asked_of, names_items};
+ghost use Rattle.query_checks.specs.Order.{names_items};
+ghost use Rattle.query_checks.specs.Arrangement.{asked_of};
 ghost use Rattle.query_checks.specs.Parts.{written_of_parts};
 
 use crate::checks::{

@@ -1,7 +1,9 @@
 pub mod Terminals
 pub mod Grammar
-pub mod Queries
 pub mod Reading
+pub mod Lists
+pub mod Arrangement
+pub mod Queries
 pub mod Whole
 pub mod Laws
 pub mod Canonical

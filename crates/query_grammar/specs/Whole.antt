@@ -1,13 +1,15 @@
 -- Reading a query from the left (own). `limit` is how many parentheses of one condition may be open at once.
-use Rattle.std.specs.Prelude.{ℕ, zero, suc, Bool, true, false, List, [], ◌∷◌, length, Option, Some, None, Ok, codes, if◌then◌else◌}
+use Rattle.std.specs.Prelude.{ℕ, List, [], ◌∷◌, length, Option, Some, None, Ok, codes, if◌then◌else◌}
 use Rattle.query_tokens.specs.declared.word.Symbol.TheVariants as symbols
 use Rattle.query_tokens.specs.Words.{Lexeme, Name, Integer, Text, Sign}
 use Rattle.query_grammar.specs.Grammar.{Named}
-use Rattle.query_checks.specs.Order.{Target, By_name, By_place, Term, Asked}
+use Rattle.query_checks.specs.Order.{Asked}
 use Rattle.query_tokens.specs.Reserved.{is_reserved}
 use Rattle.query_grammar.specs.Terminals.{function_named, is_word, is_sign}
 use Rattle.query_grammar.specs.Reading.{Read, ◌>>=◌, unexpected, after, choose, expect, name_at, function_or_column, condition_at}
 use Rattle.query_grammar.specs.Reading.{conditions}
+use Rattle.query_grammar.specs.Lists.{list_at}
+use Rattle.query_grammar.specs.Arrangement.{arrangement_at}
 
 -- an item's value: a column, or a call
 unfoldable pub item_value_at : ℕ → List Lexeme → Read Named
@@ -41,19 +43,6 @@ item_at limit ts = do
   alias ← alias_at x.1
   Ok ((x.0, alias.0), alias.1)
 
--- one or more, parted by commas; at most as many as `turns` and one
-unfoldable pub list_at : {A : Type 0} → (List Lexeme → Read A) → ℕ → List Lexeme → Read (List A)
-list_at one zero ts = do
-  x ← one ts
-  Ok (x.0 ∷ [], x.1)
-list_at one (suc turns) ts = do
-  x ← one ts
-  choose (after (is_sign symbols.Comma) x.1)
-      (λ rest. do
-        xs ← list_at one turns rest
-        Ok (x.0 ∷ xs.0, xs.1))
-      (Ok (x.0 ∷ [], x.1))
-
 -- a condition behind a word, or nothing
 unfoldable pub clause_at : ℕ → List ℕ → List Lexeme → Read (Option Named)
 clause_at limit w ts = choose (after (is_word w) ts)
@@ -68,46 +57,6 @@ keys_at ts = choose (after (is_word (codes "group")) ts)
     (λ rest. do
       by ← expect (is_word (codes "by")) rest
       list_at name_at (length by.1) by.1)
-    (Ok ([], ts))
-
--- an item's name or place
-unfoldable pub target_at : List Lexeme → Read Target
-target_at [] = unexpected []
-target_at (Name w ∷ ts) = if is_reserved w then unexpected (Name w ∷ ts) else Ok (By_name w, ts)
-target_at (Integer z ∷ ts) = Ok (By_place z, ts)
-target_at (Text s ∷ ts) = unexpected (Text s ∷ ts)
-target_at (Sign s ∷ ts) = unexpected (Sign s ∷ ts)
-
--- DESC, ASC or nothing: whether it is descending
-unfoldable pub direction_at : List Lexeme → Read Bool
-direction_at ts =
-    choose (after (is_word (codes "desc")) ts) (λ rest. Ok (true, rest)) (
-    choose (after (is_word (codes "asc")) ts) (λ rest. Ok (false, rest)) (Ok (false, ts)))
-
--- what stands behind NULLS: whether they come first
-unfoldable pub first_or_last : List Lexeme → Read (Option Bool)
-first_or_last ts =
-    choose (after (is_word (codes "first")) ts) (λ rest. Ok (Some true, rest)) (
-    choose (after (is_word (codes "last")) ts) (λ rest. Ok (Some false, rest)) (unexpected ts))
-
--- NULLS FIRST, NULLS LAST or nothing
-unfoldable pub nulls_at : List Lexeme → Read (Option Bool)
-nulls_at ts = choose (after (is_word (codes "nulls")) ts) first_or_last (Ok (None, ts))
-
--- a term of ORDER BY
-unfoldable pub term_at : List Lexeme → Read Term
-term_at ts = do
-  target ← target_at ts
-  direction ← direction_at target.1
-  nulls ← nulls_at direction.1
-  Ok (record { target = target.0; descending = direction.0; nulls_first = nulls.0 }, nulls.1)
-
--- ORDER BY and terms, or nothing
-unfoldable pub order_at : List Lexeme → Read (List Term)
-order_at ts = choose (after (is_word (codes "order")) ts)
-    (λ rest. do
-      by ← expect (is_word (codes "by")) rest
-      list_at term_at (length by.1) by.1)
     (Ok ([], ts))
 
 -- no more tokens
@@ -129,6 +78,12 @@ query_at limit ts = do
   condition ← clause_at limit (codes "where") batches.1
   keys ← keys_at condition.1
   having ← clause_at limit (codes "having") keys.1
-  order ← order_at having.1
-  end ← end_at order.1
-  Ok (record { written = record { items = items.0; condition = condition.0; keys = keys.0; having = having.0 }; terms = order.0 }, end.1)
+  arrangement ← arrangement_at having.1
+  end ← end_at arrangement.1
+  Ok (
+    record {
+      written = record { items = items.0; condition = condition.0; keys = keys.0; having = having.0 };
+      arrangement = arrangement.0;
+    },
+    end.1,
+  )

@@ -8,7 +8,8 @@ ghost use Rattle.packed_rows.specs.Columns.{printed};
 ghost use Rattle.having_filter.specs.Kept as kept;
 ghost use Rattle.having_filter.specs.Kept.{by_names};
 ghost use Rattle.query_checks.specs.Checks.{Checked, all_of, filters_pass, is_shallow, are_shallow};
-ghost use Rattle.query_checks.specs.Writable.{IsTerm, IsWritable, CanBeAsked};
+ghost use Rattle.query_checks.specs.Writable.{IsWritable, CanBeAsked};
+ghost use Rattle.query_checks.specs.Arrangement.{CanBeArranged};
 ghost use Rattle.query_checks.specs.Spelling.{spelling};
 ghost use Rattle.query_checks.specs.Order.{Asked};
 ghost use Rattle.query_grammar.specs.Queries.{IsQuery};
@@ -67,7 +68,7 @@ pub fn what_is_a_query_can_be_written()
 pub fn canonical_text_is_read()
     ensures { (q : Asked) → IsWritable q.written →
         all_of (filters_pass is_shallow) are_shallow q.written ≡ true →
-        AllByRecursion IsTerm (canonical q).terms →
+        CanBeArranged (canonical q).arrangement →
         IsSpelled (spelling q) (canonical q) }
 {}
 

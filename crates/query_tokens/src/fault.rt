@@ -22,7 +22,7 @@ pub enum Fault {
 /// Why no tokens were given.
 #[derive(Clone, Copy, Debug, PartialEq, Eq, Error)]
 pub enum TokenError {
-    /// An allocation failed.
+    /// Memory ran out.
     #[error("out of memory")]
     NoMemory,
     /// The text has a fault.

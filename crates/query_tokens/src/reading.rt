@@ -175,7 +175,7 @@ fn word_at(alloc: Global, at: usize, text: &str) -> Result<(Word, &str), TokenEr
 /// The first fault from the left: [`Fault::Syntax`] at the first byte, counted from 0, of what begins no token, or of
 /// an open string, a string with the character 0, a name of more than 63 bytes, or digits with a letter or `_`
 /// directly after them, even if their number is too large; [`Fault::NumberTooLarge`] for an integer that is out of
-/// range. And [`TokenError::NoMemory`] if an allocation failed.
+/// range. And [`TokenError::NoMemory`] if memory ran out.
 pub fn tokens(alloc: Global, text: &str) -> Result<Vec<Token>, TokenError>
     ensures exact { Gives (λ v. all_placed v.items) result (tokens_in text.now) }
     ensures legal { IfOk result (λ v. All (λ t. IsLexeme (lexeme_of t.word)) v.items) }

@@ -172,7 +172,7 @@ only_run held parts run is all alone =
 pub rows_wide : (q : Query) (groups : List Group) → All (λ (row : List Outcome). length row ≡ length q.items) (answer_of q groups)
 rows_wide q groups =
     All-permutation (λ (row : List Outcome). length row ≡ length q.items) (rows_of q (answered q groups)) (answer_of q groups)
-    (sorted_moves (comes_before q.order) (rows_of q (answered q groups)))
+    (sorted_moves (comes_before q.arrangement.order) (rows_of q (answered q groups)))
     (All-from_recursion (λ (row : List Outcome). length row ≡ length q.items) (rows_of q (answered q groups)) (each (answered q groups)))
   where
     each : (groups : List Group) → AllByRecursion (λ (row : List Outcome). length row ≡ length q.items) (rows_of q groups)

@@ -1,4 +1,4 @@
--- Laws: what follows where a batch was delivered to a replica.
+-- Laws: what follows from the delivery of a batch to a replica.
 use Rattle.std.specs.Prelude.{◌≡◌, ◌≢◌, ℕ, Bool, false, List, Option, Some, Result, Ok, Err, IfOk, IfErr, OnOk, IsTrue}
 use Rattle.std.proofs.Common.{◌∙◌, sym, subst}
 use Rattle.std.proofs.lemmas.Result.{IfOk-weaker, IfErr-weaker}
@@ -27,7 +27,7 @@ module _ (honest : Bool) (old new : Held) (batch : Batch) (result : Result Deliv
           delivered_held honest old.query old.parts new.parts batch.origin batch.number batch.rows reply d.held d.limits taken
       go (Err e) taken refused = subst (AreHeldParts old.query) (sym refused.same) d.held
 
-  -- the reply is that of what was known
+  -- the reply follows from what was known
   pub delivery_reply : IfOk result (λ reply. reply ≡ reply_of (told old.parts) (batch.origin, batch.number))
   delivery_reply = IfOk-weaker result (DeliversAt honest old.query old.parts batch.origin batch.number batch.rows new.parts) _
       (λ reply taken. delivered_reply honest old.query old.parts new.parts batch.origin batch.number batch.rows reply d.held d.limits taken)

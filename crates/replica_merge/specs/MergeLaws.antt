@@ -1,4 +1,4 @@
--- Laws: what follows where two replicas were joined or merged.
+-- Laws: what follows from joining or merging two replicas.
 use Rattle.std.specs.Prelude.{◌≡◌, ℕ, Bool, Option, Result, IfErr, OnOk, IsTrue}
 use Rattle.std.proofs.Common.{sym, subst}
 use Rattle.std.proofs.lemmas.Result.{IfOk-weaker, IfErr-weaker}

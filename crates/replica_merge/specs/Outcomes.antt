@@ -1,5 +1,5 @@
--- What holds after a call of a replica: what users ask of it, in the words of what is known and of worlds. It follows from what the call
--- promises (Results), by the laws `delivered_batch`, `joined_replicas` and `merged_replicas`. All of this is our own.
+-- What holds after a call of a replica, in terms of known batches and worlds. It follows from the call's promise (Results), by the laws
+-- `delivered_batch`, `joined_replicas` and `merged_replicas`. All of this is our own.
 use Rattle.std.specs.Prelude.{◌≡◌, ◌≢◌, ℕ, Bool, false, List, Option, Some, Result, IfOk, IfErr, OnOk, IsTrue}
 use Rattle.grouping_model.specs.Datum.{Row}
 use Rattle.grouping_model.specs.Replies.{reply_of}
@@ -16,9 +16,9 @@ use Rattle.replica_merge.specs.Replicas.{Parts, Held, part_of, told, Fits, AreHe
 use Rattle.replica_merge.specs.declared.error.MergeError.{MergeError}
 use Rattle.replica_merge.specs.declared.error.MergeError.TheVariants.{Join}
 
--- a batch was delivered: the reply is that of what was known, and the batch is known from then on. Over an honest disk, a replica that fits
--- a world whose batch this is fits it still. A refused batch is handed back, and nothing changes. A disagreement is always reported, and
--- never for the batch of a world that the replica fits; nothing else is reported for a number that is known already
+-- a batch was delivered: the reply follows from what was known, and the batch is known from then on. Over an honest disk, a replica still
+-- fits a world that has the batch, if it did before. A refused batch is handed back, and nothing changes. A disagreement is always
+-- reported, and never for the batch of a world that the replica fits; nothing else is reported for a known number
 pub record AfterDelivery (honest : Bool) (old : Held) (batch : Batch) (new : Held) (result : Result Delivered RefusedBatch) : Type 0 where
   pub held : AreHeldParts new.query new.parts
   pub reply : IfOk result (λ reply. reply ≡ reply_of (told old.parts) (batch.origin, batch.number))
@@ -33,12 +33,12 @@ pub record AfterDelivery (honest : Bool) (old : Held) (batch : Batch) (new : Hel
   pub agrees : IfErr result (λ e. (number : Option ℕ) → e.why ≡ OriginDisagrees number → (world : World) (rows : List Row)
       → Fits world old → world batch.origin batch.number ≡ Some rows → batch.rows ≢ packings rows)
 
--- a disagreement of two replicas is reported only where no world fits both
+-- a disagreement of two replicas is reported only if no world fits both
 abbrev pub TellsApart : {T : Type 0} → Held → Held → Result T MergeError → Type 0
 TellsApart own theirs result = IfErr result (λ e. (origin : ℕ) (number : Option ℕ) → e ≡ Join origin (OriginDisagrees number)
     → (world : World) → Fits world own → ¬ (Fits world theirs))
 
--- two replicas were joined aside from both: these disagree nowhere
+-- two replicas were joined apart from both: they disagree nowhere
 pub record AfterJoin (own theirs : Held) (result : Result Parts MergeError) : Type 0 where
   pub agreed : OnOk result (¬ (DisagreeSomewhere own.parts theirs.parts))
   pub apart : TellsApart own theirs result

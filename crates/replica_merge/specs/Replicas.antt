@@ -30,7 +30,7 @@ use Rattle.replica_merge.specs.declared.error.MergeError.TheVariants.{DifferentQ
 abbrev pub part_at : Parts → ℕ → Option Part
 part_at parts origin = lookup (eq_by_cmp nat_cmp origin) parts
 
--- what is held of an origin: nothing where there is no part
+-- what is held of an origin: nothing if there is no part
 abbrev pub part_of : Parts → ℕ → Part
 part_of parts origin = unwrap_or (part_at parts origin) empty
 
@@ -43,7 +43,7 @@ batches_of held = map (λ (number : ℕ). (held.0, number)) (count_up 1 held.1.p
 abbrev pub told : Parts → Knowledge
 told parts = knowing (flat_map batches_of parts)
 
--- what a replica holds: the query that it answers, and the parts of the origins that it knows something of
+-- a replica: its query, and the parts of the origins that it knows something of
 pub record Held : Type 0 where
   pub query : Checked
   pub parts : Parts
@@ -56,7 +56,7 @@ Fits world held = (origin : ℕ) → FitsOrigin (meaning held.query) world origi
 abbrev pub SameQuery : Checked → Checked → Type 0
 SameQuery a b = (printed a.columns ≡ printed b.columns) × (spelling (by_names a) ≡ spelling (by_names b))
 
--- the parts of one replica and of another, origin by origin: where the other has none, there is what there was
+-- the parts of two replicas, joined origin by origin: if the other has none, the own part stays
 abbrev pub JoinsAt : (honest : Bool) → Checked → Part → Option Part → Option Part → Option Part → Type 0
 JoinsAt honest query own old None new = new ≡ old
 JoinsAt honest query own old (Some theirs) new = (part : Part) × (new ≡ Some part) × Joins honest (meaning query) own theirs part
@@ -66,7 +66,7 @@ MergesParts honest query old other new = (origin : ℕ) → JoinsAt honest query
     origin)
     (part_at new origin)
 
--- replicas of a query that fit a world, and what becomes of the first where it takes the second, over an honest disk
+-- replicas of a query that fit a world, and the first one after it takes in the second, over an honest disk
 pub record MergesIn (world : World) (query : Checked) (own theirs new : Parts) : Type 0 where
   pub of_columns : IsWorld (kinds query.columns) world
   pub own_held : AreHeldParts query own
@@ -112,7 +112,7 @@ pub record IsFirstRefused (own theirs : Parts) (origin : ℕ) (why : JoinError) 
   pub below : (lower : ℕ) → lower < origin → (other : Part) → part_at theirs lower ≡ Some other
       → ¬ (PartsDisagree (part_of own lower) other)
 
--- what a refusal to merge two replicas says of them: first of their queries, and then of the parts
+-- what a refusal to merge two replicas says: first of their queries, and then of the parts
 abbrev pub MergeTells : MergeError → Held → Held → Type 0
 MergeTells DifferentQuery own theirs = ¬ (SameQuery own.query theirs.query)
 MergeTells NoMemory own theirs = theirs.query ≡ own.query
@@ -128,7 +128,7 @@ pub record DeliversAt (honest : Bool) (query : Checked) (old : Parts) (origin nu
   pub others : (other : ℕ) → other ≢ origin → part_at new other ≡ part_at old other
   pub rising : IsStrictlySortedBy nat_cmp (map (λ (held : ℕ × Part). held.0) new)
 
--- a batch is refused: it is handed back, the parts stay, and why
+-- a batch is refused: it is handed back, the parts stay, and the reason
 pub record RefusesAt (old : Parts) (batch : packed.Batch) (new : Parts) (refused : RefusedBatch) : Type 0 where
   pub back : refused.batch ≡ batch
   pub same : new ≡ old

@@ -13,10 +13,10 @@ pub enum MergeError {
     /// The replicas answer different queries, or have different schemas.
     #[error("the replicas answer different queries")]
     DifferentQuery,
-    /// An allocation failed, other than in joining the parts of an origin.
+    /// Memory ran out, other than in joining the parts of an origin.
     #[error("out of memory")]
     NoMemory,
-    /// The parts of an origin are not joined. It is the lowest such origin: the parts of no lower one disagree.
+    /// The parts of an origin are not joined. It is the lowest such origin: no lower one disagrees.
     #[error("the parts of an origin are not joined")]
     Join {
         /// The origin.

@@ -7,6 +7,6 @@ pub struct KnownOrigin {
     pub origin: u16,
     /// Its unbroken prefix: the batches 1 to this number are known.
     pub upto: u32,
-    /// The numbers that are known above the prefix, rising.
+    /// The numbers that are known above the prefix, in ascending order.
     pub early: Vec<u32>,
 }

@@ -19,26 +19,25 @@ ghost use Rattle.replica_merge.specs.Results.{DeliversBatch, JoinsReplicas, Merg
 ghost use Rattle.replica_merge.specs.declared.error.MergeError.{MergeError};
 ghost use Rattle.replica_merge.specs.Replicas.{Parts, Held, told, Fits, AreHeldParts, MergesParts, MergesIn, counted_part};
 
-/// What holds after a delivery, as follows from what `deliver` promises.
+/// What holds after a delivery, by the contract of `deliver`.
 pub fn delivered_batch()
     ensures { (honest : Bool) (old new : Held) (batch : Batch) (result : Result Delivered RefusedBatch) →
         DeliversBatch honest old batch new result → AfterDelivery honest old batch new result }
 {}
 
-/// What holds after a join, as follows from what `join` promises.
+/// What holds after a join, by the contract of `join`.
 pub fn joined_replicas()
     ensures { (honest : Bool) (own theirs : Held) (result : Result Parts MergeError) →
         JoinsReplicas honest own theirs result → AfterJoin own theirs result }
 {}
 
-/// What holds after a merge, as follows from what `merge` promises.
+/// What holds after a merge, by the contract of `merge`.
 pub fn merged_replicas()
     ensures { (honest : Bool) (old other new : Held) (result : Result (Unit {0}) MergeError) →
         MergesReplicas honest old other new result → AfterMerge honest old other new result }
 {}
 
-/// What is known after merging depends neither on which replica takes in the other, nor on how several are grouped, and merging again adds
-/// nothing.
+/// Merging commutes, associates and is idempotent, in what is known.
 pub fn merged_knowledge()
     ensures commutative { (h i : Bool) (query : Checked) (a b ab ba : Parts) → AreHeldParts query a →
         AreHeldParts query b → AreHeldParts query ab → AreHeldParts query ba →
@@ -52,8 +51,8 @@ pub fn merged_knowledge()
         AreHeldParts query aa → MergesParts honest query a a aa → told aa ≡ told a }
 {}
 
-/// Replicas that fit one world and know the same batches save the same bytes. So the saved bytes, too, depend neither on which replica
-/// takes in the other, nor on how several are grouped, and merging again changes nothing.
+/// Replicas that fit one world and know the same batches save the same bytes. So merging commutes, associates and is idempotent in saved
+/// bytes, too.
 pub fn merged_files()
     ensures same { (world : World) (query : Checked) (a b : Parts) (bytes those : List ℕ) →
         AreHeldParts query a → AreHeldParts query b →
@@ -76,9 +75,9 @@ pub fn countable_rows()
         all_rows (map counted_part parts) ≤ most_rows }
 {}
 
-/// The file of a query, a world and what is known of this world, if it is read, is read in either version as a replica of the query that
-/// fits the world and knows just that, and as no other. A query's text is UTF-8. A file that is read as a replica is the file, in its
-/// version, of the query, a world and what the replica knows, exactly if the replica fits this world.
+/// The file of a query, a world and what is known of this world, if it is read, is read in either version as the one replica of the query
+/// that fits the world and knows just that. A query's text is UTF-8. A file that is read as a replica is the file, in its version, of the
+/// query, a world and what the replica knows, exactly if the replica fits this world.
 pub fn files_that_fit()
     ensures loaded { (version : Version) (query : Checked) (world : World) (known : Knowledge) (bytes : List ℕ) (held : Held) →
         IsCheckedQuery query → IsUtf8 (spelling (by_names query)) → IsWorld (kinds query.columns) world →

@@ -1,4 +1,4 @@
-//! Replicas: what a site knows of the numbered batches of many origins, and its answer to a query over them.
+//! Replicas: the numbered batches of many origins that a site knows, and its answer to a query over them.
 #![tactic(auto)]
 
 mod error;

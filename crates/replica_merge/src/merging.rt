@@ -1,4 +1,4 @@
-//! Merging two replicas: the parts of both are joined aside, and then moved in without taking memory.
+//! Merging two replicas: the parts of both are joined apart, and then moved in without taking memory.
 
 ghost use Rattle.std.specs.Prelude.{◌≡◌, ℕ, Bool, map, cond, option_map, unwrap_or, Some, IfOk, IsTrue, IsSomeAnd};
 ghost use Rattle.std.specs.List.Sorted.{IsStrictlySortedBy};
@@ -19,8 +19,8 @@ use std::collections::BTreeMap;
 use std::marker::Model;
 use std::mem::replace;
 
-/// What two replicas hold together, built aside from both. For each origin that the other one has, it is what the own part takes in to
-/// become what both give. A part that stays has an empty place: the other replica has none, or it includes the other's.
+/// What two replicas hold together, built apart from both: for each origin of the other one, what the own part takes in to become the
+/// joined part. A part that stays has an empty place: the other replica has none, or it includes the other's.
 #[derive(Drop)]
 pub struct Joined {
     parts: BTreeMap<u16, OriginPart>,
@@ -149,14 +149,14 @@ fn fill(parts: &mut BTreeMap<u16, OriginPart>, old: BTreeMap<u16, OriginPart>)
 }
 
 impl Replica {
-    /// What this replica and another hold together, built aside from both: `commit` moves it in. What it took to fold early batches whose
+    /// What this replica and another hold together, built apart from both: `commit` moves it in. The cost of folding early batches whose
     /// gap is closed is added to `work`; an error adds nothing.
     ///
     /// # Errors
     ///
-    /// First `DifferentQuery`. Then, by rising origin: `OriginDisagrees` with the first number at which its parts disagree, a failed
-    /// allocation, or an error of the disk of tapes. The parts of all lower origins were joined before, by construction; `order` of
-    /// `MergeRan` has what a clause can say of it.
+    /// First `DifferentQuery`. Then, by ascending origin: `OriginDisagrees` with the first number at which its parts disagree, a failed
+    /// allocation, or an error of the tape disk. The parts of all lower origins were joined before, by construction; `order` of `MergeRan`
+    /// says what a clause can say of it.
     pub fn join<H: KeyHash + Copy, D: TapeDisk>(
         &self,
         other: &Replica,
@@ -183,7 +183,7 @@ impl Replica {
         )
     }
 
-    /// Takes what this replica and another hold together in the place of what it held. It takes no memory.
+    /// Replaces what this replica holds by what it and another hold together. It takes no memory.
     pub fn commit(&mut self, joined: Joined)
         requires { (honest : Bool) × (other : Held) × JoinsHeld honest self.old other joined }
         ensures { (honest : Bool) (other : Held) → JoinsHeld honest self.old other joined → MergesHeld honest self.old other self.new }
@@ -193,9 +193,9 @@ impl Replica {
         fill(&mut self.parts, old);
     }
 
-    /// Takes in what another replica holds: afterwards this one knows what either knew. The other must answer the same query over the same
-    /// schema, and hold no other batch of a number, as far as that can still be seen. What it took to fold early batches whose gap is
-    /// closed is added to `work`.
+    /// Merges another replica: afterwards this one knows what either knew. The other must answer the same query over the same schema, and
+    /// have no other batch of a number, as far as this can still be detected. The cost of folding early batches whose gap is closed is
+    /// added to `work`.
     ///
     /// # Errors
     ///

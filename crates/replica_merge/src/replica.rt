@@ -1,4 +1,4 @@
-//! What a replica holds, and what it knows and answers.
+//! What a replica holds, knows and answers.
 
 ghost use Rattle.std.specs.Prelude.{◌≡◌, ℕ, List, None, All, [], map, length, IfOk, OnErr};
 ghost use Rattle.grouping_model.specs.Answer.{answer};
@@ -27,7 +27,7 @@ use std::alloc::{AllocError, Global};
 use std::collections::BTreeMap;
 use std::marker::Model;
 
-/// A query, and what is held to answer it: of each origin the groups of its unbroken prefix and the batches that came early.
+/// A query, and of each origin the groups of its unbroken prefix and its early batches.
 #[derive(Drop)]
 pub struct Replica {
     pub(crate) alloc: Global,
@@ -107,7 +107,7 @@ fn take_back(parts: &mut BTreeMap<u16, OriginPart>, origin: u16, is_new: bool)
 }
 
 impl Replica {
-    /// A replica that knows nothing, to answer a query.
+    /// An empty replica of a query.
     pub fn new(alloc: Global, query: Query) -> Replica
         ensures { result ≡ record { query = query; parts = [] } }
     {
@@ -125,17 +125,17 @@ impl Replica {
         &self.query
     }
 
-    /// What is known, by rising origin. The only error is a failed allocation.
+    /// What is known, by ascending origin. The only error is out of memory.
     pub fn known(&self) -> Result<Vec<KnownOrigin>, AllocError>
         ensures { IfOk result (λ list. map known_of list.items ≡ known_list (told self.now.parts)) }
     {
         known_parts(self.alloc, &self.parts)
     }
 
-    /// Takes a batch of the query's table, with an origin and a number within the limits. A batch whose number is known already changes
-    /// nothing. One next to its origin's unbroken prefix is folded, with the early ones that follow without a gap, by `means` and over a
-    /// disk. Any other is kept until its gap is closed. A refused batch is handed back and changes nothing: memory ran out, its number is
-    /// kept early with other rows, or the disk failed. What the folding took is added to `work`.
+    /// Takes a batch of the query's columns, with an origin and a number within the limits. A known number changes nothing. A batch next to
+    /// its origin's unbroken prefix is folded, with the early ones that follow without a gap, by `means` and over a disk. Any other is kept
+    /// until its gap is closed. A refused batch is handed back and changes nothing: memory ran out, its number is early with other rows, or
+    /// the disk failed. The cost of folding is added to `work`.
     pub fn deliver<H: KeyHash + Copy, D: TapeDisk>(
         &mut self,
         batch: Batch,
@@ -150,7 +150,7 @@ impl Replica {
             (AreCounted (aggregations_on (part_of self.old.parts batch.origin) batch.number batch.rows)) (batch_ended result)
             disk.old work.old disk.new work.new }
     {
-        // The part has its place before the batch is taken, so that a batch is never lost.
+        // The part gets its place before the batch is taken, so a batch is never lost.
         let origin = batch.origin;
         let Ok(is_new) = place_of(self.alloc, &mut self.parts, origin) else {
             let why = JoinError::from(AllocError);
@@ -170,12 +170,12 @@ impl Replica {
 
     /// The answer of the query over the rows of the unbroken prefixes: a row of the query's items for each group for which HAVING is true,
     /// in the order of ORDER BY, and else in the order of the keys. Without GROUP BY there is one group, even over no rows. The groups of
-    /// several origins stand in the order of their keys already and are merged; those of one are shown as they stand. So it takes only
-    /// memory, and neither a limit nor a disk.
+    /// several origins are sorted by their keys already, and are merged; those of one are used as they are. So it needs only memory, and
+    /// neither a limit nor a disk.
     ///
     /// # Errors
     ///
-    /// An allocation that failed.
+    /// Out of memory.
     pub fn answer(&self) -> Result<Answer, AllocError>
         ensures width { IfOk result (All (λ row. length row
             ≡ length (meaning self.now.query).items)) }

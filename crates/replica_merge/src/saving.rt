@@ -25,24 +25,23 @@ impl Replica {
         encode(self.alloc, &self.query, &self.parts)
     }
 
-    /// How many bytes the file has that [`Replica::save`] gives, or the greatest number where they are more. The file is not made for that.
-    /// The only error is a failed allocation.
+    /// How many bytes the file of [`Replica::save`] has, or the greatest number if they are more. The file is not made for that.
+    /// The only error is out of memory.
     pub fn saved_len(&self) -> Result<usize, AllocError>
         ensures { IfOk result (HasLength self.now.query self.now.parts) }
     {
         encoded_len(&self.query, &self.parts)
     }
 
-    /// The replica that a summary file is of, of either version. Any bytes are read: those that are no such file are refused, by the first
-    /// fault.
+    /// The replica of a summary file, of either version. Any bytes are read: other bytes are refused by their first fault.
     pub fn load(alloc: Global, bytes: &[u8]) -> Result<Replica, SummaryError>
         ensures { LoadsReplica bytes.now result }
     {
         Replica::load_sharing(alloc, None, bytes)
     }
 
-    /// What [`Replica::load`] gives, with the same errors. If a query is given and the file has the same one, the replica shares it: it is
-    /// not held a second time, and its texts are compared instead of parsed.
+    /// The replica of [`Replica::load`], with the same errors. If a query is given and the file has the same one, the replica shares it: it
+    /// is held once, and its texts are compared instead of parsed.
     pub fn load_sharing(
         alloc: Global,
         known: Option<&Query>,

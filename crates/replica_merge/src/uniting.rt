@@ -14,7 +14,7 @@ use origin_prefix::OriginPart;
 use std::alloc::{AllocError, Global};
 use std::collections::BTreeMap;
 
-/// The parts of all origins, by rising origin. The only error is a failed allocation.
+/// The parts of all origins, by ascending origin. The only error is out of memory.
 pub(crate) fn listed(
     alloc: Global,
     parts: &BTreeMap<u16, OriginPart>,
@@ -28,7 +28,7 @@ pub(crate) fn listed(
     Ok(list)
 }
 
-/// The run of a part that stands alone.
+/// The run of a single part.
 pub(crate) fn run_alone<'a>(parts: &[&'a OriginPart]) -> Option<&'a Run>
     ensures alone { IfSome result (λ run. IsRunAlone parts.now run.now) }
     ensures others { result ≡ None → length parts.now ≢ 1 }
@@ -41,7 +41,7 @@ pub(crate) fn run_alone<'a>(parts: &[&'a OriginPart]) -> Option<&'a Run>
     }
 }
 
-/// The groups of a part, or of none, again. The only error is a failed allocation.
+/// A copy of the groups of a part, or of none. The only error is out of memory.
 fn copied(alloc: Global, parts: &[&OriginPart]) -> Result<Run, AllocError>
     requires few { length parts.now ≤ 1 }
     ensures alone { IfOk result (λ copy. (parts.now ≡ [] → copy ≡ []) × (parts.now ≢ [] → IsRunAlone parts.now copy)) }
@@ -55,7 +55,7 @@ fn copied(alloc: Global, parts: &[&OriginPart]) -> Result<Run, AllocError>
 /// The groups of all parts in one run, each once, with the states of all that have it.
 ///
 /// The runs of the parts are in key order already, so this is a merge sort: each half of the parts is united, and the second run is added
-/// to the first. So a group is copied once for each halving, and not once for each part. The only error is a failed allocation.
+/// to the first. So a group is copied once for each halving, not once for each part. The only error is out of memory.
 pub(crate) fn united(alloc: Global, query: &Query, parts: &[&OriginPart]) -> Result<Run, AllocError>
     requires inputs { AllByRecursion (IsInput (meaning query.now)) (brought_by parts.now) }
     requires few { all_rows (brought_by parts.now) ≤ most_counted }

@@ -34,14 +34,14 @@ pub record IsBatch (kinds : List Kind) (origin number : List ℕ) (told : ℕ) (
   pub whole : length owned ≡ told
   pub rows_are : ReadsRows kinds owned fed.rows
 
--- why a feed is no batch of these columns: the first refusal of a batch that applies
+-- why a feed is not a batch of these columns: the first refusal of a batch that applies
 pub record IsNoBatch (kinds : List Kind) (origin number : List ℕ) (told : ℕ) (owned : List Record) (why : Refusal) : Type 0 where
   pub error : BatchError
   pub found : error ≢ batch.NoMemory
   pub fault : BuildFault kinds origin number told owned error
   pub named : why ≡ batch_refusal error
 
--- why a text is no query over these columns: its first fault
+-- why a text is not a query over these columns: its first fault
 pub record IsNoQuery (columns : List Column) (text : List ℕ) (why : Refusal) : Type 0 where
   pub error : ParseError
   pub fault : Refuses columns text error
@@ -55,7 +55,7 @@ IsOfBatch TapeFault = ⊥
 IsOfBatch TapeDamaged = ⊥
 IsOfBatch why = Unit {0}
 
--- a replica took a batch that was fed, over a disk of tapes that may be honest
+-- a replica took a batch that was fed, over a tape disk that may be honest
 pub record Takes (honest : Bool) (origin number : List ℕ) (told_rows : ℕ) (owned : List Record) (old new : Held) (delivered : Delivered) :
     Type 0 where
   pub fed : Fed

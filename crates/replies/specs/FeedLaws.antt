@@ -31,7 +31,7 @@ taken_read honest old batch new delivered d = λ origin number told_rows owned r
 
 module _ (honest : Bool) (old : Held) (batch : Batch) (new : Held) (refused : RefusedBatch)
     (d : DeliversBatch honest old batch new (Err refused)) where
-  -- it is never refused for what it says, only for what the replica holds, for want of memory, or by the disk
+  -- it is never refused for what it says, only for what the replica holds, because memory ran out, or by the disk
   pub refused_not_of_batch : ¬ (IsOfBatch (refused_batch refused))
   refused_not_of_batch = not_of_batch refused.batch.origin refused.why
 

@@ -9,7 +9,9 @@ use Rattle.query_checks.specs.declared.error.QueryError.TheVariants.{NoSuchColum
 use Rattle.query_checks.specs.declared.order.OrderTerm.{OrderTerm}
 use Rattle.query_checks.specs.Forms.{Written}
 use Rattle.query_checks.specs.Order.{Asked, names_items}
-use Rattle.query_checks.specs.Checks.{Checked, checked, checked_places, checked_order, with_order, placed, has_too_many, all_of}
+use Rattle.query_checks.specs.Arrangement.{checked_arrangement}
+use Rattle.grouping_model.specs.Order.{Arrangement}
+use Rattle.query_checks.specs.Checks.{Checked, checked, checked_places, with_arrangement, placed, has_too_many, all_of}
 use Rattle.query_checks.specs.Checks.{filters_pass, is_shallow, are_shallow, has_columns}
 use Rattle.group_parser.specs.Parsing.{Accepts}
 
@@ -19,11 +21,11 @@ behind : (fails : Bool) (error : QueryError) (rest : Result Checked QueryError) 
 behind true error rest q passed = absurd (false≢true (ap (λ (r : Result Checked QueryError). is_ok r) passed))
 behind false error rest q passed = passed
 
-over_order : (columns : List Column) (written : Result (Written ℕ) QueryError) (order : Result (List OrderTerm) QueryError) (q : Checked)
-    → with_order columns written order ≡ Ok q → q.columns ≡ columns
-over_order columns (Err e) order q passed = absurd (false≢true (ap (λ (r : Result Checked QueryError). is_ok r) passed))
-over_order columns (Ok written) (Err e) q passed = absurd (false≢true (ap (λ (r : Result Checked QueryError). is_ok r) passed))
-over_order columns (Ok written) (Ok order) q passed = sym (ap (λ (r : Result Checked QueryError). columns_or columns r) passed)
+over_arrangement : (columns : List Column) (written : Result (Written ℕ) QueryError) (arrangement : Result (Arrangement OrderTerm) QueryError) (q : Checked)
+    → with_arrangement columns written arrangement ≡ Ok q → q.columns ≡ columns
+over_arrangement columns (Err e) arrangement q passed = absurd (false≢true (ap (λ (r : Result Checked QueryError). is_ok r) passed))
+over_arrangement columns (Ok written) (Err e) q passed = absurd (false≢true (ap (λ (r : Result Checked QueryError). is_ok r) passed))
+over_arrangement columns (Ok written) (Ok arrangement) q passed = sym (ap (λ (r : Result Checked QueryError). columns_or columns r) passed)
   where
     columns_or : List Column → Result Checked QueryError → List Column
     columns_or cs (Ok r) = r.columns
@@ -32,7 +34,7 @@ over_order columns (Ok written) (Ok order) q passed = sym (ap (λ (r : Result Ch
 over_columns : (columns : List Column) (asked : Asked) (q : Checked) → checked columns asked ≡ Ok q → q.columns ≡ columns
 unfolding checked
 over_columns columns asked q passed =
-    over_order columns (checked_places columns (placed columns asked.written)) (checked_order asked) q
+    over_arrangement columns (checked_places columns (placed columns asked.written)) (checked_arrangement asked) q
     (behind (not (has_columns columns asked.written && names_items asked)) NoSuchColumn _ q
     (behind (not (all_of (filters_pass is_shallow) are_shallow asked.written)) TooDeep _ q
     (behind (has_too_many asked) TooMany _ q passed)))

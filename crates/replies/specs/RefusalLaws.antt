@@ -1,4 +1,4 @@
--- Laws: how often the disk of tapes failed, by what was refused, and what a refusal is of.
+-- Laws: how often the tape disk failed, by what was refused, and what a refusal is of.
 use Rattle.std.specs.Prelude.{◌≡◌, ◌≢◌, ℕ, refl, false, Option, Some, if◌then◌else◌}
 use Rattle.std.proofs.Common.{◌∙◌, ap}
 use Rattle.packed_rows.specs.declared.error.RowError.{RowError}
@@ -74,7 +74,7 @@ pub batch_own : (error : BatchError) → batch_refusal error ≢ NoMemory → Is
 batch_own batch.NoMemory other = other refl
 batch_own error other = tt
 
--- it is no disagreement
+-- it is not a disagreement
 pub batch_never_disagrees : (error : BatchError) (of : ℕ) (at : Option ℕ) → batch_refusal error ≢ refuse.OriginDisagrees of at
 batch_never_disagrees batch.NoMemory of at same = cc
 batch_never_disagrees batch.BadBatchHead of at same = cc

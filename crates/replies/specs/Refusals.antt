@@ -1,4 +1,4 @@
--- What lower crates refuse, as replies name it: their own errors, but for want of memory. All of this is our own.
+-- What lower crates refuse, as replies name it: their own errors, except out of memory. All of this is our own.
 use Rattle.std.specs.Prelude.{◌≡◌, ℕ, Bool, true, false, Option, Some, None, Result, if◌then◌else◌}
 use Rattle.hash_agg.specs.Ran.{Ended, ended_by}
 use Rattle.packed_rows.specs.declared.error.RowError.{RowError}
@@ -30,7 +30,7 @@ use Rattle.replies.specs.declared.refusal.Refusal.TheVariants.{OriginDisagrees, 
 abbrev pub limit_out_of_range : Refusal
 limit_out_of_range = Limit (record {})
 
--- whether a refusal says that the disk of tapes failed
+-- whether a refusal says that the tape disk failed
 abbrev pub tells_fault : Refusal → Bool
 tells_fault TapeFault = true
 tells_fault refusal = false
@@ -65,7 +65,7 @@ abbrev pub query_refusal : ParseError → Refusal
 query_refusal (parse.Query checks.NoMemory) = NoMemory
 query_refusal error = Query error
 
--- the refusal of bytes that are no summary file
+-- the refusal of bytes that are not a summary file
 abbrev pub summary_refusal : SummaryError → Refusal
 summary_refusal summary.NoMemory = NoMemory
 summary_refusal error = Summary error

@@ -108,7 +108,7 @@ abbrev pub is_refusal : Reply → Bool
 is_refusal (says.Refused why) = true
 is_refusal reply = false
 
--- whether a reply says that the disk of tapes failed, and how often it does
+-- whether a reply says that the tape disk failed, and how often it does
 abbrev pub is_tape_fault : Reply → Bool
 is_tape_fault (says.Refused why) = tells_fault why
 is_tape_fault reply = false

@@ -6,7 +6,7 @@ ghost use Rattle.replies.specs.Status.{status_of, run_ending, refusal_ending};
 use crate::error::RunError;
 use crate::refusal::Refusal;
 
-/// How a run ended that replied to each command of its script.
+/// The end of a run that replied to each command of its script.
 #[derive(Clone, Copy, Debug, PartialEq, Eq)]
 pub struct Outcome {
     /// How many commands were refused.
@@ -16,11 +16,11 @@ pub struct Outcome {
 /// How a command ended.
 #[derive(Clone, Copy, Debug, PartialEq, Eq)]
 pub enum ExitKind {
-    /// All was done, or help or the version was shown.
+    /// Success, or help or the version was shown.
     Done,
     /// Something was refused.
     Refused,
-    /// The words are no command line.
+    /// The command line is invalid.
     BadUsage,
     /// A file or a stream could not be read or written.
     Fault,

@@ -1,4 +1,4 @@
-//! Why a script, or another file, could not be read whole or be written.
+//! Why a script, or another file, was not read whole or not written.
 
 ghost use Rattle.std.specs.Prelude.{◌≡◌};
 ghost use Rattle.replies.specs.Refusals.{run_error, run_refusal};
@@ -22,7 +22,7 @@ pub enum RunError {
     /// The reader failed, or was interrupted. Nothing was written.
     #[error("the input could not be read")]
     ReadFault,
-    /// The writer failed, was interrupted or took no byte. What was written is the front of the output.
+    /// The writer failed, was interrupted or took no byte. It has a prefix of the output.
     #[error("the output could not be written")]
     WriteFault,
 }

@@ -1,5 +1,4 @@
-//! What commands say, in a script and on files: replies, refusals and their names, the texts of both, how a command ends, and its exit
-//! status.
+//! Replies and refusals of commands, in a script and on files: their names and texts, how a command ends, and its exit status.
 #![tactic(auto)]
 
 mod ending;

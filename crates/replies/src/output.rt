@@ -18,7 +18,7 @@ fn put_two<W: Write>(writer: &mut Fused<W>, first: &[u8], second: &[u8]) -> Resu
     put_all(writer, second)
 }
 
-/// Writes a line of a word and what follows it.
+/// Writes a line: a word and the rest.
 fn put_line<W: Write>(writer: &mut Fused<W>, word: &[u8], rest: &[u8]) -> Result<(), WriteFault>
     ensures { IsPut W.contents writer.old writer.new result (line word.now rest.now) }
 {
@@ -52,7 +52,7 @@ fn put_answer<W: Write>(writer: &mut Fused<W>, rows: usize, table: &[u8]) -> Res
     put_all(writer, table)
 }
 
-/// Writes the text of a reply. It takes no memory. `WriteFault` says that the writer failed: it has a front of the
+/// Writes the text of a reply. It takes no memory. `WriteFault` says that the writer failed, and has a prefix of the
 /// text.
 pub fn put_reply<W: Write>(writer: &mut Fused<W>, reply: &Reply<'_>) -> Result<(), WriteFault>
     ensures { IsPut W.contents writer.old writer.new result (said_text reply.now) }

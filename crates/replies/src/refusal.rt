@@ -16,33 +16,33 @@ use replica_merge::{JoinError, MergeError, RefusedBatch, SummaryError};
 use std::alloc::AllocError;
 use thiserror::Error;
 
-/// Why a command or a script is refused. Each refusal stands once: what a lower crate refuses is its own error, except that a failed
-/// allocation is `NoMemory` wherever it was met.
+/// Why a command or a script is refused. Each refusal is defined once: a refusal of a lower crate is its own error, except that out of
+/// memory is always `NoMemory`.
 #[derive(Clone, Copy, Debug, PartialEq, Eq, Error)]
 pub enum Refusal {
-    /// An allocation failed.
+    /// Memory ran out.
     #[error("out of memory")]
     NoMemory,
-    /// The text is that of no schema.
-    #[error("the text describes no columns")]
+    /// The text is not a schema.
+    #[error("the text is not a schema")]
     BadSchema,
     /// A limit is less than 65,536 bytes, or more than 1,099,511,627,776.
     #[error(transparent)]
     Limit(LimitOutOfRange),
-    /// The text is that of no query over the columns.
+    /// The text is not a query over the columns.
     #[error(transparent)]
     Query(ParseError),
-    /// The fields and records of a `feed` are no batch of the columns.
+    /// The fields and records of a `feed` are not a batch of the columns.
     #[error(transparent)]
     Batch(BatchError),
-    /// The bytes are those of no summary file.
+    /// The bytes are not a summary file.
     #[error(transparent)]
     Summary(SummaryError),
-    /// A replica does not take in another one, which answers another query.
+    /// Two replicas are not merged, since they answer different queries.
     #[error("the replicas answer different queries")]
     DifferentQuery,
-    /// An origin gave one number to two different batches. The number is given if its batch is early. Else it lies within equal prefixes
-    /// that have different groups.
+    /// An origin gave one number to two different batches. The number is given if its batch is early. Else it is within equal prefixes that
+    /// have different groups.
     #[error("one number of an origin has two different batches")]
     OriginDisagrees {
         /// The origin.
@@ -50,23 +50,23 @@ pub enum Refusal {
         /// The number, if its batch is early.
         number: Option<u32>,
     },
-    /// The disk of tapes failed.
-    #[error("the disk of tapes failed")]
+    /// The tape disk failed.
+    #[error("spilled records could not be written or read")]
     TapeFault,
-    /// The disk of tapes gave back what was not written to it.
-    #[error("the disk of tapes gave back what was not written to it")]
+    /// The tape disk returned data that was not written to it.
+    #[error("spilled records were not read back as they were written")]
     TapeDamaged,
     /// The run stopped before the end of its script.
     #[error(transparent)]
     Run(RunError),
-    /// No command: another word, a wrong number of fields, a text that isn't UTF-8, a bad name, number of rows or limit, or
-    /// a command that comes too early or a second time.
-    #[error("no command, or not at this place")]
+    /// Not a command: an unknown word, a wrong number of fields, a text that isn't UTF-8, a bad name, number of rows or limit, or
+    /// a command too early or a second time.
+    #[error("not a command, or not allowed here")]
     BadCommand,
-    /// There is no replica of this name.
-    #[error("there is no replica, or nothing saved, of this name")]
+    /// No replica or saved file has this name.
+    #[error("no replica or saved file has this name")]
     NoSuchName,
-    /// There is a replica of this name.
+    /// A replica of this name exists already.
     #[error("there is a replica of this name already")]
     NameTaken,
 }

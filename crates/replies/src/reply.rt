@@ -19,11 +19,11 @@ pub enum Reply<'c> {
     Created(&'c [u8]),
     /// What became of a batch.
     Delivered(Delivered),
-    /// A replica now knows what another knew, too.
+    /// A replica now also knows what another knows.
     Merged,
-    /// What a replica knows was saved as a file of this many bytes.
+    /// A replica was saved as a file of this many bytes.
     Saved(usize),
-    /// A replica now knows what was saved.
+    /// A replica was loaded.
     Loaded,
     /// What a replica knows, in its lines.
     Listed(Vec<u8>),

@@ -43,8 +43,8 @@ pub enum KnownFormat {
     Json,
 }
 
-/// What a replica knows: a line `origin O upto P` for each origin of which it knows a batch, by rising origin, and the numbers
-/// that came early after it. The only error is a failed allocation.
+/// What a replica knows: a line `origin O upto P` for each origin of which it knows a batch, by ascending origin, and the numbers
+/// that came early after it. The only error is out of memory.
 pub fn origin_lines(alloc: Global, replica: &Replica) -> Result<Vec<u8>, AllocError>
     ensures { IfOk result (λ lines. lines.items ≡ origins_text (known_list (told replica.now.parts))) }
 {
@@ -52,7 +52,7 @@ pub fn origin_lines(alloc: Global, replica: &Replica) -> Result<Vec<u8>, AllocEr
     list_origins(alloc, &list)
 }
 
-/// What a replica knows, by rising origin, in a format. The only error is a failed allocation.
+/// What a replica knows, by ascending origin, in a format. The only error is out of memory.
 pub fn known_table(
     alloc: Global,
     replica: &Replica,
@@ -68,7 +68,7 @@ pub fn known_table(
     }
 }
 
-/// What a replica knows, in the same lines after a line `known COUNT`, which counts them. The only error is a failed allocation.
+/// What a replica knows, in the same lines after a line `known COUNT`, which counts them. The only error is out of memory.
 pub fn known_lines(alloc: Global, replica: &Replica) -> Result<Vec<u8>, AllocError>
     ensures { IfOk result (λ lines. lines.items ≡ known_text (known_list (told replica.now.parts))) }
 {
@@ -94,7 +94,7 @@ fn print(
     }
 }
 
-/// How many rows a replica's answer has, and its table. The only error is a failed allocation.
+/// How many rows a replica's answer has, and its table. The only error is out of memory.
 pub fn table(
     alloc: Global,
     replica: &Replica,

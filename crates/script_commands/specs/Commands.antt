@@ -73,7 +73,7 @@ request_of (word ∷ name ∷ other ∷ []) = two_fields word name other
 request_of (word ∷ name ∷ origin ∷ number ∷ rows ∷ []) = feed_request word name origin number rows
 request_of _ = Unknown
 
--- how many of the records after it belong to a record of this word that states this number of rows, whether or not it
+-- how many of the records after it belong to a record of this word that declares this number of rows, whether or not it
 -- is right otherwise
 abbrev pub owned_rows : List ℕ → List ℕ → ℕ
 owned_rows word rows = if bytes_eq word (codes "feed") then unwrap_or (row_count rows) 0 else 0
@@ -83,8 +83,8 @@ unfoldable pub owned_by : Record → ℕ
 owned_by (word ∷ name ∷ origin ∷ number ∷ rows ∷ []) = owned_rows word rows
 owned_by _ = 0
 
--- the command of a record that asks, and of the records after it: it owns as many of these as it states, or as are
--- there
+-- the command of a record that asks, and of the records after it: it owns as many of these as it declares, or all if
+-- there are fewer
 abbrev pub command_at : Record → List Record → Command
 command_at head after = record { head = head; owned = take (owned_by head) after }
 

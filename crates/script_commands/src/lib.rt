@@ -1,4 +1,4 @@
-//! The commands of a script: which records belong to which command, and what each command asks.
+//! The commands of a script: the records of each command, and what it asks.
 #![tactic(auto)]
 
 mod command;

@@ -20,12 +20,11 @@ pub enum Request<'c> {
     Columns(&'c str),
     /// `query,TEXT`: the query that replicas answer.
     Query(&'c str),
-    /// `limit,BYTES`: the most bytes of blocks that the table of an aggregation may take. BYTES is 1 to 19 digits.
+    /// `limit,BYTES`: the most bytes of memory blocks that a group table may take. BYTES is 1 to 19 digits.
     Limit(u64),
     /// `replica,NAME`: a new replica of this name.
     Replica(&'c [u8]),
-    /// `feed,NAME,ORIGIN,NUMBER,ROWS`: a batch for a replica. ROWS, the number of rows that it states, is 1 to 9
-    /// digits.
+    /// `feed,NAME,ORIGIN,NUMBER,ROWS`: a batch for a replica. ROWS, the declared number of rows, is 1 to 9 digits.
     Feed {
         name: &'c [u8],
         origin: &'c [u8],
@@ -36,17 +35,17 @@ pub enum Request<'c> {
     Known(&'c [u8]),
     /// `answer,NAME`: a replica's answer.
     Answer(&'c [u8]),
-    /// `merge,INTO,FROM`: INTO is to know what FROM knows, too. They may be the same.
+    /// `merge,INTO,FROM`: INTO gets to know what FROM knows. They may be the same.
     Merge {
         into: &'c [u8],
         from: &'c [u8],
     },
-    /// `save,NAME,SAVED`: what a replica knows is to be kept as a summary file of this name, in the place of an older one.
+    /// `save,NAME,SAVED`: a replica is saved as a summary file of this name, which replaces an older one.
     Save {
         name: &'c [u8],
         saved: &'c [u8],
     },
-    /// `load,NAME,SAVED`: a replica of this name, made or replaced, is to know what was saved.
+    /// `load,NAME,SAVED`: a replica of this name is made or replaced from a saved file.
     Load {
         name: &'c [u8],
         saved: &'c [u8],

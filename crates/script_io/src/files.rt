@@ -1,7 +1,47 @@
-//! Whole files: read up to the longest input, and written so that whoever reads one finds the old bytes or the new ones.
+//! Whole files, read up to the longest input.
 
-mod reading;
-mod writing;
+ghost use Rattle.std.specs.Prelude.{◌≤◌, IfOk, length};
 
-pub use reading::{Occupant, Unread, occupant_of, read_file};
-pub use writing::{write_file, write_new_file};
+use crate::fused::Fused;
+use crate::input::{InputError, read_input};
+use grouping_model::limits::MAX_INPUT_LEN;
+use std::rt::Files;
+use std::{fs, io};
+
+/// Why a file was not read.
+#[derive(Clone, Copy)]
+pub enum Unread {
+    /// Memory ran out for its bytes.
+    NoMemory,
+    /// It has more bytes than the limit: so many, where that is known.
+    TooLong(Option<u64>),
+    /// The system could not open or read it.
+    Failed(io::Error),
+}
+
+/// How long a file is, where that is known.
+fn length_of<R: Files>(rt: &R, path: &str) -> Option<u64> {
+    match fs::metadata(rt, path) {
+        Ok(found) if found.is_file() => Some(found.len()),
+        _ => None,
+    }
+}
+
+/// The bytes of a file, where they are 67,108,864 or fewer.
+pub fn read_file<R: Files + AllocGlobal>(rt: &R, path: &str) -> Result<Vec<u8>, Unread>
+    ensures few { IfOk result (λ bytes. length bytes.items ≤ MAX_INPUT_LEN) }
+{
+    let mut reader = match fs::open(rt, path) {
+        Ok(file) => Fused::new(file),
+        Err(cause) => return Err(Unread::Failed(cause)),
+    };
+    match (
+        read_input(rt.alloc(), &mut reader, MAX_INPUT_LEN),
+        reader.fault(),
+    ) {
+        (Ok(bytes), _) => Ok(bytes),
+        (Err(InputError::TooLong), _) => Err(Unread::TooLong(length_of(rt, path))),
+        (Err(_), Some(cause)) => Err(Unread::Failed(cause)),
+        (Err(_), None) => Err(Unread::NoMemory),
+    }
+}

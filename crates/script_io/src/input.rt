@@ -11,7 +11,7 @@ use std::io::Read;
 use thiserror::Error;
 
 // How many bytes one call of `read` is asked for at most.
-const CHUNK_BYTES: usize = 8192;
+const CHUNK_BYTES: usize = 65_536;
 
 /// Why a script was not read.
 #[derive(Debug, Drop, Error)]

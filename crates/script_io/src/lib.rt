@@ -1,6 +1,6 @@
 //! The edges of a program that runs a script of CSV records, over any reader and any writer. The whole script is read,
 //! up to a limit. Its records come in turn. Bytes are written so that even after a fault the caller knows what was
-//! written. Whole files are read and written by the same rules.
+//! written. Whole files are read by the same rules.
 #![tactic(auto)]
 
 mod digits;
@@ -12,7 +12,7 @@ mod output;
 mod records;
 
 pub use digits::{read_digits, read_limit, read_row_count};
-pub use files::{Occupant, Unread, occupant_of, read_file, write_file, write_new_file};
+pub use files::{Unread, read_file};
 pub use fused::Fused;
 pub use input::{InputError, read_input};
 pub use laws::{fronts_range, reads_are_whole, records_are_few, writes_compose};

@@ -52,6 +52,7 @@ impl<'a> Records<'a> {
 
     /// Reads the next record, in place of what `into` held, and tells whether there was one. The only error is that
     /// memory ran out, and after it no more records come. Where there was none, the content of `into` is unspecified.
+    #[inline(always)]
     pub fn read(&mut self, into: &mut ByteRecord) -> Result<bool, AllocError>
         ensures { MatchResult result (λ found. MatchBool found
             (self.old ≡ fields_of into.new ∷ self.new)

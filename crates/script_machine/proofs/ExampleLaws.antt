@@ -47,13 +47,16 @@ unfoldable use Rattle.std.specs.List.{IsDistinct}
 unfoldable use Rattle.std.specs.Str.{chars, is_utf8}
 unfoldable use Rattle.group_parser.specs.Parsing.{asked_in}
 unfoldable use Rattle.packed_rows.specs.Columns.{Describes, kind_named}
-unfoldable use Rattle.query_checks.specs.Checks.{checked, checked_order, checked_places}
+unfoldable use Rattle.query_checks.specs.Arrangement.{checked_arrangement}
+unfoldable use Rattle.query_checks.specs.Checks.{checked, checked_places}
 unfoldable use Rattle.query_checks.specs.Operators.{comparison_named}
 unfoldable use Rattle.query_grammar.specs.Reading.{and_at, argument_at, call_at, chain_at, cmp_at, condition_at, enclosed_at, filter_at}
 unfoldable use Rattle.query_grammar.specs.Reading.{looked_for, nested_at, not_at, or_at, prim_at, test_at, tested, word_at as operand_at}
 unfoldable use Rattle.query_grammar.specs.Terminals.{symbol_number}
-unfoldable use Rattle.query_grammar.specs.Whole.{alias_at, alias_or_none, clause_at, direction_at, end_at, first_or_last, item_at}
-unfoldable use Rattle.query_grammar.specs.Whole.{item_value_at, keys_at, list_at, nulls_at, order_at, query_at, target_at, term_at}
+unfoldable use Rattle.query_grammar.specs.Whole.{alias_at, alias_or_none, clause_at, end_at, item_at}
+unfoldable use Rattle.query_grammar.specs.Whole.{item_value_at, keys_at, query_at}
+unfoldable use Rattle.query_grammar.specs.Lists.{list_at}
+unfoldable use Rattle.query_grammar.specs.Arrangement.{arrangement_at, direction_at, first_or_last, nulls_at, order_at, target_at, term_at}
 unfoldable use Rattle.query_tokens.specs.Bytes.{symbol_of_one, symbol_of_two}
 unfoldable use Rattle.query_tokens.specs.Reserved.{is_reserved}
 unfoldable use Rattle.query_tokens.specs.Tokens.{integer_at, name_at, string_content, symbol_at, text_at, tokens_at, word_at}
@@ -128,14 +131,14 @@ first_query = record {
     keys = 0 ∷ [];
     having = None;
   };
-  order = [];
+  arrangement = record { order = [] };
 }
 
 parsed : parsing first_columns query_text ≡ Ok first_query
 unfolding asked_in name_at integer_at string_content text_at symbol_at word_at tokens_at is_reserved symbol_of_one symbol_of_two
     item_value_at alias_or_none alias_at item_at list_at clause_at keys_at target_at direction_at first_or_last nulls_at term_at order_at
-    end_at query_at filter_at argument_at call_at operand_at enclosed_at prim_at cmp_at looked_for tested chain_at test_at not_at and_at
-    or_at nested_at condition_at symbol_number function_named checked_places checked_order checked comparison_named
+    arrangement_at end_at query_at filter_at argument_at call_at operand_at enclosed_at prim_at cmp_at looked_for tested chain_at test_at not_at and_at
+    or_at nested_at condition_at symbol_number function_named checked_places checked_arrangement checked comparison_named
 parsed = refl
 
 is_query : Accepts first_columns query_text first_query

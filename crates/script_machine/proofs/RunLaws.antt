@@ -406,7 +406,7 @@ right_fronts world old [] (x ∷ xs) ts same same_texts fronts = absurd (omega (
 right_fronts world old (c ∷ cs) [] ts same same_texts fronts = absurd (omega (arith, same))
 right_fronts world old (c ∷ cs) (x ∷ xs) [] same same_texts fronts = absurd (omega (arith, same_texts))
 
--- each command may be refused for want of memory
+-- each command may be refused because memory ran out
 abbrev refusals : List Command → List Reply
 refusals commands = map (λ c. Refused NoMemory) commands
 

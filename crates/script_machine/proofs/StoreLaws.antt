@@ -475,7 +475,7 @@ pub turns_it : {honest : Bool} {request : Request} {owned : List Record} {reply 
 turns_it {honest = honest} {request = request} {owned = owned} {reply = reply} {new = new} same steps =
     subst (λ s. Steps honest request owned s reply new) same steps
 
--- ---- replies, over a disk of tapes that may be honest
+-- ---- replies, over a tape disk that may be honest
 
 module _ {honest : Bool} where
   -- a refusal of the code is one of the machine's
@@ -498,7 +498,7 @@ module _ {honest : Bool} where
         becomes = refused_keeps honest request owned old new refusal s;
       }
 
-  -- a refusal since the disk gave back what was not written to it
+  -- a refusal since the disk returned data that was not written to it
   pub damaged : (request : Request) (owned : List Record) (old new : Store) → Same old new → (IsTrue honest → ⊥)
       → IsTrue (uses_tapes request) → Steps honest request owned old (says.Refused why.TapeDamaged) new
   damaged request owned old new s never uses =
@@ -531,7 +531,7 @@ module _ {honest : Bool} where
   refused request owned store refusal replies = refused_for request owned store store refusal (same store)
       (λ state r. rightly (replies state r))
 
-  -- a refusal that may be for want of memory
+  -- a refusal that may be because memory ran out
   pub refused_or_memory : (request : Request) (owned : List Record) (old new : Store) (refusal : Refusal) → Same old new
       → (refusal ≢ why.NoMemory → (state : State) → Represents state old → Replies state request owned (machine.Refused refusal))
       → Steps honest request owned old (says.Refused refusal) new
@@ -903,7 +903,7 @@ module _ {honest : Bool} where
         becomes = record { replicas = λ name. refl; saved = λ name. refl };
       }
 
-  -- an answer for which memory was wanting, or the disk of tapes failed
+  -- an answer for which memory ran out, or the tape disk failed
   pub merge_nowhere : (store : Store) (into from : List ℕ) (owned : List Record) → (replica_at store into ≡ None)
       ⊎ (replica_at store from ≡ None)
       → Steps honest (ask.Merge into from) owned store (says.Refused why.NoSuchName) store

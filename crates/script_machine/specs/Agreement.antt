@@ -1,4 +1,4 @@
--- When a script agrees with a world, and two replicas, of one script or of two, that know the same. All of this is our own.
+-- When a script agrees with a world, and when two replicas, of one script or of two, know the same. All of this is our own.
 use Rattle.std.specs.Prelude.{ℕ, ◌≡◌, ◌≤◌, ◌==◌, ◌&&◌, List, [], ◌∷◌, All, Contains, length, Some, None, IfSome, IsTrue, unwrap_or}
 use Rattle.std.specs.Prelude.{if◌then◌else◌}
 use Rattle.grouping_model.specs.Datum.{HasKinds}
@@ -13,7 +13,7 @@ use Rattle.script_machine.specs.Machine.{State, Reply, Has_columns, Step, Along,
 use Rattle.script_machine.specs.Wording.{exact_wording, file_saved}
 use Rattle.script_machine.specs.Text.{reply_text}
 
--- what is there after replies, one after the other
+-- the state after replies, one after the other
 abbrev pub after_all : State → List Reply → State
 after_all old [] = old
 after_all old (reply ∷ replies) = after_all (after old reply) replies
@@ -36,7 +36,7 @@ SaysTheSame here there world other ask asked =
     (owned : List Record) (r s : Reply) → Replies here ask owned r → Replies there asked owned s
     → (reply_text exact_wording world r ≡ reply_text exact_wording other s) × (file_saved world r ≡ file_saved other s)
 
--- two replicas print and save the same bytes: their answers, what they know, and their files, under whichever names these are saved
+-- two replicas print and save the same bytes: their answers, what they know, and their files, under any names
 pub record PrintTheSame (here there : State) (a b : List ℕ) (world other : World) : Type 0 where
   pub answers : SaysTheSame here there world other (Answer a) (Answer b)
   pub lists : SaysTheSame here there world other (Known a) (Known b)
@@ -64,7 +64,7 @@ abbrev pub ColumnsOf : List Fed → Reply → Type 0
 ColumnsOf feds (Has_columns columns) = All (IsOfColumns columns) feds
 ColumnsOf feds reply = Unit {0}
 
--- a feed to a replica that is there feeds one of these batches, if it reads as a batch
+-- a feed to an existing replica feeds one of these batches, if it reads as a batch
 abbrev pub FeedsAmong : List Fed → State → Request → List Record → Type 0
 FeedsAmong feds old (Feed name origin number told) owned =
     IfSome (old.replicas name) (λ known. (fed : Fed) → IsBatch (kinds (unwrap_or old.columns [])) origin number told owned fed

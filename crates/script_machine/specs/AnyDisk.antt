@@ -1,4 +1,4 @@
--- How commands may be answered where an origin gives a number to two batches, or over a disk of tapes that isn't honest. All of this is
+-- The replies that commands may have if an origin gives a number to two batches, or over a tape disk that isn't honest. All of this is
 -- our own.
 use Rattle.std.specs.Prelude.{ℕ, ◌≡◌, Bool, true, false, IsTrue, List, [], ◌∷◌, length, Option, codes, decimal}
 use Rattle.grouping_model.specs.Aggregates.{Outcome}
@@ -31,13 +31,13 @@ pub record IsDisagreement (old : State) (request : Request) (owned : List Record
   pub told : Option ℕ
   pub refused : reply ≡ Refused (OriginDisagrees origin told)
 
--- a command that aggregates is refused, since the disk of tapes gave back what was not written to it: an honest one never does
+-- a command that aggregates is refused, since the tape disk returned data that was not written to it: an honest one never does
 pub record IsDamage (honest : Bool) (request : Request) (reply : Reply) : Type 0 where
   pub dishonest : honest ≡ false
   pub aggregates : IsTrue (uses_tapes request)
   pub refused : reply ≡ Refused TapeDamaged
 
--- how a command may be answered: as always, or by one of two refusals more
+-- the replies that a command may have: those as always, or one of two more refusals
 pub data MayReply (honest : Bool) (old : State) (request : Request) (owned : List Record) (reply : Reply) : Type 0 where
   As_always : IsReply Exactly old request owned reply → MayReply honest old request owned reply
   For_disagreement : IsDisagreement old request owned reply → MayReply honest old request owned reply
@@ -51,13 +51,13 @@ abbrev pub is_refused : Reply → Bool
 is_refused (Refused why) = true
 is_refused reply = false
 
--- whether a reply tells that the disk of tapes failed
+-- whether a reply tells that the tape disk failed
 abbrev pub is_fault : Reply → Bool
 is_fault (Refused why) = tells_fault why
 is_fault reply = false
 
--- the texts that a reply may have, whatever the disk of tapes gave back: of an answer the table of some rows, of a saved file some
--- length, and of any other reply the one text that it has for each world
+-- the texts that a reply may have, whatever the tape disk returned: for an answer the table of some rows, for a saved file some length, and
+-- for any other reply the one text that it has for each world
 abbrev pub MayRead : Reply → List ℕ → Type 0
 MayRead (Saved saved query known) text = (count : ℕ) × (text ≡ line (codes "saved ") (decimal count))
 MayRead (Answered query known) text = (rows : List (List Outcome)) × (text ≡ answer_text (length rows) (table_text (headers query) rows))

@@ -1,4 +1,4 @@
--- What is told of disagreement by the feeds and merges of a script. All of this is our own.
+-- When the feeds and merges of a script report a disagreement. All of this is our own.
 use Rattle.std.specs.Prelude.{ℕ, ◌≡◌, List, Option, Some}
 use Rattle.packed_rows.specs.Columns.{kinds}
 use Rattle.batch_reader.specs.Rows.{packings}
@@ -31,8 +31,8 @@ pub record FeedAlike (held : Held) (origin number : List ℕ) (told : ℕ) (owne
 abbrev pub IsHeldAt : Store → List ℕ → (Held → Type 0) → Type 0
 IsHeldAt store name holds = (held : Held) × (replica_at store name ≡ Some held) × holds held
 
--- what a reply tells of disagreement: a feed is refused for it only where the batch disagrees, and taken only where it doesn't; a merge is
--- refused for it only where the two replicas disagree, at the first origin where they do, and done only where they don't
+-- when a reply reports a disagreement: a feed is refused for it only if the batch disagrees, and taken only if it doesn't; a merge is
+-- refused for it only if the two replicas disagree, at the first origin where they do, and done only if they don't
 abbrev pub TellsDisagreement : Store → Request → List Record → Reply → Type 0
 TellsDisagreement old (Feed name origin number told) owned (says.Refused (OriginDisagrees of at)) = IsHeldAt old name
     (λ held. FeedApart held origin number told owned of at)

@@ -1,5 +1,5 @@
--- What the headline leaves open: why a text or a batch is refused, in which words. With these a command has one reply (law one_reply), and
--- an output is right to the byte. All of this is our own.
+-- What the headline leaves open: why a text or a batch is refused, and in which words. With these a command has one reply (law one_reply),
+-- and an output is right to the byte. All of this is our own.
 use Rattle.std.specs.Prelude.{ℕ, ◌≡◌, List, [], take, None, IfSome, unwrap_or}
 use Rattle.std.specs.Io.KnownBytes.{Appends}
 use Rattle.grouping_model.specs.World.{World}
@@ -20,7 +20,7 @@ TellsWhy old (Feed name origin number told) owned (Refused why) =
     IfSome (old.replicas name) (λ known. IsNoBatch (kinds (unwrap_or old.columns [])) origin number told owned why)
 TellsWhy old request owned reply = Unit {0}
 
--- how a command is answered, with the reason: there is one way only
+-- the reply to a command, with the reason: there is only one
 abbrev pub Exactly : Step
 Exactly old request owned reply = Replies old request owned reply × TellsWhy old request owned reply
 
@@ -32,13 +32,13 @@ abbrev pub AreExact : List Command → List Reply → (texts : List (List ℕ)) 
 AreExact commands replies texts = (history : World) → KeepNumbers history commands replies
     → ExactRun commands replies × (joined texts ≡ replies_text exact_wording history replies)
 
--- an output is right, in these words, and each front of its replies tells its reasons
+-- an output is right, in these words, and each prefix of its replies has its reasons
 pub record IsExactOutput (script output : List ℕ) : Type 0 where
   pub is_right : IsRightOutput exact_wording script output
   pub tells : (front : ℕ) (history : World) → KeepNumbers history (take front (commands_in script)) (take front is_right.replies)
       → ExactRun (take front (commands_in script)) (take front is_right.replies)
 
--- where a run ends well over an honest disk, its output is right to the byte
+-- if a run ends well over an honest disk, its output is right to the byte
 abbrev pub WritesExactly : Streams → Type 0
 WritesExactly streams = IfSome streams.script
     (λ script. (output : List ℕ) × Appends streams.old streams.new output × IsExactOutput script output)

@@ -1,4 +1,4 @@
--- README's first script, and what the promise says of it: its output is what README shows, and nothing else. All of this is our own.
+-- README's first script, and what the promise says of it: it has README's output, and no other. All of this is our own.
 use Rattle.std.specs.Prelude.{ℕ, ◌≡◌, ◌++◌, false, List, codes}
 use Rattle.std.specs.List.{AllByRecursion}
 use Rattle.script_machine.specs.AnyDisk.{is_refused}
@@ -29,7 +29,7 @@ first_output =
     ++ codes "bergen,1,7\n"
     ++ codes "oslo,1,5\n"
 
--- this output is right to the byte, and it is the only one in which no command is refused
+-- this output is right to the byte, and it is the only one without a refusal
 pub record HasFirstOutput : Type 0 where
   pub right : IsExactOutput first_script first_output
   pub only : (output : List ℕ) (is : IsExactOutput first_script output)

@@ -6,8 +6,8 @@
 -- gap. Example.antt beside this has README's script: by this promise it has the output that README shows, and no other.
 --
 -- To read it: a list of ℕ is bytes; `(x : X) → P` says P of every x, `(x : X) × P` of some x; `P × Q` is both; `≡` is equality;
--- `IfSome o P` says P of what o has, if it has something. A record holds where all of its fields do. A word is defined in the file that
--- its `use` line names. docs/DEFINITIONS.md has these files in the order in which one comes to them.
+-- `IfSome o P` says P of the value of o, if it has one. A record holds if all of its fields do. The `use` line of a word names the file
+-- that defines it. docs/DEFINITIONS.md has these files in reading order.
 use Rattle.std.specs.Prelude.{ℕ, ◌≡◌, List, length, take, Option, IfSome}
 use Rattle.std.specs.Io.KnownBytes.{Appends}
 use Rattle.grouping_model.specs.World.{World}
@@ -24,19 +24,19 @@ abbrev pub commands_in : List ℕ → List Command
 commands_in script = commands_of (records_of script)
 
 -- Assumed of origins: each gives a number to one batch. That is, there is a history, a function from origin and number to rows, that has
--- each batch which these commands feed. (Their replies tell which replicas are there.)
+-- each batch which these commands feed. (Their replies tell which replicas exist.)
 abbrev pub KeepNumbers : (history : World) → List Command → List Reply → Type 0
 KeepNumbers history = Agrees history start
 
--- Promised of commands whose origins keep their numbers: each is answered as `Replies` of Machine says, beginning where nothing is there,
--- and the texts are those of the replies, of an answer the table of the query over the history's rows. Assumed of memory and disk: they
--- don't fail; else a command is refused for that, and changes nothing. So replies that are all `refused NoMemory` are right, too.
+-- Promised of commands whose origins keep their numbers: each is answered as `Replies` of Machine says, from the first state on. The texts
+-- are those of the replies; an answer's is the table of the query over the history's rows. Assumed of memory and disk: they don't fail;
+-- else a command is refused for that, and changes nothing. So replies that are all `refused NoMemory` are right, too.
 abbrev pub AreRight : Wording → List Command → List Reply → (texts : List (List ℕ)) → Type 0
 AreRight wording commands replies texts = (history : World) → KeepNumbers history commands replies
     → StrictRun start commands replies × (joined texts ≡ replies_text wording history replies)
 
--- An output is right for a script: it has a reply to each command, in order, and the first replies are right, however many one takes. So
--- where an origin gives a number twice, all replies before that are right still.
+-- An output is right for a script: it has a reply to each command, in order, and each prefix of the replies is right. So if an origin gives
+-- a number twice, all replies before that are still right.
 pub record IsRightOutput (wording : Wording) (script output : List ℕ) : Type 0 where
   pub replies : List Reply
   pub texts : List (List ℕ)
@@ -45,8 +45,8 @@ pub record IsRightOutput (wording : Wording) (script output : List ℕ) : Type 0
   pub right : (front : ℕ) → AreRight wording (take front (commands_in script)) (take front replies) (take front texts)
   pub whole : output ≡ joined texts
 
--- What a run reads and writes. Assumed of streams: the reader tells the bytes of the script, and the writer those that it held before and
--- holds now, as those in memory do. Of a reader that tells no bytes (`None`) nothing is promised: files and terminals are trusted.
+-- What a run reads and writes. Assumed of streams: the reader's model has the bytes of the script, and the writer's those before and after,
+-- as streams in memory do. For a reader whose model has none (`None`) nothing is promised: files and terminals are trusted.
 pub record Streams : Type 0 where
   pub script : Option (List ℕ)
   pub old : Option (List ℕ)
@@ -56,8 +56,8 @@ abbrev pub streams : {R W : Type 0} → (R → Option (List ℕ)) → (W → Opt
 streams remaining contents reader old new =
     record { script = unread remaining reader; old = written contents old; new = written contents new }
 
--- Promised of a run: it appends a right output. By which words a refusal is named, a query told again and the length of a saved file
--- told is left open here. The clause `exact` of `run` has these words, and says why each text or batch is refused.
+-- Promised of a run: it appends a right output. The names of refusals, the canonical text of a query and the length of a saved file are
+-- left open here. The clause `exact` of `run` has these, and says why each text or batch is refused.
 abbrev pub WritesRight : Streams → Type 0
 WritesRight streams = IfSome streams.script
     (λ script. (wording : Wording) × (output : List ℕ) × Appends streams.old streams.new output × IsRightOutput wording script output)

@@ -1,4 +1,4 @@
--- At which limit the aggregations of a script work: the one that was told last, and the usual one before that. All of this is our own.
+-- The limit of the aggregations of a script: the one set last, and before that the default. All of this is our own.
 use Rattle.std.specs.Prelude.{ℕ, ◌≡◌, List, Some}
 use Rattle.grouping_model.specs.Query.{Query}
 use Rattle.batch_reader.specs.Rows.{packings}

@@ -1,4 +1,4 @@
--- The machine that a script runs: what is known under each name, and how each command is answered. All of this is our own.
+-- The machine that a script runs: its state, and the reply to each command. All of this is our own.
 use Rattle.std.specs.Prelude.{ℕ, ◌≡◌, nat_le, ◌&&◌, Bool, true, false, IsTrue, List, [], ◌∷◌, Option, Some, None, IfSome, unwrap_or}
 use Rattle.std.specs.Prelude.{if◌then◌else◌}
 use Rattle.std.specs.Str.{bytes_eq}
@@ -17,8 +17,8 @@ use Rattle.replies.specs.Refusals.{limit_out_of_range}
 use Rattle.replies.specs.declared.refusal.Refusal.{Refusal}
 use Rattle.replies.specs.declared.refusal.Refusal.TheVariants.{NoMemory, TapeFault, BadCommand, NoSuchName, NameTaken}
 
--- what is there: the columns and the query, once they were told, what each replica knows, by its name, what was saved, by the name
--- that it was given, and the limit of aggregations
+-- the state: the columns and the query, once given, what each replica knows, by its name, what was saved, by its name, and the limit of
+-- aggregations
 pub record State : Type 0 where
   pub columns : Option (List Column)
   pub query : Option Checked
@@ -26,7 +26,7 @@ pub record State : Type 0 where
   pub saved : List ℕ → Option Knowledge
   pub limit : ℕ
 
--- nothing is there but the usual limit
+-- the first state: nothing but the default limit
 abbrev pub start : State
 start = record { columns = None; query = None; replicas = λ name. None; saved = λ name. None; limit = DEFAULT_LIMIT }
 
@@ -55,17 +55,17 @@ pub data Reply : Type 0 where
   -- nothing changed
   Refused : Refusal → Reply
 
--- a text or a batch is read: what it says is accepted; where it says nothing it is refused, for some reason (Exact has it)
+-- a text or a batch is read: what it stands for is accepted; if it stands for nothing, it is refused, for some reason (Exact has it)
 pub data Reads {X : Type 0} (says : X → Type 0) (accepting : X → Reply) (reply : Reply) : Type 0 where
   As : (what : X) → says what → reply ≡ accepting what → Reads says accepting reply
   As_nothing : ((what : X) → ¬ (says what)) → (why : Refusal) → reply ≡ Refused why → Reads says accepting reply
 
--- the reply to a schema's text: columns are told once
+-- the reply to a schema's text: columns are given once
 abbrev pub ColumnsReply : Option (List Column) → List ℕ → Reply → Type 0
 ColumnsReply (Some columns) text reply = reply ≡ Refused BadCommand
 ColumnsReply None text reply = Reads (IsSchemaText text) Has_columns reply
 
--- the reply to a query's text: a query is told once, after the columns
+-- the reply to a query's text: a query is given once, after the columns
 abbrev pub QueryReply : Option (List Column) → Option Checked → List ℕ → Reply → Type 0
 QueryReply (Some columns) None text reply = Reads (Accepts columns text) Has_query reply
 QueryReply columns query text reply = reply ≡ Refused BadCommand
@@ -86,12 +86,12 @@ FeedReply columns None name origin number told owned reply = reply ≡ Refused N
 FeedReply columns (Some known) name origin number told owned reply =
     Reads (IsBatch (kinds columns) origin number told owned) (λ fed. Took name fed (reply_of known (fed.origin, fed.number))) reply
 
--- the reply about what has a name, if something has it
+-- the reply about the value of a name, if it has one
 abbrev pub if_there : {X : Type 0} → Option X → (X → Reply) → Reply
 if_there None replying = Refused NoSuchName
 if_there (Some x) replying = replying x
 
--- how a command is answered that asks for this and owns these records, where memory is there and no disk fails
+-- the reply to a command that asks for this and owns these records, if memory suffices and no disk fails
 abbrev pub Replies : State → Request → List Record → Reply → Type 0
 Replies old (Columns text) owned reply = ColumnsReply old.columns text reply
 Replies old (Query text) owned reply = QueryReply old.columns old.query text reply
@@ -107,27 +107,27 @@ Replies old (Save name saved) owned reply = reply ≡ if_there old.query (λ que
 Replies old (Load name saved) owned reply = reply ≡ if_there (old.saved saved) (Loaded name)
 Replies old Unknown owned reply = reply ≡ Refused BadCommand
 
--- whether a command aggregates, so that a disk of tapes is read and written for it
+-- whether a command aggregates, so that a tape disk is read and written for it
 abbrev pub uses_tapes : Request → Bool
 uses_tapes (Feed name origin number told) = true
 uses_tapes (Merge into from) = true
 uses_tapes request = false
 
--- what holds of a command and its reply, where this is there
+-- what holds of a command and its reply in a state
 abbrev pub Step : Type 1
 Step = State → Request → List Record → Reply → Type 0
 
--- how a command may be answered: rightly, or by a refusal for want of memory, or since the disk of tapes failed
+-- how a command may be answered: rightly, or by a refusal because memory ran out or the tape disk failed
 pub data IsReply (rightly : Step) (old : State) (request : Request) (owned : List Record) (reply : Reply) : Type 0 where
   Rightly : rightly old request owned reply → IsReply rightly old request owned reply
   For_memory : reply ≡ Refused NoMemory → IsReply rightly old request owned reply
   For_fault : IsTrue (uses_tapes request) → reply ≡ Refused TapeFault → IsReply rightly old request owned reply
 
--- under a name is this, and under the others what was there
+-- a name has this value, and the others what they had
 abbrev pub with_replica : (List ℕ → Option Knowledge) → List ℕ → Knowledge → List ℕ → Option Knowledge
 with_replica replicas name known other = if bytes_eq name other then Some known else replicas other
 
--- what is there after a reply: a refusal and a question change nothing
+-- the state after a reply: a refusal and a question change nothing
 abbrev pub after : State → Reply → State
 after old (Has_columns columns) = record old { columns = Some columns }
 after old (Has_query query) = record old { query = Some query }
@@ -151,24 +151,24 @@ Along step old (command ∷ commands) (reply ∷ replies) =
     step old (request_of command.head) command.owned reply × Along step (after old reply) commands replies
 Along step old commands replies = ⊥
 
--- each command is answered rightly, or refused for want of memory or by the disk of tapes
+-- each command is answered rightly, or refused because memory ran out or by the tape disk
 abbrev pub StrictRun : State → List Command → List Reply → Type 0
 StrictRun = Along (IsReply Replies)
 
--- a world is one of the columns that are told
+-- a world has the given columns
 abbrev pub AgreesWith : World → Reply → Type 0
 AgreesWith world (Has_columns columns) = IsWorld (kinds columns) world
 AgreesWith world reply = Unit {0}
 
--- a feed to a replica that is there agrees with a world: if it reads as a batch, it is the world's, whatever is replied
+-- a feed to an existing replica agrees with a world: if it reads as a batch, it is the world's, whatever the reply
 abbrev pub FeedAgrees : World → State → Request → List Record → Type 0
 FeedAgrees world old (Feed name origin number told) owned =
     IfSome (old.replicas name) (λ known. (fed : Fed) → IsBatch (kinds (unwrap_or old.columns [])) origin number told owned fed
     → world fed.origin fed.number ≡ Some fed.rows)
 FeedAgrees world old request owned = Unit {0}
 
--- a script agrees with a world if that has the columns that are told rightly, and each batch that is fed: then no origin gave a number to
--- two batches. No reply that isn't right takes part in this
+-- a script agrees with a world that has the columns of its right replies, and each batch that is fed: then no origin gave a number to two
+-- batches. Only right replies count
 abbrev pub AgreesAt : World → Step
 AgreesAt world old request owned reply = (Replies old request owned reply → AgreesWith world reply) × FeedAgrees world old request owned
 

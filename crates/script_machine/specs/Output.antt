@@ -15,7 +15,7 @@ use Rattle.script_machine.specs.Headline.{Streams, commands_in}
 use Rattle.script_machine.specs.Machine.{Reply, start}
 use Rattle.script_machine.specs.Text.{joined}
 
--- the disk of tapes while a run is made: whether it is honest, and how often it had failed before and after
+-- the tape disk while a run is made: whether it is honest, and how often it had failed before and after
 pub record Disk : Type 0 where
   pub honest : Bool
   pub failed : ℕ
@@ -24,19 +24,19 @@ pub record Disk : Type 0 where
 abbrev pub disk_over : {D : Type 0} → Ghosts D → (before after : D) → Disk
 disk_over g before after = record { honest = g.honest before; failed = g.failures before; failed_now = g.failures after }
 
--- replies tell as often that the disk failed as it did, so that no call of it is tried again
+-- replies report a failure of the disk as often as it failed, so no call of it is retried
 abbrev pub AreFaultsOf : Disk → List Reply → Type 0
 AreFaultsOf disk replies = disk.failed + count_by is_fault replies ≡ disk.failed_now
 
--- replies to commands, one to each, and their texts, by a run of the machine over such a disk. Over an honest one those of each front are
--- right
+-- replies to commands, one to each, and their texts, by a run of the machine over such a disk. Over an honest one those of each prefix
+-- are right
 pub record IsOutput (disk : Disk) (commands : List Command) (replies : List Reply) (texts : List (List ℕ)) : Type 0 where
   pub runs : Run disk.honest start commands replies
   pub faults : AreFaultsOf disk replies
   pub reads : AllMayRead replies texts
   pub right : IsTrue disk.honest → (front : ℕ) → AreExact (take front commands) (take front replies) (take front texts)
 
--- what was written is an output of the commands, of whose replies so many are refusals
+-- the output of the commands, with so many refusals
 pub record WritesAll (disk : Disk) (commands : List Command) (old new : Option (List ℕ)) (refused : ℕ) : Type 0 where
   pub replies : List Reply
   pub texts : List (List ℕ)
@@ -44,7 +44,7 @@ pub record WritesAll (disk : Disk) (commands : List Command) (old new : Option (
   pub counts : count_by is_refused replies ≡ refused
   pub writes : Appends old new (joined texts)
 
--- an output of the first commands was written so: the others were not answered
+-- an output of the first commands: the others were not answered
 pub record WritesFront (disk : Disk) (commands : List Command) (wrote : List ℕ → Type 0) : Type 0 where
   pub done : List Command
   pub left : List Command
@@ -54,8 +54,8 @@ pub record WritesFront (disk : Disk) (commands : List Command) (wrote : List ℕ
   pub output : IsOutput disk done replies texts
   pub writes : wrote (joined texts)
 
--- what a run that stopped tells of its script, and what it wrote: nothing of one that it did not read; where the writer failed, an output
--- that lacks its last byte at least; and for want of memory the whole of one, behind which the disk may have failed
+-- what a run that stopped wrote: nothing if it did not read its script; if the writer failed, an output that lacks at least its last byte;
+-- and, if memory ran out, the whole of one, after which the disk may have failed
 abbrev pub StopsAt : Disk → List ℕ → (old new : Option (List ℕ)) → RunError → Type 0
 StopsAt disk script old new InputTooLong = MAX_INPUT_LEN < length script
 StopsAt disk script old new ReadFault = Unit {0}
@@ -76,12 +76,12 @@ Ends disk streams (Ok outcome) = IfSome streams.script (λ script. (length scrip
 Ends disk streams (Err error) = IfSome streams.script (λ script. StopsAt disk script streams.old streams.new error)
     × KeepsUnread streams.old streams.new error
 
--- whether a run tells that its script could not be read
+-- whether a run reports that its script could not be read
 abbrev pub tells_read_fault : {A : Type 0} → Result A RunError → Bool
 tells_read_fault (Err ReadFault) = true
 tells_read_fault ended = false
 
--- whether a run tells that its output could not be written
+-- whether a run reports that its output could not be written
 abbrev pub tells_write_fault : {A : Type 0} → Result A RunError → Bool
 tells_write_fault (Err WriteFault) = true
 tells_write_fault ended = false

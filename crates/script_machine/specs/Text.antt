@@ -1,4 +1,4 @@
--- The text of the machine's replies: one line each, of an answer the table too. All of this is our own.
+-- The text of the machine's replies: one line each, and for an answer its table. All of this is our own.
 use Rattle.std.specs.Prelude.{ℕ, List, [], flat_map, length, codes, decimal}
 use Rattle.grouping_model.specs.Answer.{answer}
 use Rattle.grouping_model.specs.World.{World, Knowledge}
@@ -11,8 +11,8 @@ use Rattle.replies.specs.declared.refusal.Refusal.{Refusal}
 use Rattle.script_machine.specs.Machine.{Reply, Has_columns, Has_query, Has_limit, Created, Took, Merged, Saved, Loaded, Listed, Answered}
 use Rattle.script_machine.specs.Machine.{Refused}
 
--- the words that the headline leaves open, and Exact has: how a query is told again, the name of a refusal, and how many bytes the file
--- has of what is known of a world for a query
+-- the words that the headline leaves open, and Exact has: the canonical text of a query, the name of a refusal, and the length of the file
+-- of what is known of a world for a query
 pub record Wording : Type 0 where
   pub spelled : Checked → List ℕ
   pub name_of : Refusal → List ℕ
@@ -38,6 +38,6 @@ reply_text wording world (Refused why) = line (codes "refused ") (wording.name_o
 abbrev pub replies_text : Wording → World → List Reply → List ℕ
 replies_text wording world replies = flat_map (reply_text wording world) replies
 
--- texts one behind the other
+-- texts one after the other
 abbrev pub joined : List (List ℕ) → List ℕ
 joined texts = flat_map (λ text. text) texts

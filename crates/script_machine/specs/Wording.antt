@@ -8,7 +8,7 @@ use Rattle.replies.specs.Text.{refusal_name}
 use Rattle.script_machine.specs.Machine.{Reply, Saved}
 use Rattle.script_machine.specs.Text.{Wording}
 
--- a query is told again by its canonical text, a refusal by its name, and a file by the length of its bytes
+-- a query has its canonical text, a refusal its name, and a file the length of its bytes
 abbrev pub exact_wording : Wording
 exact_wording = record {
   spelled = λ query. spelling (by_names query);
@@ -16,7 +16,7 @@ exact_wording = record {
   size = λ world query known. length (world_file query world known);
 }
 
--- the bytes of the file that a reply saves, where the batches are a world's
+-- the bytes of the file that a reply saves, if the batches are a world's
 abbrev pub file_saved : World → Reply → Option (List ℕ)
 file_saved world (Saved saved query known) = Some (world_file query world known)
 file_saved world reply = None

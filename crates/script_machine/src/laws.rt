@@ -17,8 +17,8 @@ ghost use Rattle.script_machine.specs.Output.{Disk, IsOutput, WritesFront};
 ghost use Rattle.script_machine.specs.Text.{joined};
 ghost use Rattle.script_machine.specs.Machine.{State, Reply, Agrees, start};
 
-/// A command has one reply with its reason, memory being there: the machine's step is a function of what is there and the command. There
-/// are never two, nor is there ever none.
+/// A command has one reply with its reason, as long as memory suffices: the machine's step is a function of the state and the command.
+/// There are never two replies, nor none.
 pub fn one_reply()
     ensures not_two { (old : State) (request : Request) (owned : List Record) (a b : Reply) →
         Exactly old request owned a → Exactly old request owned b → a ≡ b }
@@ -26,16 +26,15 @@ pub fn one_reply()
         ((reply : Reply) → ¬ (Exactly old request owned reply)) → ⊥ }
 {}
 
-/// Two replicas of one query that know the same batches print and save the same bytes, be they of one script or of two: in whatever order
-/// these came, and however often, an answer is the same text, so is the list of what is known, and a file that is saved has the
-/// same bytes, under whichever name.
+/// Two replicas of one query that know the same batches print and save the same bytes, in one script or in two: the same answer, the same
+/// list of what is known, and the same saved file, under any name. The order of the batches and repeats make no difference.
 pub fn same_batches_same_bytes()
     ensures { SameKnowledgeSameBytes }
 {}
 
-/// What is said of the fronts of an output says this of the whole, and of what a run wrote that stopped: over an honest disk, and where
-/// all of its commands agree with a world, all of an output is right; and what was written of it is the front of an output of all
-/// commands, in which each that was not answered is refused for want of memory.
+/// The clauses about prefixes of an output imply the same for the whole, and for a run that stopped: over an honest disk, if all commands
+/// agree with a world, the whole output is right. A run that stopped wrote a prefix of an output of all commands, in which each one that
+/// was not answered is refused because memory ran out.
 pub fn outputs_as_a_whole()
     ensures whole { (disk : Disk) (commands : List Command) (replies : List Reply) (texts : List (List ℕ)) →
         IsOutput disk commands replies texts → IsTrue disk.honest → AreExact commands replies texts }
@@ -52,7 +51,7 @@ pub fn one_batch_each_agrees()
         Agrees (world_of feds) start commands replies }
 {}
 
-/// README's first script has the output that README shows: it is right to the byte, and no other is in which no command is refused.
+/// README's first script has the output that README shows: it is right to the byte, and no other output without a refusal is.
 pub fn first_example()
     ensures { HasFirstOutput }
 {}

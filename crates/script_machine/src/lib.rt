@@ -1,5 +1,5 @@
-//! The machine that a script runs, as a definition, and the session that meets it: replicas by their names, fed, asked and
-//! answered as the script tells, and `run`, which reads a script and writes its replies.
+//! The machine that a script runs, as a definition, and the session that implements it: replicas by name, fed, merged and queried as the
+//! script says. `run` reads a script and writes its replies.
 #![tactic(auto)]
 
 mod engine;

@@ -2,17 +2,17 @@
 
 use csv::ByteRecord;
 
-/// What a script may begin with, which is no part of its first record.
+/// A byte order mark, which a script may begin with.
 const BYTE_ORDER_MARK: &[u8] = b"\xEF\xBB\xBF";
 
-/// The lines of a script, gone through once from the first, which is line 1. A line ends at a line feed, at a carriage
-/// return, or at both together.
+/// The lines of a script, counted in one pass from line 1. A line ends at a line feed, at a carriage return, or at both
+/// together.
 #[derive(Drop)]
 pub(crate) struct Lines<'s> {
     script: &'s [u8],
     at: usize,
     line: u64,
-    /// Whether the byte before is a carriage return, with which a line feed ends the same line.
+    /// Whether the byte before is a carriage return, so that a line feed ends the same line.
     is_behind_return: bool,
 }
 
@@ -56,10 +56,10 @@ impl<'s> Lines<'s> {
         self.line
     }
 
-    /// The line at which a record begins, one behind those that were asked for before; 0 where it was not read from a script.
+    /// The line at which a record begins. Records are asked for in their order. It is 0 if the record was not read from a script.
     pub(crate) fn line_of(&mut self, head: &ByteRecord) -> u64 {
         match head.position() {
-            // It is where the record before ended: empty lines, or the second byte of a line end, may come first.
+            // This is the end of the record before: empty lines, or the second byte of a line end, may come first.
             Some(position) => self.line_from(position.byte()),
             None => 0,
         }

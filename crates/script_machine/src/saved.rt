@@ -1,4 +1,4 @@
-//! Summary files as they are kept: what those of one query begin with is there once.
+//! Summary files in memory: those of one query share their head.
 
 ghost use Rattle.std.specs.Prelude.{◌≡◌, ◌++◌, IfOk, IfSome};
 ghost use Rattle.replica_merge.specs.Results.{IsLoaded};
@@ -9,10 +9,10 @@ use std::alloc::{AllocError, Global};
 use std::marker::Model;
 use std::rc::Rc;
 
-/// What files of one query begin with. It decides how much of them is shared, and nothing of what they are.
+/// The head that files of one query begin with. It decides how much of them is shared, and nothing else.
 pub(crate) type Head = Rc<Vec<u8>, Global>;
 
-/// A summary file. Where at least half of it is a head, it shares that, and holds only the rest of its own.
+/// A summary file. If at least half of it is a head, it shares that, and holds only the rest.
 #[derive(Drop)]
 pub(crate) struct SavedFile {
     head: Option<Head>,
@@ -31,10 +31,10 @@ impl Model for SavedFile {
     ghost view = { λ f. head_bytes f.head ++ f.rest.items };
 }
 
-/// How many bytes tell the number of origins, with which a file ends that knows of none.
+/// How many bytes the number of origins has, with which the file of an empty replica ends.
 const COUNT_LENGTH: usize = 2;
 
-/// The head of a query's files: the file of a replica that knows nothing, but for its number of origins.
+/// The head of a query's files: the file of an empty replica without its number of origins.
 pub(crate) fn head_of(alloc: Global, query: &Query) -> Result<Head, AllocError> {
     let nothing = Replica::new(alloc, query.try_clone()?);
     let mut head = nothing.save()?;
@@ -42,7 +42,7 @@ pub(crate) fn head_of(alloc: Global, query: &Query) -> Result<Head, AllocError> 
     Ok(Rc::new(alloc, head)?)
 }
 
-/// What is behind a head, where the head is at least half of a file.
+/// The rest of a file after its head, if the head is at least half of it.
 fn behind<'a>(head: &[u8], file: &'a [u8]) -> Option<&'a [u8]>
     ensures { IfSome result (λ rest. file.now ≡ head.now ++ rest.now) }
 {
@@ -53,7 +53,7 @@ fn behind<'a>(head: &[u8], file: &'a [u8]) -> Option<&'a [u8]>
     Some(rest)
 }
 
-/// The bytes of a head, and behind them others.
+/// The bytes of a head, followed by others.
 fn joined(alloc: Global, head: &[u8], rest: &[u8]) -> Result<Vec<u8>, AllocError>
     ensures { IfOk result (λ bytes. bytes.items ≡ head.now ++ rest.now) }
 {
@@ -63,8 +63,8 @@ fn joined(alloc: Global, head: &[u8], rest: &[u8]) -> Result<Vec<u8>, AllocError
     Ok(bytes)
 }
 
-/// The replica that a summary file is of. A file that a replica saved has no fault, so that the only error is a failed allocation.
-/// It shares the query that is told, if the file is of that.
+/// The replica of a summary file, which shares the given query if the file has it. A file that a replica saved has no fault, so
+/// the only error is out of memory.
 fn replica_of(alloc: Global, known: Option<&Query>, file: &[u8]) -> Result<Replica, AllocError>
     ensures { IfOk result (IsLoaded file.now) }
 {
@@ -96,8 +96,7 @@ impl SavedFile {
         })
     }
 
-    /// The replica that it is a summary file of, which shares the query that is told. The only error is a failed allocation, where a
-    /// replica saved the file.
+    /// The replica of the file, which shares the given query. If a replica saved the file, the only error is out of memory.
     pub(crate) fn replica(
         &self,
         alloc: Global,

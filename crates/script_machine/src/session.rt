@@ -1,4 +1,4 @@
-//! What is there while a script runs, and how its commands are answered.
+//! The state of a script that runs, and the replies to its commands.
 
 ghost use Rattle.std.specs.Prelude.{◌≡◌, ◌≢◌, Bool, false, List, Some, [], IfOk, IfErr, OnOk, OnErr, drop, string_bytes, take, ℕ};
 ghost use Rattle.std.specs.HashMap.{UpdatesBy};
@@ -38,17 +38,16 @@ use script_io::Records;
 use std::alloc::{AllocError, Global};
 use std::marker::Model;
 
-/// The columns and the query, once they were told, the replicas by their names, what was saved of them, and the means of
-/// aggregations.
+/// The columns and the query, once given, the replicas by name, their saved files, and the means of aggregations.
 #[derive(Drop)]
 pub(crate) struct Session {
     alloc: Global,
     columns: Option<Schema>,
     query: Option<Query>,
-    /// What summary files of the query begin with, if there was memory for it when the query was told.
+    /// The head of the query's summary files, if there was memory for it when the query was given.
     head: Option<Head>,
     replicas: IndexMap<Vec<u8>, Replica>,
-    /// Summary files, by the names that they were saved under.
+    /// Saved summary files, by name.
     saved: IndexMap<Vec<u8>, SavedFile>,
     means: Means<Fnv1a>,
 }
@@ -100,7 +99,7 @@ fn read_query(alloc: Global, schema: &Schema, text: &str) -> Result<(Query, Stri
     }
 }
 
-/// A replica that knows nothing, behind a copy of its name.
+/// An empty replica, with a copy of its name.
 fn new_replica(alloc: Global, name: &[u8], query: &Query) -> Result<(Vec<u8>, Replica), AllocError>
     ensures { IfOk result (λ made. (made.0.items ≡ name.now)
         × (made.1 ≡ record { query = query.now; parts = [] })) }
@@ -110,7 +109,7 @@ fn new_replica(alloc: Global, name: &[u8], query: &Query) -> Result<(Vec<u8>, Re
     Ok((key, Replica::new(alloc, query)))
 }
 
-/// The summary file of a replica, behind a copy of the name that it is saved under.
+/// The summary file of a replica, with a copy of the name that it is saved under.
 fn file_of_replica(
     alloc: Global,
     replica: &Replica,
@@ -127,7 +126,7 @@ fn file_of_replica(
     Ok((key, file))
 }
 
-/// The replica that a summary file is of, behind a copy of its name. It shares the query that was told.
+/// The replica of a summary file, with a copy of its name. It shares the script's query.
 fn replica_of_file(
     alloc: Global,
     query: &Option<Query>,
@@ -142,7 +141,7 @@ fn replica_of_file(
     Ok((key, replica))
 }
 
-/// Keeps a value under its name, in place of any that had it. Where memory is wanting, nothing is changed.
+/// Keeps a value under its name, and replaces one that had it. If memory runs out, nothing changes.
 fn keep<V: Drop>(kept: &mut IndexMap<Vec<u8>, V>, named: (Vec<u8>, V)) -> Result<(), AllocError>
     ensures put { OnOk result (UpdatesBy (λ x y. bytes_eq x.items y.items)
         (λ name. bytes_eq named.0.items name.items) kept.old kept.new (Some named.1)) }
@@ -156,7 +155,7 @@ fn keep<V: Drop>(kept: &mut IndexMap<Vec<u8>, V>, named: (Vec<u8>, V)) -> Result
 }
 
 impl Session {
-    /// Nothing is there. The tables of aggregations have this seed.
+    /// The empty state. Group tables have this seed.
     pub(crate) fn new(alloc: Global, seed: Seed) -> Session
         ensures { result ≡ empty }
     {
@@ -244,7 +243,7 @@ impl Session {
         Reply::Created(name)
     }
 
-    /// Answers `feed`, and takes the records that belong to it. The only error is that memory ran out for a record.
+    /// Answers `feed`, and takes the records that belong to it. The only error is out of memory for a record.
     fn feed<D: TapeDisk>(
         &mut self,
         name: &[u8],
@@ -303,7 +302,7 @@ impl Session {
         }
     }
 
-    /// What two replicas hold together, aside from both.
+    /// What two replicas hold together, built beside both.
     fn join<D: TapeDisk>(&self, into: &[u8], from: &[u8], disk: &mut D) -> Result<Joined, Refusal>
         ensures { JoinsNamed D.TapeDisk self.now into.now from.now disk.old result disk.new }
     {
@@ -376,7 +375,7 @@ impl Session {
         Reply::Loaded
     }
 
-    /// Answers a command, and takes the records that belong to it, which come next. The only error is that memory ran out
+    /// Answers a command, and takes the records that belong to it, which come next. The only error is out of memory
     /// for a record.
     pub(crate) fn execute<'c, D: TapeDisk>(
         &mut self,

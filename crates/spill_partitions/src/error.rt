@@ -9,7 +9,7 @@ use thiserror::Error;
 /// Why records are not spilled, or not read again.
 #[derive(Clone, Copy, Debug, PartialEq, Eq, Error)]
 pub enum SpillError {
-    /// An allocation failed.
+    /// Memory ran out.
     #[error("out of memory")]
     NoMemory,
     /// The disk failed.

@@ -48,7 +48,7 @@ small_first a pages page rest pool apart free =
     let given : page < a.count = below_less page a.count (omega (arith, e, same_one page, at)) in
     omega (arith, given, pool.few)
 
--- a page that was read is given back
+-- a page that was read is freed
 pub balanced_back : (a : PoolState) (pages pages' : List ℕ) (page : ℕ) → pages ≡ page ∷ pages'
     → IsBalanced a pages (given_back a page) pages'
 balanced_back a pages pages' page first =
@@ -121,7 +121,7 @@ takes_more a b xs ys takes = record {
   again = takes.again;
 }
 
--- a page that was read is given back
+-- a page that was read is freed
 pub back : (a : PoolState) (pages pages' : List ℕ) (page : ℕ) → HavePages a pages → pages ≡ page ∷ pages'
     → GivesBack a pages (given_back a page) pages'
 back a pages pages' page have first = record {

@@ -94,7 +94,7 @@ pub record IsGoodRead (t : TapeState) : Type 0 where
   pub pages : ahead t < t.left + PAGE
   pub end : t.records ≡ 0 → t.left ≡ 0
 
--- how a part of a record is read: pages that were read are given back, the tape is read on, and the disk is only read
+-- how a part of a record is read: pages that were read are freed, the tape is read on, and the disk is only read
 pub record ReadsPart {D X : Type 0} (g : Ghosts D) (given : PoolState) (old : TapeState) (before : D) (result : Result X DiskError)
     (taken : PoolState) (new : TapeState) (after : D) : Type 0 where
   pub pages : GivesBack given old.pages taken new.pages

@@ -10,7 +10,7 @@ use thiserror::Error;
 /// Why a call of tapes is refused.
 #[derive(Clone, Copy, Debug, PartialEq, Eq, Error)]
 pub enum TapeError {
-    /// An allocation failed.
+    /// Memory ran out.
     #[error("out of memory")]
     NoMemory,
     /// The disk failed.

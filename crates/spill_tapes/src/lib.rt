@@ -1,6 +1,6 @@
 //! Tapes over a disk: lists of records that are written once, one after the other, and then read once, in order.
 //!
-//! A tape is a chain of pages of 8,192 bytes. Pages that were read are used again. (PostgreSQL 17,
+//! A tape is a chain of pages of 8,192 bytes. Pages that were read are reused. (PostgreSQL 17,
 //! `src/backend/utils/sort/logtape.c`, has tapes of this kind.)
 #![tactic(auto)]
 

@@ -27,8 +27,8 @@ use tape_disks::TapeDisk;
 
 /// Tapes over a disk: lists of records, each of which is written and then read once, in order.
 ///
-/// A record is a hash, a tag, which is 0 or 1, and up to 65,535 bytes. Each call that reads or writes is handed the disk,
-/// which nothing else may write to as long as the tapes are in use.
+/// A record is a hash, a tag, which is 0 or 1, and up to 65,535 bytes. Each call that reads or writes takes the disk, which
+/// nothing else may write to while the tapes are in use.
 ///
 /// If a call that reads or writes the disk fails, because memory ran out, the disk failed, or its bytes are not those of a record, the
 /// tapes are dead: every further call but `close` is refused.
@@ -263,7 +263,7 @@ impl Tapes {
         }
     }
 
-    /// Gives up a tape. Its pages are free.
+    /// Closes a tape. Its pages are free.
     pub fn close<D: TapeDisk>(&mut self, _disk: &D, tape: TapeId)
         requires open { is_open self.old tape ≡ true }
         ensures alive { self.new.is_dead ≡ self.old.is_dead }

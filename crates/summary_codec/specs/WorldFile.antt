@@ -23,7 +23,7 @@ world_part query world known origin = (
   },
 )
 
--- the file of these, by rising origin, in a version
+-- the file of these, by ascending origin, in a version
 abbrev pub world_file_in : Version → Checked → World → Knowledge → List ℕ
 world_file_in version query world known = file_in version query (map (world_part query world known) (origins known))
 

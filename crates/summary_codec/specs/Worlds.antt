@@ -25,6 +25,6 @@ pub record IsWorldFile (version : Version) (query : Checked) (world : World) (kn
   pub of_world : IsKnownOf world known
   pub bytes_are : bytes ≡ world_file_in version query world known
 
--- the parts that such a file is of, by rising origin
+-- the parts that such a file is of, by ascending origin
 abbrev pub world_parts : Checked → World → Knowledge → Parts
 world_parts query world known = map (world_part query world known) (origins known)

@@ -1,4 +1,4 @@
-//! Why bytes are no summary file.
+//! Why bytes are not a summary file.
 
 ghost use Rattle.std.specs.Prelude.{◌≡◌};
 ghost use Rattle.summary_codec.specs.Names.{summary_name};
@@ -8,14 +8,14 @@ use group_parser::ParseError;
 use std::alloc::AllocError;
 use thiserror::Error;
 
-/// Why bytes are no summary file: the first fault from the left is told, `NoMemory` aside.
+/// Why bytes are not a summary file: the first fault from the left, or `NoMemory`.
 #[derive(Clone, Copy, Debug, PartialEq, Eq, Error)]
 pub enum SummaryError {
-    /// An allocation failed.
+    /// Memory ran out.
     #[error("out of memory")]
     NoMemory,
     /// The first bytes aren't those of a summary file.
-    #[error("no summary file")]
+    #[error("not a summary file")]
     NotASummary,
     /// The file ends within a field.
     #[error("the summary file is cut short")]
@@ -23,19 +23,19 @@ pub enum SummaryError {
     /// Bytes follow the last field.
     #[error("bytes follow the end of the summary file")]
     Trailing,
-    /// A text isn't canonical, or origins, keys or early batches don't rise.
+    /// A text isn't canonical, or origins, keys or early batches aren't in ascending order.
     #[error("the summary file isn't in its canonical form")]
     NotCanonical,
     /// A number is above its limit.
     #[error("a number of the summary file is out of range")]
     OutOfRange,
-    /// The schema's text is none.
-    #[error("the summary file has no schema")]
+    /// The schema's text is not a schema.
+    #[error("the summary file has no valid schema")]
     BadSchema,
-    /// A key or a row isn't packed rightly.
+    /// A key or a row isn't packed correctly.
     #[error("a packed row or key of the summary file is damaged")]
     BadPacked,
-    /// The states of a group aren't those of so many rows.
+    /// The states of a group aren't states of its origin's rows.
     #[error("a state of the summary file is damaged")]
     BadState,
     /// The query's text is refused.

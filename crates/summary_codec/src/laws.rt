@@ -19,7 +19,7 @@ ghost use Rattle.summary_codec.specs.declared.version.Version.{Version};
 ghost use Rattle.summary_codec.specs.declared.version.Version.TheVariants.{First, Second};
 
 /// What a file begins with, and its bounds, by its version. A file is of one version, and what may be held is within the bounds of the
-/// second. What is read of a file of either is written as one of the second, with the same bytes behind its opening, and is read of that.
+/// second. What is read from a file of either is written as one of the second, with the same bytes after its opening, and is read again.
 pub fn versions()
     ensures first { opening First ≡ codes "AGGSUM01" }
     ensures first_number { last_number First ≡ 2147483647 }
@@ -35,9 +35,8 @@ pub fn versions()
         (file_bytes query held ≡ opening Second ++ behind) × IsSaved (opening Second ++ behind) query held }
 {}
 
-/// Each query, with what is held for it, has one spelling in each version within whose bounds it is, which is read as it was, and bytes
-/// that are read are such a spelling. No bytes are read in two ways, or have two first faults, or are read and have a fault, or neither. A
-/// query's texts are UTF-8.
+/// Each query, with what is held for it, has one spelling in each version whose bounds it keeps, which is read back. Bytes that are read
+/// are such a spelling. Any bytes either have one reading or one first fault, never both and never two. A query's texts are UTF-8.
 pub fn one_spelling()
     ensures read_again { (version : Version) (query : Checked) (held : Parts) → IsCheckedQuery query →
         IsUtf8 (printed query.columns) → IsUtf8 (spelling (by_names query)) → AreHeldParts query held →
@@ -56,8 +55,8 @@ pub fn one_spelling()
         ((fault : SummaryError) → ¬ (HasFault bytes fault)) → ⊥ }
 {}
 
-/// The file of a query, a world and what is known of it depends on the rows of the batches that are known alone. So replicas that know the
-/// same batches have equal files.
+/// The file of a query, a world and what is known of it depends only on the rows of the known batches. So replicas that know the same
+/// batches have equal files.
 pub fn files_of_the_known()
     ensures { (version : Version) (query : Checked) (world other : World) (known : Knowledge) →
         ((origin number : ℕ) → IsTrue (knows known (origin, number)) →

@@ -1,4 +1,4 @@
-//! How long a summary file is, before it is made.
+//! The length of a summary file, before it is made.
 
 ghost use Rattle.std.specs.Prelude.{◌≡◌, ◌^◌, ◌-◌, ◌+◌, ℕ, List, length, flat_map, min, IfOk};
 ghost use Rattle.origin_prefix.specs.Held.{AreHeldParts};
@@ -77,8 +77,8 @@ fn parts_len(parts: &BTreeMap<u16, OriginPart>) -> usize
     len
 }
 
-/// How many bytes the file has that [`encode`](crate::encode) makes, or the greatest number where they are more. Nothing of it is made
-/// but the text of the schema. The only error is a failed allocation.
+/// How many bytes the file of [`encode`](crate::encode) has, or the greatest number if they are more. Only the text of the schema is made
+/// for that. The only error is out of memory.
 pub fn encoded_len(query: &Query, parts: &BTreeMap<u16, OriginPart>) -> Result<usize, AllocError>
     requires { AreHeldParts query.now parts.now.entries }
     ensures { IfOk result (HasLength query.now parts.now.entries) }

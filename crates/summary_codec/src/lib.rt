@@ -1,4 +1,4 @@
-//! Summary files: what is known of a query as bytes, and back.
+//! Summary files: a query and what is known for it, as bytes and back.
 #![tactic(auto)]
 
 mod error;

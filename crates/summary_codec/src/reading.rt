@@ -551,16 +551,15 @@ fn read_body(
     Ok((query, parts))
 }
 
-/// The query and what is held of each origin, by rising origin, that a summary file of either version has. Any bytes are read: those that
-/// are no such file are refused, by the first fault from the left. It takes time by the length of the bytes, and memory for what it has
-/// read.
+/// The query and what is held of each origin, by ascending origin, in a summary file of either version. Any bytes are read: other bytes are
+/// refused by the first fault from the left. Its time grows with the length of the bytes, and its memory with what it has read.
 ///
 /// # Errors
 ///
-/// The first of these that is met: `NotASummary` for other first bytes; `Truncated` where a field isn't there in full; `BadSchema`,
-/// and the errors of [`parse`], for the texts; `OutOfRange` for a number above its limit in the file's version; `BadPacked` for a key or a
-/// row; `BadState` for states that no rows of so many batches give; `NotCanonical` for a text that isn't canonical, for origins, keys or
-/// early batches that don't rise, and for an origin of which nothing is held; `Trailing` for bytes behind the last field. Or `NoMemory`.
+/// The first of these: `NotASummary` for other first bytes; `Truncated` for an incomplete field; `BadSchema`, and the errors of
+/// [`parse`], for the texts; `OutOfRange` for a number above its limit in the file's version; `BadPacked` for a key or a row; `BadState`
+/// for states that no rows of so many batches give; `NotCanonical` for a text that isn't canonical, for origins, keys or early batches that
+/// aren't in ascending order, and for an empty origin; `Trailing` for bytes after the last field. Or `NoMemory`.
 pub fn decode(
     alloc: Global,
     bytes: &[u8],
@@ -573,8 +572,8 @@ pub fn decode(
     decode_sharing(alloc, None, bytes)
 }
 
-/// What [`decode`] reads, and by the same errors. Where a query is told that the file is of, that is shared: it is not held once more, and
-/// its texts are compared in place of being parsed.
+/// The same as [`decode`], with the same errors. If the file has the given query, it is shared: it is held once, and its texts are compared
+/// instead of parsed.
 #[tactic(auto, unfolding(crate::specs::Reading::summary))]
 pub fn decode_sharing(
     alloc: Global,

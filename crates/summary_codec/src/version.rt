@@ -12,7 +12,7 @@ pub const LAST_NUMBER_OF_FIRST: u32 = 2_147_483_647;
 /// The most rows of a batch in a file of the first version.
 pub const MAX_ROWS_OF_FIRST: u32 = 65_536;
 
-/// A version of a summary file: what it begins with, and its bounds. All else is one layout. Files are written in the second.
+/// A version of a summary file: what it begins with, and its bounds. Both versions have one layout. Files are written in the second.
 #[derive(Clone, Copy)]
 pub enum Version {
     /// `AGGSUM01`: numbers go to 2,147,483,647, and a batch has at most 65,536 rows.

@@ -136,7 +136,7 @@ fn push_heading(out: &mut Vec<u8>, query: &Query) -> Result<(), AllocError>
     push_sized(out, query.spelling().as_bytes())
 }
 
-/// The file of a query and of what is held of some origins for it, in the second version. The only error is a failed allocation.
+/// The file of a query and of what is held of some origins for it, in the second version. The only error is out of memory.
 pub fn encode(
     alloc: Global,
     query: &Query,

@@ -1,4 +1,4 @@
-//! Tables whose columns stand below one another.
+//! Aligned tables.
 
 ghost use Rattle.std.specs.Prelude.{All, ◌≡◌, ◌<◌, ◌++◌, ◌∷◌, ◌==◌, [], length, map, flat_map, max, codes, replicate, slice_get, Some};
 ghost use Rattle.std.specs.Prelude.{option_map, IfOk, OnOk, slice_index_or, if◌then◌else◌};
@@ -251,7 +251,7 @@ fn columns_of_answer(
 /// for each item of the query. A column is as wide as its longest cell as it shows, the header included, in characters;
 /// numbers stand to the right of their column, what else there is to the left. Values show as in `print_csv`, but without
 /// quotes; the characters 1 to 31 and 127 show as `\x` and two hexadecimal digits. Each line ends with a line feed. The
-/// only error is a failed allocation.
+/// only error is out of memory.
 pub fn print_aligned(alloc: Global, query: &Query, answer: &Answer) -> Result<Vec<u8>, AllocError>
     requires { All (λ row. length row ≡ length (meaning query.now).items) answer.now }
     ensures { IfOk result (λ text. text.items

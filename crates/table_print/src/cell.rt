@@ -1,4 +1,4 @@
-//! How a value shows.
+//! How a value is printed.
 
 ghost use Rattle.std.specs.Prelude.{◌≡◌};
 ghost use Rattle.agg_protocol.specs.Results.{outcome_of};

@@ -78,7 +78,7 @@ fn put_rows(alloc: Global, writer: &mut Writer<Vec<u8>>, answer: &Answer) -> Res
 
 /// The answer of a query as a table in CSV: a header, then a line for each row. Each row of the answer has a value for
 /// each item of the query. Null shows as `\N`, truth values as `t` and `f`, numbers in plain decimal; fields are quoted
-/// where RFC 4180 wants it, and each line ends with a line feed. The only error is a failed allocation.
+/// where RFC 4180 wants it, and each line ends with a line feed. The only error is out of memory.
 pub fn print_csv(alloc: Global, query: &Query, answer: &Answer) -> Result<Vec<u8>, AllocError>
     requires { All (λ row. length row ≡ length (meaning query.now).items) answer.now }
     ensures { IfOk result (λ text. text.items ≡ table_text (headers query.now) answer.now) }

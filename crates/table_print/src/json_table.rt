@@ -1,4 +1,4 @@
-//! Answers as objects of JSON, one on each line.
+//! Answers in JSON, an object a line.
 
 ghost use Rattle.std.specs.Prelude.{All, ◌≡◌, ◌+◌, ◌<◌, ◌++◌, ◌∷◌, ◌==◌, [], length, flat_map, codes, decimal, take, slice_index_or};
 ghost use Rattle.std.specs.Prelude.{if◌then◌else◌, IfOk, OnOk};
@@ -197,7 +197,7 @@ fn push_row(
 /// header. Each row of the answer has a value for each item of the query. Null, true and false are these words, texts are strings,
 /// and numbers stand in plain decimal, those past 2^53 too, which some readers round. An item whose header an earlier item has is
 /// named by it, a dot and its place, as `sum.3`, the first place being 1. Each line ends with a line feed, and has no other. The
-/// only error is a failed allocation.
+/// only error is out of memory.
 pub fn print_json(alloc: Global, query: &Query, answer: &Answer) -> Result<Vec<u8>, AllocError>
     requires { All (λ row. length row ≡ length (meaning query.now).items) answer.now }
     ensures { IfOk result (λ text. text.items ≡ json_text (headers query.now) answer.now) }

@@ -1,4 +1,4 @@
-//! Pieces of a line that several tables have.
+//! Pieces of lines that several formats share.
 
 ghost use Rattle.std.specs.Prelude.{◌≡◌, ◌<◌, ◌++◌, ◌==◌, [], if◌then◌else◌, OnOk};
 ghost use Rattle.std.specs.Char.{digit_char};

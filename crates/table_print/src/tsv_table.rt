@@ -1,4 +1,4 @@
-//! Tables whose values stand between tabs.
+//! Tables in TSV.
 
 ghost use Rattle.std.specs.Prelude.{All, ◌≡◌, ◌<◌, ◌++◌, ◌∷◌, [], length, flat_map, slice_index_or, IfOk, OnOk};
 ghost use Rattle.std.specs.List.{join_by};

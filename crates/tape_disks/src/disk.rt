@@ -10,7 +10,7 @@ use thiserror::Error;
 /// Why a call of a disk failed.
 #[derive(Clone, Copy, Debug, PartialEq, Eq, Error)]
 pub enum DiskError {
-    /// An allocation failed.
+    /// Memory ran out.
     #[error("out of memory")]
     NoMemory,
     /// The disk failed.
@@ -28,12 +28,12 @@ impl From<AllocError> for DiskError {
 
 /// A disk: bytes at places, which are numbers below 2^63.
 ///
-/// A write that succeeds puts its bytes at its places, and is counted. One that fails is not counted and leaves its places as if they had
-/// never been written: nothing is said of them. A read changes neither bytes nor counter. A call that returns `TapeFault` adds one failure,
-/// and any other adds none.
+/// A write that succeeds puts its bytes at its places, and is counted. One that fails is not counted, and the bytes at its places are then
+/// unspecified, as if never written. A read changes neither bytes nor counter. A call that returns `TapeFault` adds one failure, and any
+/// other adds none.
 ///
 /// A disk is honest if each read that succeeds gives, at every place that was ever written, the byte last written there.
-/// Whether it is so never changes.
+/// Honesty never changes.
 pub trait TapeDisk {
     /// How often it failed, and how many writes succeeded.
     ghost failures: { Self → ℕ };

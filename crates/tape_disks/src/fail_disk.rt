@@ -8,7 +8,7 @@ use crate::disk::{DiskError, TapeDisk};
 use std::marker::Model;
 
 /// A disk that fails one call, chosen by its number: that call returns `TapeFault` and changes nothing. All else is the inner disk's. It
-/// takes no memory of its own. It serves to try a failure wherever one may come.
+/// takes no memory of its own. Tests use it to fail each call once.
 #[derive(Drop)]
 pub struct FailDisk<D: TapeDisk + Drop> {
     inner: D,
@@ -36,14 +36,14 @@ impl<D: TapeDisk + Drop> FailDisk<D> {
         }
     }
 
-    /// Whether the call was made that fails.
+    /// Whether the failing call was made.
     pub fn failed(&self) -> bool
         ensures { result ≡ self.now.failed }
     {
         self.failed
     }
 
-    /// The disk behind.
+    /// The inner disk.
     pub fn inner(&self) -> &D
         ensures { result.now ≡ self.now.inner }
     {

@@ -18,15 +18,15 @@ use thiserror::Error;
 /// Who may read and write the file: its owner alone.
 const OWNER_ALONE: u32 = 0o600;
 
-/// A file for tapes was not made, and why.
+/// Why a spill file was not created.
 #[derive(Clone, Copy, Debug, Error)]
-#[error("the file for tapes can't be made")]
+#[error("the spill file cannot be created")]
 pub struct WriteFault {
     pub cause: io::Error,
 }
 
-/// A disk in a file, which is as honest as the file, and fails exactly where the file does: over any that gives back what was written to
-/// it, so does the disk. Places past its end are 0.
+/// A disk in a file. It is as honest as the file, and fails exactly if the file does: if the file returns what was written to it, so does
+/// the disk. Places past its end are 0.
 #[derive(Drop)]
 pub struct FileDisk<F: SeekableFile + Drop> {
     file: F,
@@ -54,8 +54,8 @@ fn new_file() -> OpenOptions
 }
 
 impl<F: Read + Write + Seek + Drop> FileDisk<SystemFile<F>> {
-    /// A disk in a new file that its owner alone may read and write. A path where anything is there already, a link too, is
-    /// refused, as one where no file can be made.
+    /// A disk in a new file that only its owner may read and write. A path at which anything exists, even a link, is refused,
+    /// and so is one at which no file can be created.
     pub fn create<R: Files<File = F>>(
         rt: &R,
         path: &str,

@@ -6,8 +6,8 @@ use crate::disk::{DiskError, TapeDisk};
 use crate::limits::PAGE;
 use std::marker::Model;
 
-/// A disk that gives back other bytes than were written: in all that is read, some bits of one byte of each page of 8,192 bytes
-/// are flipped. All else is the inner disk's. It takes no memory of its own, and isn't honest.
+/// A disk that returns other bytes than were written: each read flips some bits of one byte of each page of 8,192 bytes. All else
+/// is the inner disk's. It takes no memory of its own, and isn't honest.
 #[derive(Drop)]
 pub struct FlipDisk<D: TapeDisk + Drop> {
     inner: D,
@@ -33,7 +33,7 @@ impl<D: TapeDisk + Drop> FlipDisk<D> {
         FlipDisk { inner, at, mask }
     }
 
-    /// The disk behind.
+    /// The inner disk.
     pub fn inner(&self) -> &D
         ensures { result.now ≡ self.now.inner }
     {

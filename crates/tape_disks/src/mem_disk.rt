@@ -14,10 +14,10 @@ use std::alloc::Global;
 use std::collections::BTreeMap;
 use std::marker::Model;
 
-/// A disk in memory, which is honest and fails only where an allocation does. At first each place is 0.
+/// A disk in memory, which is honest and fails only if memory runs out. At first each place is 0.
 ///
-/// Its pages, of 8,192 bytes each, lie in a `Generation` context, and are found by their numbers. A page is taken when it is
-/// first written to.
+/// Its pages, of 8,192 bytes each, are in a `Generation` context, and are found by their numbers. A page is taken at its first
+/// write.
 #[derive(Drop)]
 pub struct MemDisk {
     chunks: Generation,

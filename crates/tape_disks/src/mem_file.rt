@@ -6,8 +6,8 @@ use crate::seekable_file::SeekableFile;
 use std::alloc::{AllocError, Global};
 use std::marker::Model;
 
-/// A file in memory, which is honest and never fails; where an allocation fails it returns `NoMemory` and changes nothing. What lies
-/// between its end and a place beyond that is written is 0.
+/// A file in memory, which is honest and never fails; if memory runs out, it returns `NoMemory` and changes nothing. Bytes between its
+/// end and a later place that is written are 0.
 #[derive(Drop)]
 pub struct MemFile {
     bytes: Vec<u8>,

@@ -1,4 +1,4 @@
-//! Files, as a disk of tapes uses them.
+//! Files, as a tape disk uses them.
 ghost use Rattle.std.specs.Prelude.{◌≡◌, ◌+◌, ◌≤◌, ℕ, Bool, IfOk, OnOk, length};
 ghost use Rattle.tape_disks.specs.Calls.{AreLast, Keeps, KeepsBeside, failed};
 ghost use Rattle.tape_disks.specs.Errors.{disk_faults};
@@ -6,11 +6,11 @@ ghost use Rattle.tape_disks.specs.Files.{IsReadFrom};
 
 use crate::disk::DiskError;
 
-/// A file that is read and written from where it stands on (POSIX: `lseek`, `read`, `write`).
+/// A file that is read and written at its current offset (POSIX: `lseek`, `read`, `write`).
 ///
-/// It is honest if it gives back what was written to it: a read that succeeds gives, at every place that was ever written, the byte last
-/// written there. From its end on nothing but 0 was written. Whether it is so never changes. A call that returns `TapeFault` adds one
-/// failure, and any other adds none.
+/// It is honest if it returns what was written to it: a read that succeeds gives, at every place that was ever written, the byte last
+/// written there. Only zeros were written from its end on. Honesty never changes. A call that returns `TapeFault` adds one failure, and
+/// any other adds none.
 pub trait SeekableFile {
     /// How often it failed.
     ghost failures: { Self → ℕ };

@@ -1,4 +1,4 @@
-//! The disk that an operator chose.
+//! The disk that the user chose: in memory or in a file.
 ghost use Rattle.std.specs.Prelude.{◌≡◌, min};
 ghost use Rattle.tape_disks.specs.Chosen.{writes_of};
 

@@ -10,9 +10,9 @@ use crate::seekable_file::SeekableFile;
 use std::io::{Read, Seek, SeekFrom, Write};
 use std::marker::Model;
 
-/// A file of the system, which counts its failures. No contract says what such a file holds, so none is called honest: what is promised
-/// over it has the premise that it gives back what was written to it. Each method makes one call of the file. An interrupted call is a
-/// failure. After 2^128 - 1 failures the file is called no more, and every method returns `NoMemory`.
+/// A file of the system, which counts its failures. No contract says what such a file holds, so none is called honest: promises over it
+/// have the premise that it returns what was written to it. Each method makes one call of the file. An interrupted call is a failure.
+/// After 2^128 - 1 failures no more calls are made, and every method returns `NoMemory`.
 #[derive(Drop)]
 pub struct SystemFile<F: Read + Write + Seek + Drop> {
     file: F,

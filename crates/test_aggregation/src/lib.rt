@@ -1,4 +1,4 @@
-//! Tests of aggregation by public calls: of the hash table of groups, and of `hash_agg`, what it takes, by worked numbers, and what a disk
+//! Tests of aggregation by public calls: of the hash group table, and of `hash_agg`, what it takes, by worked numbers, and what a disk
 //! that fails makes of it; and rows and queries of towns, which tests of other crates take too.
 //!
 //! `bin/try_tests` leaves out those of `flipped`, `one_hash` and `seed`, which take unproved code a minute or more; the gate runs them as

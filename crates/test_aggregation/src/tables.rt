@@ -186,7 +186,7 @@ fn least_limit(groups: &Groups<Fnv1a>, key: &[u8; 4]) -> u128 {
 /// No table of these tests holds as many bytes as this power of two.
 const HIGHEST_BIT: u32 = 40;
 
-/// The bytes of the block that is given back when there are so many groups and one more is put: that of an array of more than
+/// The bytes of the block that is freed when there are so many groups and one more is put: that of an array of more than
 /// 8,192 bytes which is three quarters full, and of the eight bytes in front of it.
 fn given_back(number: u32) -> u128 {
     match number {

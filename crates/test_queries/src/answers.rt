@@ -1,7 +1,7 @@
 ghost use Rattle.std.specs.Prelude.{◌<◌, length};
 
 use agg_protocol::ResultValue;
-use having_filter::{Answer, AnswerRows, OrderTerm};
+use having_filter::{Answer, AnswerRows, Arrangement, OrderTerm};
 use std::alloc::{AllocError, Global};
 use std::test::*;
 use test_cases::expect;
@@ -65,7 +65,11 @@ fn in_order(
 ) -> Result<String, AllocError> {
     let mut rows = AnswerRows::new(alloc);
     push_rows(&mut rows, those)?;
-    let answer = Answer::in_order(alloc, rows, terms)?;
+    let mut order = Vec::with_capacity(alloc, terms.len())?;
+    for term in terms {
+        order.push(*term)?;
+    }
+    let answer = Answer::arranged(alloc, rows, &Arrangement { order })?;
     let mut shown = format!(in alloc; "{}, {}: ", answer.len(), answer.is_empty())?;
     let told = tell_rows(alloc, &answer, &mut shown);
     drop(answer);

@@ -7,7 +7,7 @@ use replies::Refusal;
 pub(crate) enum Met {
     /// The call answered.
     Nothing,
-    /// It was refused for want of memory, and then answered.
+    /// It was refused because memory ran out, and then answered.
     Refusal,
     /// It gave something else.
     OtherAnswer,

@@ -195,7 +195,7 @@ struct Tally {
 }
 
 impl Tally {
-    /// Counts a run, and tells whether it met want of memory.
+    /// Counts a run, and tells whether memory ran out.
     fn count(&mut self, all: &[Wanted], ran: &Ran) -> bool {
         match ran.end {
             End::Answered { refused } => {
@@ -216,7 +216,7 @@ impl Tally {
     }
 }
 
-/// Runs a script in rooms of more and more bytes, until it meets no want of memory.
+/// Runs a script in rooms of more and more bytes, until memory no longer runs out.
 fn try_rooms(
     alloc: Global,
     hoard: &mut Hoard,

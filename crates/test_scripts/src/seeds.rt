@@ -1,4 +1,4 @@
-//! The seed of tables of groups, on which no reply, page or file depends.
+//! The seed of group tables, on which no reply, page or file depends.
 
 use crate::spilling::{push_rows, script};
 use command_replicas::{create, feed, save};

@@ -225,7 +225,7 @@ fn records_ask(rt: HostRuntime) -> Result<(), Fail> {
 #[test]
 fn scripts_begin_and_end(rt: HostRuntime) -> Result<(), Fail> {
     expect_told(first_told(rt.alloc(), b"\n\r\n", 1), "none;")?;
-    // What is no text asks nothing.
+    // What is not a text asks nothing.
     expect_told(
         first_told(rt.alloc(), b"\xef\xbb\xbfanswer,a\ncolumns,\xff", 3),
         "answer|a| 0;unknown|| 0;none;",

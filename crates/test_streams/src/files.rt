@@ -1,6 +1,6 @@
 //! Whole files: one that is new takes the place of none.
 
-use script_io::{Occupant, occupant_of, write_new_file};
+use out_files::{Occupant, Unwritten, occupant_of, write_new_file};
 use std::io::ErrorKind;
 use std::test::*;
 use std::{fs, io, process};
@@ -10,16 +10,19 @@ use test_cases::expect_told;
 fn word_of(found: Occupant) -> &'static str {
     match found {
         Occupant::Nothing => "nothing",
-        Occupant::Listed => "listed",
+        Occupant::Special => "special",
+        Occupant::Listed(0) => "listed first",
+        Occupant::Listed(_) => "listed",
         Occupant::Another => "another",
     }
 }
 
 /// What becomes of a new file.
-fn outcome(written: io::Result<()>) -> &'static str {
+fn outcome(written: Result<(), Unwritten>) -> &'static str {
     match written {
         Ok(()) => "written",
-        Err(error) if error.kind() == ErrorKind::AlreadyExists => "there already",
+        Err(Unwritten::Failed(error)) if error.kind() == ErrorKind::AlreadyExists =>
+            "there already",
         Err(_) => "failed",
     }
 }

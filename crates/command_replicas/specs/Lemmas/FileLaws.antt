@@ -72,7 +72,7 @@ pub other_file : (file : Option BatchFile) (batch : Batch) (held : Held) → IsR
 other_file None batch held is other = absurd is
 other_file (Some read) batch held is other = other read.head.origin read.head.number read.head.told read.records is
 
--- why a file is no batch file, by the refusal of a batch
+-- why a file is not a batch file, by the refusal of a batch
 pub unread_why : (ks : List Kind) (file : Option BatchFile) (error : BatchError) → FileFault ks file error
     → IsOfBatch (batch_refusal error) → IsNoBatchFile ks file (batch_refusal error)
 unread_why ks file batch.NoMemory fault of = absurd of
@@ -89,7 +89,7 @@ unread_why ks (Some read) (batch.WrongWidth row) fault of =
 unread_why ks (Some read) (batch.BadField row column) fault of =
     record { error = batch.BadField row column; found = λ e. cc; fault = fault; named = refl }
 
--- why bytes are no summary file is no fault of the disk, and no damage
+-- the refusal of bytes that are not a summary file reports neither a fault of the disk nor damage
 pub no_file_fault : (file : List ℕ) (why : Refusal) → IsNoSummary file why → faults_of (Refused (refusal_reason why)) ≡ 0
 no_file_fault file refuse.TapeFault is = absurd is
 no_file_fault file refuse.NoMemory is = refl

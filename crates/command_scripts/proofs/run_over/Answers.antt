@@ -6,9 +6,6 @@ returns g c =
     record {
       run = c.run_observed-run.result;
       ended = c.run_ending.ensures;
-      reads = told.reads;
       headline = told.headline;
-      any_disk = told.any_disk;
-      fault = told.fault;
-      write_fault = told.write_fault;
+      runs = told.runs;
     }

@@ -1,5 +1,5 @@
 use Rattle.engine_c.proofs.SlotLaws.{unasked_slot}
 use Rattle.engine_c.proofs.agg_query.Goals as goal
 
-pub returns-in_default : goal.returns-in_default
-returns-in_default c = unasked_slot _ _ _ _ _ _ _ c.in_default.ensures.none c.taken.ensures.emptied c.number.ensures
+pub returns-in_default-clause-asks : goal.returns-in_default-clause-asks
+returns-in_default-clause-asks c = unasked_slot _ _ _ _ _ _ _ c.in_default.ensures.none c.taken.ensures.emptied c.number.ensures

@@ -9,7 +9,7 @@ use Rattle.grouping_model.specs.declared.limits.TheConstants.{MAX_ITEMS, MAX_KEY
 use Rattle.query_checks.specs.Order.{Asked}
 use Rattle.query_checks.specs.Sameness.{first_of_each}
 use Rattle.query_checks.specs.Checks.{Checked, has_too_many}
-use Rattle.query_checks.specs.Writable.{IsTerm}
+use Rattle.query_checks.specs.Arrangement.{CanBeArranged}
 use Rattle.query_checks.specs.Calls.{distinct_calls}
 use Rattle.query_checks.specs.Spelling.{spelling}
 use Rattle.having_filter.specs.Kept as kept
@@ -35,7 +35,7 @@ pub parsed_again : (q : Checked) (text : List ℕ) → kept.IsCheckedQuery q →
 parsed_again q text is same =
     let w = by_names q in
     let first = passes_first q.columns w q is.passed in
-    let fits = subst (λ (a : Asked). AllByRecursion IsTerm a.terms) (sym (is_canonical q is.passed)) is.writable.terms in
+    let fits = subst (λ (a : Asked). CanBeArranged a.arrangement) (sym (is_canonical q is.passed)) is.writable.arrangement in
     let says = text_says w is.writable.written first.shallow fits in
     subst (λ (t : List ℕ). Accepts q.columns t q) (sym same)
     (record {

@@ -12,11 +12,12 @@ use Rattle.grouping_model.specs.declared.limits.TheConstants.{MAX_ITEMS, MAX_KEY
 use Rattle.packed_rows.specs.Columns.{Column, IsColumnName}
 use Rattle.query_checks.specs.Forms.{Form, Written, map_form}
 use Rattle.query_checks.specs.Checks.{all_of, has_too_many, is_shallow, are_shallow, is_column, has_columns, place, placed, checked_places}
-use Rattle.query_checks.specs.Checks.{with_order, checked, PassesFirst}
+use Rattle.query_checks.specs.Checks.{with_arrangement, checked, PassesFirst}
 use Rattle.query_checks.specs.Sameness.{first_of_each}
-use Rattle.query_checks.specs.Order.{Asked, order_of}
-use Rattle.query_checks.specs.Spelling.{own_name, kept_alias, item_text, written_text, order_text, spelling, canonical_item}
-use Rattle.query_checks.specs.Spelling.{canonical_written, canonical_term, canonical}
+use Rattle.query_checks.specs.Order.{Asked}
+use Rattle.query_checks.specs.Arrangement.{arrangement_of, canonical_arrangement, arrangement_text}
+use Rattle.query_checks.specs.Spelling.{own_name, kept_alias, item_text, written_text, spelling, canonical_item}
+use Rattle.query_checks.specs.Spelling.{canonical_written, canonical}
 use Rattle.query_checks.specs.Reads.{calls_in, columns_pass, filters_pass}
 use Rattle.query_checks.specs.Calls.{distinct_calls}
 use Rattle.query_checks.specs.Writable.{IsItem, IsWritable}
@@ -25,7 +26,7 @@ use Rattle.query_checks.specs.CheckedLaws.{reaches_places}
 use Rattle.having_filter.specs.Kept.{by_names, label_of}
 use Rattle.having_filter.specs.PlaceLaws.{distinct_places}
 use Rattle.having_filter.specs.NormalLaws.{HasColumns, columns_of_query, named_again, placed_item}
-use Rattle.having_filter.specs.Lemmas.OrderLaws.{order_again, names_again, ordered_again}
+use Rattle.having_filter.specs.Lemmas.OrderLaws.{arrangement_again, names_again, arranged_again}
 
 -- an alias is kept once and for all
 keeps : (own alias : List ℕ) (same : Bool) → bytes_eq alias own ≡ same → kept_alias own (kept_alias own (Some alias))
@@ -57,7 +58,7 @@ written_alike : (q : Written (List ℕ)) → written_text (canonical_written q) 
 written_alike q = rw (items_spelled q.items, distinct_again bytes_eq q.keys) refl
 
 pub spelled_alike : (q : Asked) → spelling (canonical q) ≡ spelling q
-spelled_alike q = λ i. written_alike q.written i ++ order_text (order_again q i)
+spelled_alike q = λ i. written_alike q.written i ++ arrangement_text (arrangement_again q i)
 
 counted_alike : (q : Asked) → has_too_many (canonical q) ≡ has_too_many q
 counted_alike q =
@@ -111,19 +112,19 @@ passes_alike columns q first =
       items_there = names_again q;
     }
 
--- placed and named again, a query with its order is the canonical one
+-- placed and named again, a query with what stands behind its HAVING is the canonical one
 pub asked_again : (columns : List Column) (q : Asked) → HasColumns columns q.written
-    → by_names (record { columns = columns; written = placed columns q.written; order = order_of q }) ≡ canonical q
-asked_again columns q has = λ i. record { written = named_again columns q.written has i; terms = map canonical_term (order_of q) }
+    → by_names (record { columns = columns; written = placed columns q.written; arrangement = arrangement_of q }) ≡ canonical q
+asked_again columns q has = λ i. record { written = named_again columns q.written has i; arrangement = canonical_arrangement (arrangement_of q) }
 
 -- a query that passes the checks passes them again by its own text
 pub passes_again : (columns : List Column) (q : Asked) → PassesFirst columns q
-    → checked columns (by_names (record { columns = columns; written = placed columns q.written; order = order_of q }))
-    ≡ with_order columns (checked_places columns (placed columns q.written)) (Ok (order_of q))
+    → checked columns (by_names (record { columns = columns; written = placed columns q.written; arrangement = arrangement_of q }))
+    ≡ with_arrangement columns (checked_places columns (placed columns q.written)) (Ok (arrangement_of q))
 passes_again columns q first =
     let has = columns_of_query columns q.written first.columns_there in
     ap (checked columns) (asked_again columns q has) ∙ reaches_places columns (canonical q) (passes_alike columns q first)
-    ∙ (λ i. with_order columns (checked_places columns (placed_alike columns q.written has i)) (ordered_again q i))
+    ∙ (λ i. with_arrangement columns (checked_places columns (placed_alike columns q.written has i)) (arranged_again q i))
 
 -- a text can say the canonical query where it can say the query
 alias_stays : (own alias : List ℕ) (same : Bool) → bytes_eq alias own ≡ same → IsColumnName alias

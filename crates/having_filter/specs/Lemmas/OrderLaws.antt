@@ -1,21 +1,20 @@
--- The order of a query is that of its canonical text.
+-- What stands behind a query's HAVING is what its canonical text says.
 use Rattle.std.proofs.Common.{◌≡◌, ◌<◌, ◌≤◌, ◌+◌, ◌-◌, ◌&&◌, ℕ, pos, ℤ, Bool, true, false, cond, List, [], ◌∷◌, map, length, position}
 use Rattle.std.proofs.Common.{Option, Some, None, option_map, refl, ap, sym, ◌∙◌, subst, arith}
 use Rattle.std.specs.Prelude.{nat_le, is_some, Ok, FitsSigned}
 use Rattle.std.specs.Int.{w64}
 use Rattle.std.proofs.lemmas.Int.{ints}
 use Rattle.grouping_model.specs.declared.limits.TheConstants.{MAX_ITEMS}
-use Rattle.query_checks.specs.Writable.{IsTerm}
 use Rattle.std.specs.List.{AllByRecursion, list_any, list_all, filter_map, cons_option}
 use Rattle.std.proofs.lemmas.List.{length-map}
 use Rattle.std.proofs.lemmas.List.Quantifiers.{position-Some}
 use Rattle.query_checks.specs.declared.order.OrderTerm.{OrderTerm}
 use Rattle.query_checks.specs.Forms.{Form, Column}
 use Rattle.query_checks.specs.Order.{Target, By_name, By_place, Term, Asked, has_name, item_at, item_meant, is_ambiguous, ordered_by}
-use Rattle.query_checks.specs.Order.{term_meant, same_item, order_of, names_items}
+use Rattle.query_checks.specs.Order.{term_meant, same_item, order_of, names_items, canonical_term, IsTerm}
 use Rattle.query_checks.specs.Sameness.{first_of_each}
-use Rattle.query_checks.specs.Spelling.{canonical_item, canonical_term, canonical}
-use Rattle.query_checks.specs.Checks.{checked_order}
+use Rattle.query_checks.specs.Spelling.{canonical_item, canonical}
+use Rattle.query_checks.specs.Arrangement.{checked_arrangement, arrangement_of, canonical_arrangement, CanBeArranged}
 use Rattle.query_checks.specs.DistinctLaws.{all_distinct, distinct_again}
 use Rattle.having_filter.specs.Kept.{IsTermOf}
 use Rattle.std.proofs.lemmas.Bool.Decides.{nat_tests}
@@ -75,8 +74,8 @@ terms_in items (term ∷ terms) = cons_in items (term_meant items term) (filter_
     (terms_in items terms)
 
 pub order_in : (q : Asked) → AllByRecursion (IsTermOf q.written.items) (order_of q)
-order_in q = all_distinct (IsTermOf q.written.items) same_item (filter_map (term_meant q.written.items) q.terms)
-    (terms_in q.written.items q.terms)
+order_in q = all_distinct (IsTermOf q.written.items) same_item (filter_map (term_meant q.written.items) q.arrangement.order)
+    (terms_in q.written.items q.arrangement.order)
 
 -- the same of as many items
 pub same_length : {A B : Type 0} (items : List A) (others : List B) → length items ≡ length others → (terms : List OrderTerm)
@@ -92,7 +91,7 @@ same_length items others e (term ∷ terms) all = (
 place_fits : (many item : ℕ) → many ≤ MAX_ITEMS → item < many → FitsSigned w64 (pos (item + 1))
 place_fits many item few h = omega (arith, ints, few, h)
 
-pub terms_fit : {A : Type 0} (items : List A) → length items ≤ MAX_ITEMS → (terms : List OrderTerm) → AllByRecursion (IsTermOf items) terms
+terms_fit : {A : Type 0} (items : List A) → length items ≤ MAX_ITEMS → (terms : List OrderTerm) → AllByRecursion (IsTermOf items) terms
     → AllByRecursion IsTerm (map canonical_term terms)
 terms_fit items few [] all = tt
 terms_fit items few (term ∷ terms) all = (
@@ -100,6 +99,9 @@ terms_fit items few (term ∷ terms) all = (
   terms_fit items few
       terms all.1,
 )
+
+pub arrangement_fits : (q : Asked) → length q.written.items ≤ MAX_ITEMS → CanBeArranged (canonical_arrangement (arrangement_of q))
+arrangement_fits q few = record { terms = terms_fit q.written.items few (order_of q) (order_in q) }
 
 -- ---- a term by the place of its item means this item again
 
@@ -133,11 +135,14 @@ order_in_canonical q = same_length q.written.items (map canonical_item q.written
 pub order_again : (q : Asked) → order_of (canonical q) ≡ order_of q
 order_again q =
     ap (first_of_each same_item) (terms_back (map canonical_item q.written.items) (order_of q) (order_in_canonical q))
-    ∙ distinct_again same_item (filter_map (term_meant q.written.items) q.terms)
+    ∙ distinct_again same_item (filter_map (term_meant q.written.items) q.arrangement.order)
+
+pub arrangement_again : (q : Asked) → arrangement_of (canonical q) ≡ arrangement_of q
+arrangement_again q = λ i. record { order = order_again q i }
 
 pub names_again : (q : Asked) → names_items (canonical q) ≡ true
 names_again q = there_back (map canonical_item q.written.items) (order_of q) (order_in_canonical q)
 
-pub ordered_again : (q : Asked) → checked_order (canonical q) ≡ Ok (order_of q)
-unfolding checked_order
-ordered_again q = rw (never_ambiguous (map canonical_item q.written.items) (order_of q)) (ap (λ order. Ok order) (order_again q))
+pub arranged_again : (q : Asked) → checked_arrangement (canonical q) ≡ Ok (arrangement_of q)
+unfolding checked_arrangement
+arranged_again q = rw (never_ambiguous (map canonical_item q.written.items) (order_of q)) (ap (λ arrangement. Ok arrangement) (arrangement_again q))

@@ -4,10 +4,12 @@ use Rattle.std.specs.Prelude.{◌&&◌}
 use Rattle.std.proofs.lemmas.Bool.{and_parts}
 use Rattle.packed_rows.specs.Columns.{Column, kinds}
 use Rattle.query_checks.specs.Forms.{Written}
-use Rattle.query_checks.specs.Order.{Asked, order_of, names_items, is_ambiguously_ordered}
+use Rattle.query_checks.specs.Order.{Asked, names_items, is_ambiguously_ordered}
+unfoldable use Rattle.query_checks.specs.Arrangement.{checked_arrangement}
+use Rattle.query_checks.specs.Arrangement.{arrangement_of}
 use Rattle.query_checks.specs.Reads.{filters_pass}
 use Rattle.query_checks.specs.Checks.{Checked, all_of, has_too_many, is_shallow, are_shallow, has_columns, placed, are_plain, kinds_fit}
-use Rattle.query_checks.specs.Checks.{is_grouped, checked_places, checked_order, with_order, checked, PassesFirst}
+use Rattle.query_checks.specs.Checks.{is_grouped, checked_places, with_arrangement, checked, PassesFirst}
 use Rattle.query_checks.specs.CheckedLaws.{reaches_places, gives_too_many, gives_too_deep, gives_no_column}
 use Rattle.having_filter.specs.Kept.{by_names}
 
@@ -38,17 +40,17 @@ passes_first columns w q passed =
     let there = and_parts (has_columns columns w.written) (names_items w) names in
     record { few = few; shallow = shallow; columns_there = there.0; items_there = there.1 }
 
--- and the others, over the places of its columns, and of its order
+-- and the others, over the places of its columns, and of what stands behind its HAVING
 pub record PassesPlaces (columns : List Column) (p : Written ℕ) (w : Asked) (q : Checked) : Type 0 where
-  pub same : q ≡ record { columns = columns; written = p; order = order_of w }
+  pub same : q ≡ record { columns = columns; written = p; arrangement = arrangement_of w }
   pub plain : are_plain p ≡ true
   pub fit : kinds_fit (kinds columns) p ≡ true
   pub grouped : is_grouped p ≡ true
 
 pub by_places : (columns : List Column) (p : Written ℕ) (w : Asked) (q : Checked) (a b c d : Bool) → are_plain p ≡ a
     → kinds_fit (kinds columns) p ≡ b → is_grouped p ≡ c → is_ambiguously_ordered w ≡ d
-    → with_order columns (checked_places columns p) (checked_order w) ≡ Ok q → PassesPlaces columns p w q
-unfolding checked_places checked_order
+    → with_arrangement columns (checked_places columns p) (checked_arrangement w) ≡ Ok q → PassesPlaces columns p w q
+unfolding checked_places checked_arrangement
 by_places columns p w q false b c d e f g h passed = let clash = rw e at passed in absurd cc
 by_places columns p w q true false c d e f g h passed = let clash = rw (e, f) at passed in absurd cc
 by_places columns p w q true true false d e f g h passed = let clash = rw (e, f, g) at passed in absurd cc

@@ -20,11 +20,13 @@ use Rattle.query_checks.specs.Forms.{Form, Call, Call_where, Literal, Unary, Bin
 use Rattle.query_checks.specs.Forms as form
 use Rattle.query_checks.specs.Reads.{calls_in, columns_pass}
 use Rattle.query_checks.specs.Checks.{kinds_agree, kind_asked, kind_of_form, is_boolean, takes_column, takes_one, takes_two, operands_fit}
-use Rattle.query_checks.specs.Checks.{condition_fits, kinds_fit, has_too_many, is_column, place, placed, checked_places, with_order}
+use Rattle.query_checks.specs.Checks.{condition_fits, kinds_fit, has_too_many, is_column, place, placed, checked_places, with_arrangement}
 use Rattle.query_checks.specs.Checks.{PassesFirst}
 use Rattle.query_checks.specs.Sameness.{form_eq, first_of_each}
+use Rattle.grouping_model.specs.Order.{Arrangement}
 use Rattle.query_checks.specs.declared.order.OrderTerm.{OrderTerm}
 use Rattle.query_checks.specs.Order.{Asked, order_of}
+use Rattle.query_checks.specs.Arrangement.{arrangement_of}
 use Rattle.query_checks.specs.Calls.{calls_of, distinct_calls}
 use Rattle.query_checks.specs.Writable.{IsWritable}
 use Rattle.query_checks.specs.DistinctLaws.{Agrees, all_distinct, distinct_image}
@@ -34,7 +36,7 @@ use Rattle.having_filter.specs.Meaning.{meaning, aggregate_of, source_of_form}
 use Rattle.having_filter.specs.Kept.{TakesRows, IsWellFormed, IsCheckedQuery}
 use Rattle.having_filter.specs.PlaceLaws.{same_places, distinct_places, places_in_range}
 use Rattle.having_filter.specs.NormalLaws.{HasColumns, placed_item, columns_of_query, named_again}
-use Rattle.having_filter.specs.Lemmas.OrderLaws.{same_length, order_in, terms_fit}
+use Rattle.having_filter.specs.Lemmas.OrderLaws.{same_length, order_in, arrangement_fits}
 use Rattle.having_filter.specs.Lemmas.NormalLaws.{normal_writable, passes_again}
 use Rattle.std.proofs.lemmas.Bool.Decides.{nat_tests}
 use Rattle.std.proofs.lemmas.Grind.{common_steps}
@@ -191,10 +193,10 @@ within : (q : Asked) → has_too_many q ≡ false → IsWithin q.written
 within q e = grind (arith, nat_tests, common_steps)
 
 -- a query that passes the first checks and has kinds that fit is well formed
-well_formed : (columns : List Column) (asked : Asked) (order : List OrderTerm) → PassesFirst columns asked
+well_formed : (columns : List Column) (asked : Asked) (arrangement : Arrangement OrderTerm) → PassesFirst columns asked
     → kinds_fit (kinds columns) (placed columns asked.written) ≡ true
-    → IsWellFormed (meaning (record { columns = columns; written = placed columns asked.written; order = order }))
-well_formed columns asked order first fit =
+    → IsWellFormed (meaning (record { columns = columns; written = placed columns asked.written; arrangement = arrangement }))
+well_formed columns asked arrangement first fit =
     let q = asked.written in
     let has = columns_of_query columns q first.columns_there in
     let few = within asked first.few in
@@ -212,21 +214,21 @@ well_formed columns asked order first fit =
           ∙ ap length (calls_alike columns q has) ∙ length-map (distinct_calls bytes_eq q) (map_form (place columns)))) few.calls;
     }
 
--- a query that passes all checks but that of ORDER BY
+-- a query that passes all checks but that of what stands behind HAVING
 pub passed_query : (columns : List Column) (q : Asked) → AreColumns columns → IsWritable q.written → PassesFirst columns q
     → kinds_fit (kinds columns) (placed columns q.written) ≡ true
     → checked_places columns (placed columns q.written) ≡ Ok (placed columns q.written)
-    → IsCheckedQuery (record { columns = columns; written = placed columns q.written; order = order_of q })
+    → IsCheckedQuery (record { columns = columns; written = placed columns q.written; arrangement = arrangement_of q })
 passed_query columns q are writable first fit passed =
     record {
       columns_are = are;
       writable = record {
         written = subst IsWritable (sym (named_again columns q.written (columns_of_query columns q.written first.columns_there)))
             (normal_writable q.written writable);
-        terms = terms_fit q.written.items (within q first.few).items (order_of q) (order_in q);
+        arrangement = arrangement_fits q (within q first.few).items;
       };
-      passed = passes_again columns q first ∙ ap (λ r. with_order columns r (Ok (order_of q))) passed;
-      well_formed = well_formed columns q (order_of q) first fit;
+      passed = passes_again columns q first ∙ ap (λ r. with_arrangement columns r (Ok (arrangement_of q))) passed;
+      well_formed = well_formed columns q (arrangement_of q) first fit;
       ordered = same_length q.written.items (placed columns q.written).items (sym (length-map q.written.items (placed_item columns)))
           (order_of q) (order_in q);
     }

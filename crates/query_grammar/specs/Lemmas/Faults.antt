@@ -5,11 +5,11 @@ use Rattle.std.specs.Prelude.{codes}
 use Rattle.std.proofs.lemmas.List.{append-nil}
 use Rattle.query_tokens.specs.declared.word.Symbol.TheVariants as symbols
 use Rattle.query_grammar.specs.Lemmas.Words.{Lexeme, Asked, is_word, is_sign, Named, opening, IsQuery, Begins, Read, Unexpected, Too_deep}
-use Rattle.query_grammar.specs.Lemmas.Words.{after, choose, expect, item_at, list_at, clause_at, keys_at, order_at, nothing_at, end_at}
+use Rattle.query_grammar.specs.Lemmas.Words.{after, choose, expect, item_at, list_at, clause_at, keys_at, arrangement_at, nothing_at, end_at}
 use Rattle.query_grammar.specs.Lemmas.Words.{query_at}
 use Rattle.query_grammar.specs.Reading.{◌>>=◌}
 use Rattle.query_grammar.specs.Laws.{Means, CanBecome, IsUnexpected, IsTooDeep}
-use Rattle.query_grammar.specs.Lemmas.Whole_sound.{Query_part, from_order, from_having, from_keys, from_where, from_items, made}
+use Rattle.query_grammar.specs.Lemmas.Whole_sound.{Query_part, from_arrangement, from_having, from_keys, from_where, from_items, made}
 use Rattle.query_grammar.specs.Lemmas.Whole_sound.{query_means}
 use Rattle.query_grammar.specs.Lemmas.Whole_locality.{none_goes_on, none_goes_deeper}
 
@@ -39,17 +39,17 @@ whole_end : (ts : List Lexeme) → Whole (end_at ts)
 unfolding end_at
 whole_end ts = whole_choose (after (is_sign symbols.Semicolon) ts) nothing_at (nothing_at ts) whole_nothing (whole_nothing ts)
 
-whole_order : (items : List (Named × Option (List ℕ))) (condition : Option Named) (names : List (List ℕ)) (having : Option Named)
-    (ts : List Lexeme) → Whole (from_order items condition names having ts)
-whole_order items condition names having ts =
-    whole_bind (order_at ts) (λ order. end_at order.1 >>= λ end. Ok (made items condition names having order.0, end.1))
-    (λ order. whole_last (end_at order.1) (λ _. made items condition names having order.0) (whole_end order.1))
+whole_arrangement : (items : List (Named × Option (List ℕ))) (condition : Option Named) (names : List (List ℕ)) (having : Option Named)
+    (ts : List Lexeme) → Whole (from_arrangement items condition names having ts)
+whole_arrangement items condition names having ts =
+    whole_bind (arrangement_at ts) (λ arrangement. end_at arrangement.1 >>= λ end. Ok (made items condition names having arrangement.0, end.1))
+    (λ arrangement. whole_last (end_at arrangement.1) (λ _. made items condition names having arrangement.0) (whole_end arrangement.1))
 
 whole_having : (limit : ℕ) (items : List (Named × Option (List ℕ))) (condition : Option Named) (names : List (List ℕ)) (ts : List Lexeme)
     → Whole (from_having limit items condition names ts)
 whole_having limit items condition names ts =
-    whole_bind (clause_at limit (codes "having") ts) (λ having. from_order items condition names having.0 having.1)
-    (λ having. whole_order items condition names having.0 having.1)
+    whole_bind (clause_at limit (codes "having") ts) (λ having. from_arrangement items condition names having.0 having.1)
+    (λ having. whole_arrangement items condition names having.0 having.1)
 
 whole_query : (limit : ℕ) (ts : List Lexeme) → Whole (query_at limit ts)
 unfolding query_at

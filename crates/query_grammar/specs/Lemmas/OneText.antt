@@ -11,7 +11,7 @@ use Rattle.having_filter.specs.Lemmas.PassedLaws.{passes_first, passes_places}
 use Rattle.having_filter.specs.NormalLaws.{columns_of_query}
 use Rattle.having_filter.specs.Lemmas.NormalLaws.{asked_again}
 use Rattle.std.specs.List.{AllByRecursion}
-use Rattle.query_checks.specs.Writable.{IsTerm}
+use Rattle.query_checks.specs.Arrangement.{CanBeArranged}
 use Rattle.query_grammar.specs.Canonical.{canonical}
 use Rattle.query_grammar.specs.Laws.{IsSpelled}
 use Rattle.query_grammar.specs.Lemmas.PrintedQuery.{text_says}
@@ -29,7 +29,7 @@ spelled : (q : Checked) → kept.IsCheckedQuery q → IsSpelled (spelling (by_na
 spelled q is =
     let w = by_names q in
     let first = passes_first q.columns w q is.passed in
-    let fits = subst (λ (a : Asked). AllByRecursion IsTerm a.terms) (sym (is_canonical q is.passed)) is.writable.terms in
+    let fits = subst (λ (a : Asked). CanBeArranged a.arrangement) (sym (is_canonical q is.passed)) is.writable.arrangement in
     let says = text_says w is.writable.written first.shallow fits in
     record {
       tokens = says.tokens;

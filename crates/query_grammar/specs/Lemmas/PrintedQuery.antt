@@ -13,14 +13,17 @@ use Rattle.query_grammar.specs.Lemmas.Words.{own_name, kept_alias, alias_text, i
 use Rattle.query_grammar.specs.Lemmas.Words.{canonical_term, direction_text, term_text, order_text, spelling, depth, is_shallow}
 use Rattle.query_grammar.specs.Lemmas.Words.{are_shallow, filters_pass, all_of, IsForm, IsColumnOrCall, IsWritable, Named, opening, closing}
 use Rattle.query_grammar.specs.Lemmas.Words.{word, most_open, IsItemValue, IsAlias, IsItem, IsKey, IsListOf, IsClause, IsKeys, IsDirection}
-use Rattle.query_grammar.specs.Lemmas.Words.{IsNulls, IsOrder, IsQuery, tokens_in}
+use Rattle.query_grammar.specs.Lemmas.Words.{IsNulls, IsOrder, IsQuery, tokens_in, CanBeArranged, arrangement_of, canonical_arrangement}
 use Rattle.query_checks.specs.Forms as form
 use Rattle.query_checks.specs.declared.order.OrderTerm.{OrderTerm}
 use Rattle.grouping_model.specs.declared.limits.TheConstants.{DEEPEST_CONDITION}
 use Rattle.query_checks.specs.Sameness.{first_of_each}
+use Rattle.query_checks.specs.Order as checks
 use Rattle.query_checks.specs.Writable as writable
+use Rattle.query_grammar.specs.Lists as lists
+use Rattle.query_grammar.specs.Arrangement as ordering
 use Rattle.query_grammar.specs.Queries as grammar
-use Rattle.query_grammar.specs.Queries.{IsTerm}
+use Rattle.query_grammar.specs.Arrangement.{IsTerm}
 use Rattle.packed_rows.specs.PrintedLaws.{read_ok}
 use Rattle.query_checks.specs.DistinctLaws.{all_distinct}
 use Rattle.query_grammar.specs.Laws.{IsSpelled}
@@ -125,7 +128,7 @@ opens_comma = record { on = λ rest ws more. reads_spelled (Sign symbols.Comma) 
 
 many : {A B : Type 0} (P : List Lexeme → B → Type 0) (text : A → List ℕ) (f : A → B) (Q : A → Type 0) → ((x : A) → Q x → One P text f x)
     → (x : A) (xs : List A) → Q x → AllByRecursion Q xs → Many P text f (x ∷ xs)
-many P text f Q h x [] q all = let o = h x q in record { tokens = o.tokens; spells = o.spells; is = grammar.last o.is }
+many P text f Q h x [] q all = let o = h x q in record { tokens = o.tokens; spells = o.spells; is = lists.last o.is }
 many P text f Q h x (y ∷ ys) q all =
     let o = h x q in
     let m = many P text f Q h y ys all.0 all.1 in
@@ -133,7 +136,7 @@ many P text f Q h x (y ∷ ys) q all =
       tokens = o.tokens ++ Sign symbols.Comma ∷ m.tokens;
       spells = spells_between (text x) (codes ", ") (parted (text y ∷ map text ys)) o.tokens (Sign symbols.Comma ∷ []) m.tokens o.spells
           (λ rest. refl) opens_comma m.spells;
-      is = grammar.more o.tokens m.tokens o.is m.is;
+      is = lists.more o.tokens m.tokens o.is m.is;
     }
 
 abbrev kept : Named × Option (List ℕ) → Named × Option (List ℕ)
@@ -240,36 +243,36 @@ nulls_spelled text h = record {
 }
 
 direction : (descending nulls_first : Bool) → Direction descending nulls_first
-direction false false = record { tokens = []; nulls = []; part = nothing; is = grammar.no_direction; are = grammar.no_nulls }
+direction false false = record { tokens = []; nulls = []; part = nothing; is = ordering.no_direction; are = ordering.no_nulls }
 direction false true = record {
   tokens = [];
   nulls = word (codes "nulls") ∷ word (codes "first") ∷ [];
   part = nulls_spelled (codes "FIRST") refl;
-  is = grammar.no_direction;
-  are = grammar.first;
+  is = ordering.no_direction;
+  are = ordering.first;
 }
 direction true true = record {
   tokens = word (codes "desc") ∷ [];
   nulls = [];
   part = desc_spelled;
-  is = grammar.descending;
+  is = ordering.descending;
   are =
-      grammar.no_nulls;
+      ordering.no_nulls;
 }
 direction true false = record {
   tokens = word (codes "desc") ∷ [];
   nulls = word (codes "nulls") ∷ word (codes "last") ∷ [];
   part = two_parts (codes " DESC") (codes " NULLS LAST") (word (codes "desc") ∷ []) (word (codes "nulls") ∷ word (codes "last")
       ∷ []) desc_spelled (nulls_spelled (codes "LAST") refl);
-  is = grammar.descending;
-  are = grammar.last_;
+  is = ordering.descending;
+  are = ordering.last_;
 }
 
 -- a term whose place is a number that a text can have
 pub record TermFits (term : OrderTerm) : Type 0 where
-  pub fits : writable.IsTerm (canonical_term term)
+  pub fits : checks.IsTerm (canonical_term term)
 
-terms_fit : (terms : List OrderTerm) → AllByRecursion writable.IsTerm (map canonical_term terms) → AllByRecursion TermFits terms
+terms_fit : (terms : List OrderTerm) → AllByRecursion checks.IsTerm (map canonical_term terms) → AllByRecursion TermFits terms
 terms_fit [] all = tt
 terms_fit (term ∷ terms) all = (record { fits = all.0 }, terms_fit terms all.1)
 
@@ -281,7 +284,7 @@ one_term term h =
       tokens = (place ∷ []) ++ (d.tokens ++ d.nulls);
       spells = spells_two (spell place) (direction_text term.descending term.nulls_first) (place ∷ []) (d.tokens ++ d.nulls)
           (spells_lexeme place h.fits.target) d.part.quiet d.part.spells;
-      is = grammar.term (place ∷ []) d.tokens d.nulls grammar.by_place d.is d.are;
+      is = ordering.term (place ∷ []) d.tokens d.nulls ordering.by_place d.is d.are;
     }
 
 record Order (terms : List OrderTerm) : Type 0 where
@@ -294,7 +297,7 @@ opens_order = opens_two (codes " ORDER ") (codes "BY ") (word (codes "order") �
     ∷ []) (opens_between (codes "ORDER") refl) (opens_word (codes "BY") refl)
 
 order : (terms : List OrderTerm) → AllByRecursion TermFits terms → Order terms
-order [] all = record { tokens = []; part = nothing; is = grammar.no_order }
+order [] all = record { tokens = []; part = nothing; is = ordering.no_order }
 order (term ∷ terms) all =
     let m = many IsTerm term_text canonical_term TermFits one_term term terms all.0 all.1 in
     record {
@@ -304,7 +307,7 @@ order (term ∷ terms) all =
             ∷ []) m.tokens opens_order m.spells;
         quiet = λ rest q. refl;
       };
-      is = grammar.order m.is;
+      is = ordering.order m.is;
     }
 
 -- ---- the query
@@ -364,7 +367,7 @@ query_printed asked legal names shallow fits =
     let is : IsQuery most_open (word (codes "select")
     ∷ (i.tokens ++ (word (codes "from") ∷ word (codes "batches") ∷ (w.tokens ++ (k.tokens ++ (h.tokens ++ (o.tokens ++ [])))))))
     (canonical asked) =
-    grammar.query i.tokens w.tokens k.tokens h.tokens o.tokens [] i.is w.is k.is h.is o.is grammar.no_semicolon in
+    grammar.query {arrangement = canonical_arrangement (arrangement_of asked)} i.tokens w.tokens k.tokens h.tokens o.tokens [] i.is w.is k.is h.is o.is grammar.no_semicolon in
     record {
       tokens = tokens;
       reads = subst (λ (t : List ℕ). Reads t tokens) (sym parts) (subst (λ (t : List ℕ). Reads t tokens) (append-nil long)
@@ -376,8 +379,8 @@ query_printed asked legal names shallow fits =
 
 -- the canonical text says the query
 pub text_says : (q : Asked) → IsWritable q.written → all_of (filters_pass is_shallow) are_shallow q.written ≡ true
-    → AllByRecursion writable.IsTerm (canonical q).terms → IsSpelled (spelling q) (canonical q)
+    → CanBeArranged (canonical q).arrangement → IsSpelled (spelling q) (canonical q)
 text_says q legal shallow fits =
-    let p = query_printed q legal (all_distinct IsColumnName bytes_eq q.written.keys legal.keys) shallow (terms_fit (order_of q) fits) in
+    let p = query_printed q legal (all_distinct IsColumnName bytes_eq q.written.keys legal.keys) shallow (terms_fit (order_of q) fits.terms) in
     let read = read_ok (tokens_in (spelling q)) p.tokens (p.reads.from 0) in
     record { tokens = read.0; read = read.1; is_query = subst (λ (ts : List Lexeme). IsQuery most_open ts (canonical q)) (sym read.2) p.is }

@@ -4,8 +4,8 @@ use Rattle.std.specs.Prelude.{codes}
 use Rattle.query_grammar.specs.Lemmas.Words.{Lexeme, Name, Integer, Text, Sign, is_reserved, Target, By_name, By_place, Term, is_word, word}
 use Rattle.query_grammar.specs.Lemmas.Words.{IsTarget, IsDirection, IsNulls, Read, unexpected, after, choose, target_at, direction_at}
 use Rattle.query_grammar.specs.Lemmas.Words.{first_or_last, nulls_at, term_at}
-use Rattle.query_grammar.specs.Queries as grammar
-use Rattle.query_grammar.specs.Queries.{IsTerm}
+use Rattle.query_grammar.specs.Arrangement as ordering
+use Rattle.query_grammar.specs.Arrangement.{IsTerm}
 use Rattle.query_grammar.specs.Reading.{◌>>=◌}
 use Rattle.query_grammar.specs.Laws.{Part, Means, CanBecome}
 use Rattle.query_grammar.specs.Lemmas.Steps.{behind, done, refused, widen, bind, mapped, chosen}
@@ -29,20 +29,20 @@ abbrev pub Term_part : Part Term
 Term_part = λ b ts x. IsTerm ts x
 
 a_target : (b : Bool) → CanBecome (Target_part b) []
-a_target b = (Name (codes "a") ∷ [], By_name (codes "a"), grammar.by_name a_name)
+a_target b = (Name (codes "a") ∷ [], By_name (codes "a"), ordering.by_name a_name)
 
 free_target : (b : Bool) (w : List ℕ) (ts : List Lexeme) → is_reserved w ≡ b
     → Means Target_part (Name w ∷ ts) (cond b (unexpected (Name w ∷ ts)) (Ok (By_name w, ts)))
 free_target true w ts e = refused Target_part (Name w ∷ ts) a_target
 free_target false w ts e = widen Target_part (Name w ∷ []) ts (Name w ∷ ts) (Ok (By_name w, ts)) refl
-    (done (λ b u x. IsTarget (Name w ∷ u) x) ts (By_name w) (λ b. grammar.by_name e))
+    (done (λ b u x. IsTarget (Name w ∷ u) x) ts (By_name w) (λ b. ordering.by_name e))
 
 target_means : (ts : List Lexeme) → Means Target_part ts (target_at ts)
 unfolding target_at
 target_means [] = refused Target_part [] a_target
 target_means (Name w ∷ ts) = free_target (is_reserved w) w ts refl
 target_means (Integer z ∷ ts) = widen Target_part (Integer z ∷ []) ts (Integer z ∷ ts) (Ok (By_place z, ts)) refl
-    (done (λ b u x. IsTarget (Integer z ∷ u) x) ts (By_place z) (λ b. grammar.by_place))
+    (done (λ b u x. IsTarget (Integer z ∷ u) x) ts (By_place z) (λ b. ordering.by_place))
 target_means (Text s ∷ ts) = refused Target_part (Text s ∷ ts) a_target
 target_means (Sign s ∷ ts) = refused Target_part (Sign s ∷ ts) a_target
 
@@ -51,11 +51,11 @@ unfolding direction_at
 direction_means ts =
     chosen Direction_part (word (codes "desc")) (is_word (codes "desc")) (word_law (codes "desc")) ts (λ rest. Ok (true, rest))
     (choose (after (is_word (codes "asc")) ts) (λ rest. Ok (false, rest)) (Ok (false, ts)))
-    (λ rest. done (λ b u x. IsDirection (word (codes "desc") ∷ u) x) rest true (λ b. grammar.descending))
+    (λ rest. done (λ b u x. IsDirection (word (codes "desc") ∷ u) x) rest true (λ b. ordering.descending))
     (chosen Direction_part (word (codes "asc")) (is_word (codes "asc")) (word_law (codes "asc")) ts (λ rest. Ok (false, rest))
     (Ok (false, ts))
-    (λ rest. done (λ b u x. IsDirection (word (codes "asc") ∷ u) x) rest false (λ b. grammar.ascending))
-    (done Direction_part ts false (λ b. grammar.no_direction)))
+    (λ rest. done (λ b u x. IsDirection (word (codes "asc") ∷ u) x) rest false (λ b. ordering.ascending))
+    (done Direction_part ts false (λ b. ordering.no_direction)))
 
 abbrev Behind_nulls : Part (Option Bool)
 Behind_nulls = λ b u x. IsNulls (word (codes "nulls") ∷ u) x
@@ -65,16 +65,16 @@ unfolding first_or_last
 first_means ts =
     chosen Behind_nulls (word (codes "first")) (is_word (codes "first")) (word_law (codes "first")) ts (λ rest. Ok (Some true, rest))
     (choose (after (is_word (codes "last")) ts) (λ rest. Ok (Some false, rest)) (unexpected ts))
-    (λ rest. done (λ b u x. IsNulls (word (codes "nulls") ∷ word (codes "first") ∷ u) x) rest (Some true) (λ b. grammar.first))
+    (λ rest. done (λ b u x. IsNulls (word (codes "nulls") ∷ word (codes "first") ∷ u) x) rest (Some true) (λ b. ordering.first))
     (chosen Behind_nulls (word (codes "last")) (is_word (codes "last")) (word_law (codes "last")) ts (λ rest. Ok (Some false, rest))
     (unexpected ts)
-    (λ rest. done (λ b u x. IsNulls (word (codes "nulls") ∷ word (codes "last") ∷ u) x) rest (Some false) (λ b. grammar.last_))
-    (refused Behind_nulls ts (λ b. (word (codes "first") ∷ [], Some true, grammar.first))))
+    (λ rest. done (λ b u x. IsNulls (word (codes "nulls") ∷ word (codes "last") ∷ u) x) rest (Some false) (λ b. ordering.last_))
+    (refused Behind_nulls ts (λ b. (word (codes "first") ∷ [], Some true, ordering.first))))
 
 nulls_means : (ts : List Lexeme) → Means Nulls_part ts (nulls_at ts)
 unfolding nulls_at
 nulls_means ts = chosen Nulls_part (word (codes "nulls")) (is_word (codes "nulls")) (word_law (codes "nulls")) ts first_or_last
-    (Ok (None, ts)) first_means (done Nulls_part ts None (λ b. grammar.no_nulls))
+    (Ok (None, ts)) first_means (done Nulls_part ts None (λ b. ordering.no_nulls))
 
 abbrev made : Target → Bool → Option Bool → Term
 made target descending nulls_first = record { target = target; descending = descending; nulls_first = nulls_first }
@@ -87,16 +87,16 @@ term_means ts =
     (λ us rest target p. bind Direction_part (behind us Term_part) rest (direction_at rest)
     (λ direction. nulls_at direction.1 >>= λ nulls. Ok (made target direction.0 nulls.0, nulls.1)) (direction_means rest)
     (λ ds rest2 direction q. mapped Nulls_part (λ b u x. IsTerm (us ++ (ds ++ u)) x) rest2 (nulls_at rest2)
-    (λ nulls. made target direction nulls) (nulls_means rest2) (λ b ns nulls r. grammar.term us ds ns (p b) (q b) r))
-    (λ b ds direction q. ([], made target direction None, grammar.term us ds [] (p b) q grammar.no_nulls)))
-    (λ b us target p. ([], made target false None, grammar.term us [] [] p grammar.no_direction grammar.no_nulls))
+    (λ nulls. made target direction nulls) (nulls_means rest2) (λ b ns nulls r. ordering.term us ds ns (p b) (q b) r))
+    (λ b ds direction q. ([], made target direction None, ordering.term us ds [] (p b) q ordering.no_nulls)))
+    (λ b us target p. ([], made target false None, ordering.term us [] [] p ordering.no_direction ordering.no_nulls))
 
 -- ---- what is in the grammar is read
 
 target_reads : (ts : List Lexeme) (x : Target) → IsTarget ts x → (rest : List Lexeme) → target_at (ts ++ rest) ≡ Ok (x, rest)
 unfolding target_at
-target_reads _ _ (grammar.by_name free) rest = rw free refl
-target_reads _ _ grammar.by_place rest = refl
+target_reads _ _ (ordering.by_name free) rest = rw free refl
+target_reads _ _ ordering.by_place rest = refl
 
 -- what can follow a term
 pub record Closes (rest : List Lexeme) : Type 0 where
@@ -107,25 +107,25 @@ pub record Closes (rest : List Lexeme) : Type 0 where
 direction_reads : (ds : List Lexeme) (x : Bool) → IsDirection ds x → (rest : List Lexeme) → after (is_word (codes "desc")) rest ≡ None
     → after (is_word (codes "asc")) rest ≡ None → direction_at (ds ++ rest) ≡ Ok (x, rest)
 unfolding direction_at
-direction_reads _ _ grammar.no_direction rest no_desc no_asc = rw (no_desc, no_asc) refl
-direction_reads _ _ grammar.ascending rest no_desc no_asc = refl
-direction_reads _ _ grammar.descending rest no_desc no_asc = refl
+direction_reads _ _ ordering.no_direction rest no_desc no_asc = rw (no_desc, no_asc) refl
+direction_reads _ _ ordering.ascending rest no_desc no_asc = refl
+direction_reads _ _ ordering.descending rest no_desc no_asc = refl
 
 nulls_read : (ns : List Lexeme) (x : Option Bool) → IsNulls ns x → (rest : List Lexeme) → Closes rest → nulls_at (ns ++ rest) ≡ Ok (x, rest)
 unfolding nulls_at first_or_last
-nulls_read _ _ grammar.no_nulls rest h = rw h.no_nulls refl
-nulls_read _ _ grammar.first rest h = refl
-nulls_read _ _ grammar.last_ rest h = refl
+nulls_read _ _ ordering.no_nulls rest h = rw h.no_nulls refl
+nulls_read _ _ ordering.first rest h = refl
+nulls_read _ _ ordering.last_ rest h = refl
 
 before_nulls : (ns : List Lexeme) (x : Option Bool) → IsNulls ns x → (rest : List Lexeme) → Closes rest
     → (after (is_word (codes "desc")) (ns ++ rest) ≡ None) × (after (is_word (codes "asc")) (ns ++ rest) ≡ None)
-before_nulls _ _ grammar.no_nulls rest h = (h.no_desc, h.no_asc)
-before_nulls _ _ grammar.first rest h = (refl, refl)
-before_nulls _ _ grammar.last_ rest h = (refl, refl)
+before_nulls _ _ ordering.no_nulls rest h = (h.no_desc, h.no_asc)
+before_nulls _ _ ordering.first rest h = (refl, refl)
+before_nulls _ _ ordering.last_ rest h = (refl, refl)
 
 pub term_reads : (ts : List Lexeme) (x : Term) → IsTerm ts x → (rest : List Lexeme) → Closes rest → term_at (ts ++ rest) ≡ Ok (x, rest)
 unfolding term_at
-term_reads _ _ (grammar.term {target = target} {descending = descending} {nulls_first = nulls} ts ds ns p q r) rest h =
+term_reads _ _ (ordering.term {target = target} {descending = descending} {nulls_first = nulls} ts ds ns p q r) rest h =
     let apart = before_nulls ns nulls r rest h in
     rw (
       append_assoc ts (ds ++ ns) rest,

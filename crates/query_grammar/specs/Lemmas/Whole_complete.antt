@@ -9,11 +9,13 @@ use Rattle.query_grammar.specs.Lemmas.Words.{Lexeme, Name, Sign, Named, word, Is
 use Rattle.query_grammar.specs.Lemmas.Words.{function_named, is_word, is_sign, symbol_number, Read, after, prim_at, conditions}
 use Rattle.query_grammar.specs.Lemmas.Words.{item_value_at, alias_or_none, alias_at, item_at, list_at, clause_at, keys_at, term_at}
 use Rattle.query_grammar.specs.Lemmas.Words.{order_at, end_at, query_at, IsItemValue, IsAlias, IsItem, IsKey, IsListOf, IsClause, IsKeys}
-use Rattle.query_grammar.specs.Lemmas.Words.{IsOrder, IsEnd, IsQuery}
+use Rattle.query_grammar.specs.Lemmas.Words.{IsOrder, IsEnd, IsQuery, Arrangement, IsArrangement, arrangement_at}
 use Rattle.query_grammar.specs.Reading.{name_at}
 use Rattle.query_grammar.specs.Grammar as conditions
+use Rattle.query_grammar.specs.Lists as lists
+use Rattle.query_grammar.specs.Arrangement as ordering
 use Rattle.query_grammar.specs.Queries as grammar
-use Rattle.query_grammar.specs.Queries.{IsTerm}
+use Rattle.query_grammar.specs.Arrangement.{IsTerm}
 use Rattle.query_grammar.specs.Lemmas.Complete.{sign_rank, rank, Stops, column_reads, not_this, word_free, condition_reads}
 use Rattle.query_grammar.specs.Lemmas.Complete.{function_call_reads}
 use Rattle.query_grammar.specs.Lemmas.Terms.{Closes, term_reads}
@@ -106,9 +108,9 @@ list_reads : {A : Type 0} (P : List Lexeme → A → Type 0) (one : List Lexeme 
     → ((ts : List Lexeme) → F (Sign symbols.Comma ∷ ts))
     → (ts : List Lexeme) (xs : List A) → IsListOf P ts xs → (most : ℕ) → length ts ≤ most → (rest : List Lexeme) → F rest
     → after (is_sign symbols.Comma) rest ≡ None → list_at one most (ts ++ rest) ≡ Ok (xs, rest)
-list_reads P one F reads comma ts _ (grammar.last {x = x} p) most le rest f h = one_left one most (ts ++ rest) x rest (reads ts x p rest f)
+list_reads P one F reads comma ts _ (lists.last {x = x} p) most le rest f h = one_left one most (ts ++ rest) x rest (reads ts x p rest f)
     h
-list_reads P one F reads comma _ _ (grammar.more {x = x} {xs = xs} ts us p q) most le rest f h =
+list_reads P one F reads comma _ _ (lists.more {x = x} {xs = xs} ts us p q) most le rest f h =
     let size = length-append ts (Sign symbols.Comma ∷ us) in
     let less = less_one most (omega (arith, le, size)) in
     let first = reads ts x p (Sign symbols.Comma ∷ (us ++ rest)) (comma (us ++ rest)) in
@@ -138,10 +140,16 @@ keys_read _ _ (grammar.keys {ts = ts} {names = names} p) rest none comma =
 order_read : (os : List Lexeme) (terms : List Term) → IsOrder os terms → (rest : List Lexeme) → after (is_word (codes "order")) rest ≡ None
     → after (is_sign symbols.Comma) rest ≡ None → Closes rest → order_at (os ++ rest) ≡ Ok (terms, rest)
 unfolding order_at
-order_read _ _ grammar.no_order rest none comma closes = rw none refl
-order_read _ _ (grammar.order {ts = ts} {terms = terms} p) rest none comma closes =
+order_read _ _ ordering.no_order rest none comma closes = rw none refl
+order_read _ _ (ordering.order {ts = ts} {terms = terms} p) rest none comma closes =
     list_reads IsTerm term_at Closes term_reads comma_closes ts terms p (length (ts ++ rest)) (omega (arith, length-append ts rest)) rest
     closes comma
+
+arrangement_read : (os : List Lexeme) (arrangement : Arrangement Term) → IsArrangement os arrangement → (rest : List Lexeme)
+    → after (is_word (codes "order")) rest ≡ None → after (is_sign symbols.Comma) rest ≡ None → Closes rest
+    → arrangement_at (os ++ rest) ≡ Ok (arrangement, rest)
+unfolding arrangement_at
+arrangement_read os arrangement o rest none comma closes = rw (order_read os arrangement.order o rest none comma closes) refl
 
 end_reads : (es : List Lexeme) → IsEnd es → end_at es ≡ Ok (tt, [])
 unfolding end_at symbol_number
@@ -180,8 +188,8 @@ after_order _ grammar.semicolon = record {
 
 after_having : (os es : List Lexeme) (terms : List Term) → IsOrder os terms → IsEnd es → Rest (os ++ es)
     × (after (is_word (codes "having")) (os ++ es) ≡ None) × (after (is_word (codes "group")) (os ++ es) ≡ None)
-after_having _ es _ grammar.no_order e = let h = after_order es e in (h.rest, h.having, h.group)
-after_having _ es _ (grammar.order p) e = (record { stops = record { at = omega arith }; comma = refl; where_ = refl }, refl, refl)
+after_having _ es _ ordering.no_order e = let h = after_order es e in (h.rest, h.having, h.group)
+after_having _ es _ (ordering.order p) e = (record { stops = record { at = omega arith }; comma = refl; where_ = refl }, refl, refl)
 
 after_keys : (limit : ℕ) (hs os es : List Lexeme) (c : Option Named) (terms : List Term) → IsClause limit (codes "having") hs c
     → IsOrder os terms → IsEnd es → Rest (hs ++ (os ++ es)) × (after (is_word (codes "group")) (hs ++ (os ++ es)) ≡ None)
@@ -198,12 +206,12 @@ after_where limit _ hs os es _ c terms (grammar.keys q) p o e = record { stops =
 
 pub query_reads : (limit : ℕ) (ts : List Lexeme) (q : Asked) → IsQuery limit ts q → query_at limit ts ≡ Ok (q, [])
 unfolding query_at
-query_reads limit _ _ (grammar.query {items = items} {condition = condition} {having = having} {names = names} {terms = terms} is ws gs hs
+query_reads limit _ _ (grammar.query {items = items} {condition = condition} {having = having} {names = names} {arrangement = arrangement} is ws gs hs
     os es p q r h o e) =
     let tail = ws ++ (gs ++ (hs ++ (os ++ es))) in
-    let w = after_where limit gs hs os es names having terms r h o e in
-    let k = after_keys limit hs os es having terms h o e in
-    let v = after_having os es terms o e in
+    let w = after_where limit gs hs os es names having arrangement.order r h o e in
+    let k = after_keys limit hs os es having arrangement.order h o e in
+    let v = after_having os es arrangement.order o e in
     let l = after_order es e in
     let e1 = list_reads (IsItem limit) (item_at limit) Follows (item_reads limit) comma_follows is items p
     (length (is ++ word (codes "from") ∷ word (codes "batches") ∷ tail))
@@ -212,7 +220,7 @@ query_reads limit _ _ (grammar.query {items = items} {condition = condition} {ha
     let e2 = clause_reads limit (codes "where") ws condition q refl (gs ++ (hs ++ (os ++ es))) w.stops w.where_ in
     let e3 = keys_read gs names r (hs ++ (os ++ es)) k.1 k.0.comma in
     let e4 = clause_reads limit (codes "having") hs having h refl (os ++ es) v.0.stops v.1 in
-    let e5 = order_read os terms o es l.order l.rest.comma l.closes in
+    let e5 = arrangement_read os arrangement o es l.order l.rest.comma l.closes in
     rw (e1, e2, e3, e4, e5, end_reads es e) refl
 
 abbrev read_query : Read Asked → Asked → Asked

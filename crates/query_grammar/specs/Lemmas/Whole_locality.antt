@@ -7,11 +7,11 @@ use Rattle.query_tokens.specs.declared.word.Symbol.TheVariants as symbols
 use Rattle.query_grammar.specs.Lemmas.Words.{Lexeme, Name, Integer, Text, Sign, is_reserved, Term, Asked, is_word, is_sign, Named, Begins}
 use Rattle.query_grammar.specs.Lemmas.Words.{Read, Unexpected, Too_deep, after, choose, expect, condition_at, conditions, item_value_at}
 use Rattle.query_grammar.specs.Lemmas.Words.{alias_or_none, alias_at, item_at, list_at, clause_at, keys_at, term_at, order_at, nothing_at}
-use Rattle.query_grammar.specs.Lemmas.Words.{end_at, query_at}
+use Rattle.query_grammar.specs.Lemmas.Words.{end_at, query_at, Arrangement, arrangement_at}
 use Rattle.query_grammar.specs.Reading.{◌>>=◌, name_at}
 use Rattle.query_grammar.specs.Laws.{NoneGoesOn}
-use Rattle.query_grammar.specs.Lemmas.Whole_sound.{Value_part, Alias_part, value_means, alias_or_none_means, from_order, from_having}
-use Rattle.query_grammar.specs.Lemmas.Whole_sound.{from_keys, from_where, from_items, made}
+use Rattle.query_grammar.specs.Lemmas.Whole_sound.{Value_part, Alias_part, value_means, alias_or_none_means, from_arrangement, from_having}
+use Rattle.query_grammar.specs.Lemmas.Whole_sound.{by_order, from_keys, from_where, from_items, made}
 use Rattle.query_grammar.specs.Lemmas.Terms.{terms_agree}
 use Rattle.query_grammar.specs.Lemmas.Whole_complete.{query_reads}
 use Rattle.query_grammar.specs.Lemmas.Alike.{Tails, none, both, Within, Stays, Past, Alike, same, refused, deep, past, deeper, Agree}
@@ -212,6 +212,11 @@ orders_agree d one two tails most =
     (lists_agree d one two tails most term_at term_at (terms_agree d one two tails most)))
     (done d one two most [])
 
+arrangements_agree : (d : Bool) (one two : List Lexeme) (tails : Tails one two) (most : ℕ)
+    → Agree d one two most arrangement_at arrangement_at
+unfolding arrangement_at
+arrangements_agree d one two tails most = maps d one two most order_at order_at by_order (orders_agree d one two tails most)
+
 nothing_alike : (d : Bool) (one two : List Lexeme) → Tails one two → (u : List Lexeme)
     → Alike d one two (nothing_at (u ++ one)) (nothing_at (u ++ two))
 nothing_alike d one two tails (t ∷ us) = refused (t ∷ us)
@@ -241,22 +246,22 @@ ends_agree d one two tails most =
 
 -- ---- the query
 
-order_agrees : (d : Bool) (one two : List Lexeme) (tails : Tails one two) (most : ℕ) (items : List (Named × Option (List ℕ)))
+arrangement_agrees : (d : Bool) (one two : List Lexeme) (tails : Tails one two) (most : ℕ) (items : List (Named × Option (List ℕ)))
     (condition : Option Named) (names : List (List ℕ)) (having : Option Named)
-    → Agree d one two most (from_order items condition names having) (from_order items condition names having)
-order_agrees d one two tails most items condition names having =
-    let last : List Term → List Lexeme → Read Asked = λ terms ts. end_at ts >>= λ end. Ok (made items condition names having terms, end.1)
+    → Agree d one two most (from_arrangement items condition names having) (from_arrangement items condition names having)
+arrangement_agrees d one two tails most items condition names having =
+    let last : Arrangement Term → List Lexeme → Read Asked = λ arrangement ts. end_at ts >>= λ end. Ok (made items condition names having arrangement, end.1)
     in
-    binds d one two most order_at order_at last last (orders_agree d one two tails most)
-    (λ terms. maps d one two most end_at end_at (λ _. made items condition names having terms) (ends_agree d one two tails most))
+    binds d one two most arrangement_at arrangement_at last last (arrangements_agree d one two tails most)
+    (λ arrangement. maps d one two most end_at end_at (λ _. made items condition names having arrangement) (ends_agree d one two tails most))
 
 having_agree : (d : Bool) (one two : List Lexeme) (tails : Tails one two) (limit upper : ℕ) → Rooms d limit upper
     → (most : ℕ) (items : List (Named × Option (List ℕ))) (condition : Option Named) (names : List (List ℕ))
     → Agree d one two most (from_having limit items condition names) (from_having upper items condition names)
 having_agree d one two tails limit upper h most items condition names =
-    binds d one two most (clause_at limit (codes "having")) (clause_at upper (codes "having")) (from_order items condition names)
-    (from_order items condition names) (clauses_agree d one two tails limit upper h most (codes "having"))
-    (order_agrees d one two tails most items condition names)
+    binds d one two most (clause_at limit (codes "having")) (clause_at upper (codes "having")) (from_arrangement items condition names)
+    (from_arrangement items condition names) (clauses_agree d one two tails limit upper h most (codes "having"))
+    (arrangement_agrees d one two tails most items condition names)
 
 keys_on_agree : (d : Bool) (one two : List Lexeme) (tails : Tails one two) (limit upper : ℕ) → Rooms d limit upper
     → (most : ℕ) (items : List (Named × Option (List ℕ))) (condition : Option Named)

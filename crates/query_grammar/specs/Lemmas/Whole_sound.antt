@@ -5,11 +5,13 @@ use Rattle.std.specs.Prelude.{codes}
 use Rattle.std.proofs.lemmas.List.{append-nil}
 use Rattle.query_tokens.specs.declared.word.Symbol.TheVariants as symbols
 use Rattle.query_grammar.specs.Lemmas.Words.{Lexeme, Name, Integer, Text, Sign, is_reserved, Function, By_place, Term, Asked}
-use Rattle.query_grammar.specs.Lemmas.Words.{function_named, is_word, is_sign, Named, opening, word, IsItemValue, IsAlias, IsItem, IsKey}
+use Rattle.query_grammar.specs.Lemmas.Words.{Arrangement, IsArrangement, arrangement_at, function_named, is_word, is_sign, Named, opening, word, IsItemValue, IsAlias, IsItem, IsKey}
 use Rattle.query_grammar.specs.Lemmas.Words.{IsListOf, IsClause, IsKeys, IsOrder, IsEnd, IsQuery, Read, unexpected, after, choose, expect}
 use Rattle.query_grammar.specs.Lemmas.Words.{call_at, function_or_column, condition_at, conditions, item_value_at, alias_or_none, alias_at}
 use Rattle.query_grammar.specs.Lemmas.Words.{item_at, list_at, clause_at, keys_at, term_at, order_at, nothing_at, end_at, query_at}
 use Rattle.query_checks.specs.Forms as form
+use Rattle.query_grammar.specs.Lists as lists
+use Rattle.query_grammar.specs.Arrangement as ordering
 use Rattle.query_grammar.specs.Queries as grammar
 use Rattle.query_grammar.specs.Reading.{◌>>=◌, name_at}
 use Rattle.query_grammar.specs.Laws.{Part, Means, CanBecome}
@@ -123,12 +125,12 @@ item_means limit ts =
 -- ---- lists and clauses
 
 one_more : {A : Type 0} (P : List Lexeme → A → Type 0) (front : List Lexeme) (x : A) → P front x → IsListOf P (front ++ []) (x ∷ [])
-one_more P front x p = grammar.last (subst (λ (u : List Lexeme). P u x) (sym (append-nil front)) p)
+one_more P front x p = lists.last (subst (λ (u : List Lexeme). P u x) (sym (append-nil front)) p)
 
 pub list_means : {A : Type 0} (P : Part A) (one : List Lexeme → Read A) → ((ts : List Lexeme) → Means P ts (one ts))
     → (turns : ℕ) (ts : List Lexeme) → Means (List_part P) ts (list_at one turns ts)
 unfolding list_at
-list_means P one h zero ts = mapped P (List_part P) ts (one ts) (λ x. x ∷ []) (h ts) (λ b u x p. grammar.last p)
+list_means P one h zero ts = mapped P (List_part P) ts (one ts) (λ x. x ∷ []) (h ts) (λ b u x p. lists.last p)
 list_means P one h (suc turns) ts =
     bind P (List_part P) ts (one ts) (λ x. choose (after (is_sign symbols.Comma) x.1) (λ rest. list_at one turns rest >>= λ xs. Ok (
       x.0
@@ -138,7 +140,7 @@ list_means P one h (suc turns) ts =
     (λ front rest x p. chosen (behind front (List_part P)) (Sign symbols.Comma) (is_sign symbols.Comma) (the_sign symbols.Comma) rest
     (λ rest2. list_at one turns rest2 >>= λ xs. Ok (x ∷ xs.0, xs.1)) (Ok (x ∷ [], rest))
     (λ rest2. mapped (List_part P) (λ b u xs. IsListOf (P b) (front ++ Sign symbols.Comma ∷ u) xs) rest2 (list_at one turns rest2) (λ xs. x
-    ∷ xs) (list_means P one h turns rest2) (λ b u xs q. grammar.more front u (p b) q))
+    ∷ xs) (list_means P one h turns rest2) (λ b u xs q. lists.more front u (p b) q))
     (done (behind front (List_part P)) rest (x ∷ []) (λ b. one_more (P b) front x (p b))))
     (λ b front x p. ([], x ∷ [], one_more (P b) front x p))
 
@@ -171,20 +173,30 @@ keys_means : (ts : List Lexeme) → Means Keys_part ts (keys_at ts)
 unfolding keys_at
 keys_means ts =
     by_list_means (codes "group") Key_part Keys_part name_at is_name_means (λ b u x p. grammar.keys p)
-    (λ b. (Name (codes "a") ∷ [], codes "a" ∷ [], grammar.keys (grammar.last (grammar.name a_name)))) (λ b. grammar.no_keys) ts
+    (λ b. (Name (codes "a") ∷ [], codes "a" ∷ [], grammar.keys (lists.last (grammar.name a_name)))) (λ b. grammar.no_keys) ts
 
 order_means : (ts : List Lexeme) → Means Order_part ts (order_at ts)
 unfolding order_at
 order_means ts =
-    by_list_means (codes "order") Term_part Order_part term_at term_means (λ b u x p. grammar.order p)
+    by_list_means (codes "order") Term_part Order_part term_at term_means (λ b u x p. ordering.order p)
     (λ b. (
       Integer (pos 1) ∷ [],
       record { target = By_place (pos 1); descending = false; nulls_first = None }
           ∷ [],
-      grammar.order (grammar.last (grammar.term (Integer (pos 1) ∷ []) [] [] grammar.by_place grammar.no_direction
-          grammar.no_nulls)),
+      ordering.order (lists.last (ordering.term (Integer (pos 1) ∷ []) [] [] ordering.by_place ordering.no_direction
+          ordering.no_nulls)),
     ))
-    (λ b. grammar.no_order) ts
+    (λ b. ordering.no_order) ts
+
+abbrev pub by_order : List Term → Arrangement Term
+by_order terms = record { order = terms }
+
+abbrev Arrangement_part : Part (Arrangement Term)
+Arrangement_part = λ b ts x. IsArrangement ts x
+
+arrangement_means : (ts : List Lexeme) → Means Arrangement_part ts (arrangement_at ts)
+unfolding arrangement_at
+arrangement_means ts = mapped Order_part Arrangement_part ts (order_at ts) by_order (order_means ts) (λ b os terms o. o)
 
 nothing_means : (Q : Part (Unit {0})) (ts : List Lexeme) → ((b : Bool) → Q b [] tt) → Means Q ts (nothing_at ts)
 nothing_means Q [] q = done Q [] tt q
@@ -199,19 +211,22 @@ end_means ts =
 
 -- ---- the query from its parts
 
-abbrev pub made : List (Named × Option (List ℕ)) → Option Named → List (List ℕ) → Option Named → List Term → Asked
-made items condition names having terms = record {
+abbrev pub made : List (Named × Option (List ℕ)) → Option Named → List (List ℕ) → Option Named → Arrangement Term → Asked
+made items condition names having arrangement = record {
   written = record { items = items; condition = condition; keys = names; having = having };
-  terms = terms;
+  arrangement = arrangement;
 }
 
+abbrev unarranged : Arrangement Term
+unarranged = by_order []
+
 -- reading on from each part
-abbrev pub from_order : List (Named × Option (List ℕ)) → Option Named → List (List ℕ) → Option Named → List Lexeme → Read Asked
-from_order items condition names having ts = order_at ts >>= λ order. end_at order.1 >>= λ end. Ok
-    (made items condition names having order.0, end.1)
+abbrev pub from_arrangement : List (Named × Option (List ℕ)) → Option Named → List (List ℕ) → Option Named → List Lexeme → Read Asked
+from_arrangement items condition names having ts = arrangement_at ts >>= λ arrangement. end_at arrangement.1 >>= λ end. Ok
+    (made items condition names having arrangement.0, end.1)
 
 abbrev pub from_having : ℕ → List (Named × Option (List ℕ)) → Option Named → List (List ℕ) → List Lexeme → Read Asked
-from_having limit items condition names ts = clause_at limit (codes "having") ts >>= λ having. from_order items condition names having.0
+from_having limit items condition names ts = clause_at limit (codes "having") ts >>= λ having. from_arrangement items condition names having.0
     having.1
 
 abbrev pub from_keys : ℕ → List (Named × Option (List ℕ)) → Option Named → List Lexeme → Read Asked
@@ -224,24 +239,24 @@ abbrev pub from_items : ℕ → List Lexeme → Read Asked
 from_items limit ts = list_at (item_at limit) (length ts) ts >>= λ items. expect (is_word (codes "from")) items.1 >>= λ from. expect
     (is_word (codes "batches")) from.1 >>= λ batches. from_where limit items.0 batches.1
 
-order_mean : (limit : ℕ) (items : List (Named × Option (List ℕ))) (condition : Option Named) (names : List (List ℕ)) (having : Option Named)
+arrangement_mean : (limit : ℕ) (items : List (Named × Option (List ℕ))) (condition : Option Named) (names : List (List ℕ)) (having : Option Named)
     (is ws gs hs : List Lexeme)
     → ((b : Bool) → List_part (Item_part limit) b is items) → ((b : Bool) → Clause_part limit (codes "where") b ws condition)
     → IsKeys gs names → ((b : Bool) → Clause_part limit (codes "having") b hs having)
     → (ts : List Lexeme) → Means (λ b u q. Query_part limit b (word (codes "select") ∷ (is ++ word (codes "from") ∷ word (codes "batches")
-    ∷ (ws ++ (gs ++ (hs ++ u))))) q) ts (from_order items condition names having ts)
-order_mean limit items condition names having is ws gs hs p q r h ts =
-    bind Order_part (λ b u x. Query_part limit b (word (codes "select") ∷ (is ++ word (codes "from") ∷ word (codes "batches")
-    ∷ (ws ++ (gs ++ (hs ++ u))))) x) ts (order_at ts)
-    (λ order. end_at order.1 >>= λ end. Ok (made items condition names having order.0, end.1)) (order_means ts)
-    (λ os rest terms o. mapped End_part (λ b u x. Query_part limit b (word (codes "select")
+    ∷ (ws ++ (gs ++ (hs ++ u))))) q) ts (from_arrangement items condition names having ts)
+arrangement_mean limit items condition names having is ws gs hs p q r h ts =
+    bind Arrangement_part (λ b u x. Query_part limit b (word (codes "select") ∷ (is ++ word (codes "from") ∷ word (codes "batches")
+    ∷ (ws ++ (gs ++ (hs ++ u))))) x) ts (arrangement_at ts)
+    (λ arrangement. end_at arrangement.1 >>= λ end. Ok (made items condition names having arrangement.0, end.1)) (arrangement_means ts)
+    (λ os rest arrangement o. mapped End_part (λ b u x. Query_part limit b (word (codes "select")
     ∷ (is ++ word (codes "from") ∷ word (codes "batches") ∷ (ws ++ (gs ++ (hs ++ (os ++ u)))))) x) rest (end_at rest)
-    (λ _. made items condition names having terms) (end_means rest) (λ b es _ e. grammar.query is ws gs hs os es (p b) (q b) r (h b) (o b)
+    (λ _. made items condition names having arrangement) (end_means rest) (λ b es _ e. grammar.query {arrangement = arrangement} is ws gs hs os es (p b) (q b) r (h b) (o b)
     e))
-    (λ b os terms o. (
+    (λ b os arrangement o. (
       [],
-      made items condition names having terms,
-      grammar.query is ws gs hs os [] (p b) (q b) r (h b) o
+      made items condition names having arrangement,
+      grammar.query {arrangement = arrangement} is ws gs hs os [] (p b) (q b) r (h b) o
           grammar.no_semicolon,
     ))
 
@@ -254,12 +269,12 @@ having_means : (limit : ℕ) (items : List (Named × Option (List ℕ))) (condit
 having_means limit items condition names is ws gs p q r ts =
     bind (Clause_part limit (codes "having")) (λ b u x. Query_part limit b (word (codes "select")
     ∷ (is ++ word (codes "from") ∷ word (codes "batches") ∷ (ws ++ (gs ++ u)))) x) ts (clause_at limit (codes "having") ts)
-    (λ having. from_order items condition names having.0 having.1) (clause_means limit (codes "having") ts)
-    (λ hs rest having h. order_mean limit items condition names having is ws gs hs p q r h rest)
+    (λ having. from_arrangement items condition names having.0 having.1) (clause_means limit (codes "having") ts)
+    (λ hs rest having h. arrangement_mean limit items condition names having is ws gs hs p q r h rest)
     (λ b hs having h. (
       [],
-      made items condition names having [],
-      grammar.query is ws gs hs [] [] (p b) (q b) r h grammar.no_order
+      made items condition names having unarranged,
+      grammar.query {arrangement = unarranged} is ws gs hs [] [] (p b) (q b) r h ordering.no_order
           grammar.no_semicolon,
     ))
 
@@ -273,9 +288,9 @@ keys_mean limit items condition is ws p q ts =
     (λ gs rest names r. having_means limit items condition names is ws gs p q (r false) rest)
     (λ b gs names r. (
       [],
-      made items condition names None [],
-      grammar.query is ws gs [] [] [] (p b) (q b) r grammar.no_clause
-          grammar.no_order grammar.no_semicolon,
+      made items condition names None unarranged,
+      grammar.query {arrangement = unarranged} is ws gs [] [] [] (p b) (q b) r grammar.no_clause
+          ordering.no_order grammar.no_semicolon,
     ))
 
 where_means : (limit : ℕ) (items : List (Named × Option (List ℕ))) (is : List Lexeme)
@@ -289,14 +304,14 @@ where_means limit items is p ts =
     (λ ws rest condition q. keys_mean limit items condition is ws p q rest)
     (λ b ws condition q. (
       [],
-      made items condition [] None [],
-      grammar.query is ws [] [] [] [] (p b) q grammar.no_keys grammar.no_clause
-          grammar.no_order grammar.no_semicolon,
+      made items condition [] None unarranged,
+      grammar.query {arrangement = unarranged} is ws [] [] [] [] (p b) q grammar.no_keys grammar.no_clause
+          ordering.no_order grammar.no_semicolon,
     ))
 
 least : (limit : ℕ) (b : Bool) (is : List Lexeme) (items : List (Named × Option (List ℕ))) → List_part (Item_part limit) b is items
-    → Query_part limit b (word (codes "select") ∷ (is ++ word (codes "from") ∷ word (codes "batches") ∷ [])) (made items None [] None [])
-least limit b is items p = grammar.query is [] [] [] [] [] p grammar.no_clause grammar.no_keys grammar.no_clause grammar.no_order
+    → Query_part limit b (word (codes "select") ∷ (is ++ word (codes "from") ∷ word (codes "batches") ∷ [])) (made items None [] None unarranged)
+least limit b is items p = grammar.query {arrangement = unarranged} is [] [] [] [] [] p grammar.no_clause grammar.no_keys grammar.no_clause ordering.no_order
     grammar.no_semicolon
 
 items_mean : (limit : ℕ) (ts : List Lexeme) → Means (λ b u q. Query_part limit b (word (codes "select") ∷ u) q) ts (from_items limit ts)
@@ -311,9 +326,9 @@ items_mean limit ts =
     (λ rest2. expect (is_word (codes "batches")) rest2 >>= λ batches. from_where limit items batches.1)
     (λ rest2. expected (λ b u x. Query_part limit b (word (codes "select") ∷ (is ++ word (codes "from") ∷ u)) x) (word (codes "batches"))
     (is_word (codes "batches")) (word_law (codes "batches")) rest2 (λ rest3. from_where limit items rest3)
-    (λ rest3. where_means limit items is p rest3) (λ b. ([], made items None [] None [], least limit b is items (p b))))
-    (λ b. (word (codes "batches") ∷ [], made items None [] None [], least limit b is items (p b))))
-    (λ b is items p. (word (codes "from") ∷ word (codes "batches") ∷ [], made items None [] None [], least limit b is items p))
+    (λ rest3. where_means limit items is p rest3) (λ b. ([], made items None [] None unarranged, least limit b is items (p b))))
+    (λ b. (word (codes "batches") ∷ [], made items None [] None unarranged, least limit b is items (p b))))
+    (λ b is items p. (word (codes "from") ∷ word (codes "batches") ∷ [], made items None [] None unarranged, least limit b is items p))
 
 pub query_means : (limit : ℕ) (ts : List Lexeme) → Means (Query_part limit) ts (query_at limit ts)
 unfolding query_at
@@ -323,8 +338,8 @@ query_means limit ts =
     (λ ts1. items_mean limit ts1)
     (λ b. (
       Name (codes "a") ∷ word (codes "from") ∷ word (codes "batches") ∷ [],
-      made ((form.Column (codes "a"), None) ∷ []) None [] None [],
-      grammar.query (Name (codes "a") ∷ []) [] [] [] [] []
-          (grammar.last (grammar.item (Name (codes "a") ∷ []) [] (grammar.item_column a_name) grammar.no_alias)) grammar.no_clause
-          grammar.no_keys grammar.no_clause grammar.no_order grammar.no_semicolon,
+      made ((form.Column (codes "a"), None) ∷ []) None [] None unarranged,
+      grammar.query {arrangement = unarranged} (Name (codes "a") ∷ []) [] [] [] [] []
+          (lists.last (grammar.item (Name (codes "a") ∷ []) [] (grammar.item_column a_name) grammar.no_alias)) grammar.no_clause
+          grammar.no_keys grammar.no_clause ordering.no_order grammar.no_semicolon,
     ))

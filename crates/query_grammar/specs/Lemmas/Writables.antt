@@ -11,10 +11,13 @@ use Rattle.query_grammar.specs.Lemmas.Words.{functions, is_value, is_named, IsCo
 use Rattle.query_grammar.specs.Lemmas.Words.{CanBeAsked, function_named, Named, opening, closing, word, IsCallArgument, IsCondition, IsAnd}
 use Rattle.query_grammar.specs.Lemmas.Words.{IsNot, IsTested, IsCompared, IsOperand, IsCall, IsItemValue, IsAlias, IsItem, IsKey, IsListOf}
 use Rattle.query_grammar.specs.Lemmas.Words.{IsClause, IsKeys, IsTarget, IsOrder, IsQuery}
+use Rattle.query_checks.specs.Order as checks
 use Rattle.query_checks.specs.Writable as writable
 use Rattle.query_grammar.specs.Grammar as grammar
+use Rattle.query_grammar.specs.Lists as lists
+use Rattle.query_grammar.specs.Arrangement as ordering
 use Rattle.query_grammar.specs.Queries as queries
-use Rattle.query_grammar.specs.Queries.{IsTerm}
+use Rattle.query_grammar.specs.Arrangement.{IsTerm}
 
 abbrev Legal : List Lexeme → Type 0
 Legal ts = AllByRecursion IsLexeme ts
@@ -151,13 +154,13 @@ name_writable _ _ (queries.name free) l = record { legal = l.0; free = free }
 
 list_writable : {A : Type 0} (P : List Lexeme → A → Type 0) (Q : A → Type 0) → ((ts : List Lexeme) (x : A) → P ts x → Legal ts → Q x)
     → (ts : List Lexeme) (xs : List A) → IsListOf P ts xs → Legal ts → AllByRecursion Q xs
-list_writable P Q h ts _ (queries.last {x = x} p) l = (h ts x p l, tt)
-list_writable P Q h _ _ (queries.more {x = x} {xs = xs} ts us p q) l =
+list_writable P Q h ts _ (lists.last {x = x} p) l = (h ts x p l, tt)
+list_writable P Q h _ _ (lists.more {x = x} {xs = xs} ts us p q) l =
     (h ts x p (left ts (Sign symbols.Comma ∷ us) l), list_writable P Q h us xs q (right ts (Sign symbols.Comma ∷ us) l).1)
 
 some_member : {A : Type 0} (P : List Lexeme → A → Type 0) (ts : List Lexeme) (xs : List A) → IsListOf P ts xs → xs ≢ []
-some_member P ts _ (queries.last p) = λ e. cc
-some_member P _ _ (queries.more ts us p q) = λ e. cc
+some_member P ts _ (lists.last p) = λ e. cc
+some_member P _ _ (lists.more ts us p q) = λ e. cc
 
 clause_writable : {limit : ℕ} {w : List ℕ} {ts : List Lexeme} {c : Option Named} → IsClause limit w ts c → Legal ts
     → ForSome c (IsForm IsColumnName)
@@ -168,16 +171,16 @@ keys_writable : {ts : List Lexeme} {names : List (List ℕ)} → IsKeys ts names
 keys_writable queries.no_keys l = tt
 keys_writable (queries.keys {ts = ts} {names = names} p) l = list_writable IsKey IsColumnName name_writable ts names p l.1.1
 
-target_writable : {ts : List Lexeme} {x : Target} → IsTarget ts x → Legal ts → writable.IsTarget x
-target_writable (queries.by_name free) l = record { legal = l.0; free = free }
-target_writable queries.by_place l = l.0
+target_writable : {ts : List Lexeme} {x : Target} → IsTarget ts x → Legal ts → checks.IsTarget x
+target_writable (ordering.by_name free) l = record { legal = l.0; free = free }
+target_writable ordering.by_place l = l.0
 
-term_writable : (ts : List Lexeme) (x : Term) → IsTerm ts x → Legal ts → writable.IsTerm x
-term_writable _ _ (queries.term ts ds ns p q r) l = record { target = target_writable p (left ts (ds ++ ns) l) }
+term_writable : (ts : List Lexeme) (x : Term) → IsTerm ts x → Legal ts → checks.IsTerm x
+term_writable _ _ (ordering.term ts ds ns p q r) l = record { target = target_writable p (left ts (ds ++ ns) l) }
 
-order_writable : {ts : List Lexeme} {terms : List Term} → IsOrder ts terms → Legal ts → AllByRecursion writable.IsTerm terms
-order_writable queries.no_order l = tt
-order_writable (queries.order {ts = ts} {terms = terms} p) l = list_writable IsTerm writable.IsTerm term_writable ts terms p l.1.1
+order_writable : {ts : List Lexeme} {terms : List Term} → IsOrder ts terms → Legal ts → AllByRecursion checks.IsTerm terms
+order_writable ordering.no_order l = tt
+order_writable (ordering.order {ts = ts} {terms = terms} p) l = list_writable IsTerm checks.IsTerm term_writable ts terms p l.1.1
 
 pub query_writable : (limit : ℕ) (ts : List Lexeme) (q : Asked) → IsQuery limit ts q → AllByRecursion IsLexeme ts → CanBeAsked q
 query_writable limit _ _ (queries.query {items = items} is ws gs hs os es p q r h o e) l =
@@ -194,5 +197,5 @@ query_writable limit _ _ (queries.query {items = items} is ws gs hs os es p q r 
         keys = keys_writable r (left gs (hs ++ (os ++ es)) keyed);
         having = clause_writable h (left hs (os ++ es) grouped);
       };
-      terms = order_writable o (left os es (right hs (os ++ es) grouped));
+      arrangement = record { terms = order_writable o (left os es (right hs (os ++ es) grouped)) };
     }

@@ -14,7 +14,7 @@ use Rattle.std.specs.Cmp.{IsTotalOrder, nat_cmp_total}
 use Rattle.std.specs.Cmp.Lexicographic.{slice_cmp}
 use Rattle.std.specs.declared.cmp.Ordering.{Ordering}
 use Rattle.summary_codec.specs.Lemmas.Words.{Kind, Row, HasKinds, Group, Query, LAST_ORIGIN, MAX_ROWS, Column, kinds, printed, packings}
-use Rattle.summary_codec.specs.Lemmas.Words.{checked, checked_places, checked_order, with_order, all_of, has_too_many, is_shallow}
+use Rattle.summary_codec.specs.Lemmas.Words.{checked, checked_places, checked_arrangement, with_arrangement, all_of, has_too_many, is_shallow}
 use Rattle.summary_codec.specs.Lemmas.Words.{are_shallow, has_columns, placed, Checked, by_names, key_kinds, meaning, spelling, Entry}
 use Rattle.summary_codec.specs.Lemmas.Words.{packed_keys, AreGroups, Part, IsEarly, IsPartOf, Parts, IsHeldPart, AreHeldParts, sized_bytes}
 use Rattle.summary_codec.specs.Lemmas.Words.{batch_bytes, part_bytes, body_bytes, file_in, IsNext, IsPacking, AreStateBytes, MayFollow}
@@ -22,6 +22,7 @@ use Rattle.summary_codec.specs.Lemmas.Words.{number, row, batch, batches, conten
 use Rattle.summary_codec.specs.Lemmas.Words.{IsSummaryIn, opening, last_number, most_batch_rows, IsBatchWithin, IsWithin, AreWithin}
 use Rattle.summary_codec.specs.Lemmas.Words.{Version}
 use Rattle.group_runs.specs.StandingLaws.{groups_raised}
+use Rattle.grouping_model.specs.Order.{Arrangement}
 use Rattle.query_checks.specs.declared.order.OrderTerm.{OrderTerm}
 use Rattle.query_checks.specs.Order.{Asked, names_items}
 use Rattle.query_checks.specs.Forms.{Written}
@@ -265,12 +266,12 @@ one_test : (columns : List Column) (b : Bool) (then otherwise : Result Checked Q
 one_test columns true then otherwise one other = one
 one_test columns false then otherwise one other = other
 
-in_order : (columns : List Column) (written : Result (Written ℕ) QueryError) (order : Result (List OrderTerm) QueryError)
-    → columns_or columns (with_order columns written order) ≡ columns
+arranged_over : (columns : List Column) (written : Result (Written ℕ) QueryError) (arrangement : Result (Arrangement OrderTerm) QueryError)
+    → columns_or columns (with_arrangement columns written arrangement) ≡ columns
 unfolding columns_or
-in_order columns (Err e) order = refl
-in_order columns (Ok written) (Err e) = refl
-in_order columns (Ok written) (Ok order) = refl
+arranged_over columns (Err e) arrangement = refl
+arranged_over columns (Ok written) (Err e) = refl
+arranged_over columns (Ok written) (Ok arrangement) = refl
 
 checked_over : (columns : List Column) (w : Asked) (q : Checked) → checked columns w ≡ Ok q → q.columns ≡ columns
 unfolding checked columns_or
@@ -279,7 +280,7 @@ checked_over columns w q is =
     ∙ one_test columns (has_too_many w) (Err _) _ refl
     (one_test columns (not (all_of (filters_pass is_shallow) are_shallow w.written)) (Err _) _ refl
     (one_test columns (not (has_columns columns w.written && names_items w)) (Err _) _ refl
-    (in_order columns (checked_places columns (placed columns w.written)) (checked_order w))))
+    (arranged_over columns (checked_places columns (placed columns w.written)) (checked_arrangement w))))
 
 spells_text : (bytes : List ℕ) (found : List ℕ × List ℕ) → text bytes (Ok found) → bytes ≡ sized_bytes found.0 ++ found.1
 unfolding text

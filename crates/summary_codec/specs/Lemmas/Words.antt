@@ -17,8 +17,9 @@ pub use Rattle.origin_prefix.specs.Parts.{IsEarly, IsPartOf, Part}
 pub use Rattle.packed_rows.specs.Columns.{AreColumns, Column, IsColumnName, column_text, kind_text, kinds, names, printed}
 pub use Rattle.packed_rows.specs.Packing.{packing, value_packing}
 unfoldable pub use Rattle.query_checks.specs.Checks.{checked}
-pub use Rattle.query_checks.specs.Checks.{Checked, all_of, are_plain, are_shallow, checked_order, checked_places, has_columns, has_too_many}
-pub use Rattle.query_checks.specs.Checks.{is_grouped, is_shallow, kinds_fit, placed, with_order}
+pub use Rattle.query_checks.specs.Checks.{Checked, all_of, are_plain, are_shallow, checked_places, has_columns, has_too_many}
+pub use Rattle.query_checks.specs.Checks.{is_grouped, is_shallow, kinds_fit, placed, with_arrangement}
+pub use Rattle.query_checks.specs.Arrangement.{checked_arrangement}
 pub use Rattle.query_checks.specs.Spelling.{spelling}
 unfoldable pub use Rattle.summary_codec.specs.File.{part_bytes}
 pub use Rattle.summary_codec.specs.File.{batch_bytes, body_bytes, file_bytes, file_in, sized_bytes}

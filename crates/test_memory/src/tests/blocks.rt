@@ -63,7 +63,7 @@ fn notes_take_no_memory(rt: HostRuntime) {
     assert!(rt; std::mem::size_of_val(&notes) == 0);
 }
 
-/// All of these blocks together would be more than a process can have: no contract says that a block is given back.
+/// All of these blocks together would be more than a process can have: no contract says that a block is freed.
 #[test]
 fn blocks_are_given_back(rt: HostRuntime) -> Result<(), AllocError> {
     for _ in 0..150_000u32 {

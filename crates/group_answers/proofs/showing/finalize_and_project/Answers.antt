@@ -3,7 +3,7 @@ use Rattle.std.proofs.Common.{sym, ◌∙◌, ap, rules}
 use Rattle.std.proofs.lemmas.List.{nil_from_length}
 use Rattle.std.proofs.lemmas.Result.{IfOk-weaker}
 use Rattle.grouping_model.specs.Query.{Query}
-use Rattle.grouping_model.specs.Order.{ordered}
+use Rattle.grouping_model.specs.Order.{map_arrangement, arranged}
 use Rattle.grouping_model.specs.Answer.{answered, rows_of}
 use Rattle.having_filter.specs.Meaning.{meaning, order_term}
 use Rattle.group_runs.specs.StandingLaws.{groups_long}
@@ -14,21 +14,21 @@ pub returns-then-is_empty : goal.returns-then-is_empty
 returns-then-is_empty c =
     let q : Query = meaning c.args.query.now in
     let none : c.args.run.now ≡ [] = search rules in
-    IfOk-weaker c.in_order.result _ _
+    IfOk-weaker c.arranged.result _ _
     (λ answer is most groups low are.
     let rows = c.in_ok-rows.ensures
     ∙ ap (λ groups. rows_of q (answered q groups))
     (sym (nil_from_length groups (sym (groups_long q most c.args.run.now groups are) ∙ ap length none))) in
-    is ∙ (λ i. ordered (map order_term (c.order.ensures.order i)) (rows i)))
-    c.in_order.ensures
+    is ∙ (λ i. arranged (map_arrangement order_term (c.arrangement.ensures i)) (rows i)))
+    c.arranged.ensures
 
 pub returns : goal.returns
 returns c =
     let q : Query = meaning c.args.query.now in
     let some : c.args.run.now ≢ [] = search rules in
-    IfOk-weaker c.in_order-2.result _ _
+    IfOk-weaker c.arranged-2.result _ _
     (λ answer is most groups low are.
     let left : length groups ≢ 0 = λ e. some (nil_from_length c.args.run.now (groups_long q most c.args.run.now groups are ∙ e)) in
     let rows = c.in_ok-rows-2.ensures most groups low are ∙ ap (rows_of q) (sym (answered_some q groups left)) in
-    is ∙ (λ i. ordered (map order_term (c.order-2.ensures.order i)) (rows i)))
-    c.in_order-2.ensures
+    is ∙ (λ i. arranged (map_arrangement order_term (c.arrangement-2.ensures i)) (rows i)))
+    c.arranged-2.ensures

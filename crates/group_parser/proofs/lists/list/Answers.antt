@@ -1,5 +1,5 @@
 use Rattle.std.proofs.Common.{length, arith}
-use Rattle.query_grammar.specs.Whole.{list_at}
+use Rattle.query_grammar.specs.Lists.{list_at}
 use Rattle.query_grammar.specs.Lemmas.Chains.{list_fails}
 use Rattle.group_parser.specs.Views.{lexemes}
 use Rattle.group_parser.proofs.Readers.{fails_on, fails_out, list_init, list_next, list_next_fails, list_ends}

@@ -1,5 +1,5 @@
 use Rattle.std.proofs.Common.{◌<◌, length, map}
-use Rattle.query_grammar.specs.Whole.{list_at}
+use Rattle.query_grammar.specs.Lists.{list_at}
 use Rattle.query_grammar.specs.Lemmas.Chains.{Lists}
 use Rattle.group_parser.specs.Views.{lexemes}
 use Rattle.group_parser.proofs.lists.list.Given as goal

@@ -3,7 +3,9 @@ use Rattle.std.specs.Prelude.{codes}
 use Rattle.query_grammar.specs.Queries.{most_open}
 use Rattle.query_grammar.specs.Terminals.{is_word}
 use Rattle.query_grammar.specs.Reading.{expect}
-use Rattle.query_grammar.specs.Whole.{item_at, list_at, clause_at, keys_at, order_at, end_at, query_at}
+use Rattle.query_grammar.specs.Lists.{list_at}
+use Rattle.query_grammar.specs.Arrangement.{order_at, arrangement_at}
+use Rattle.query_grammar.specs.Whole.{item_at, clause_at, keys_at, end_at, query_at}
 use Rattle.group_parser.specs.Views.{lexemes}
 use Rattle.group_parser.proofs.Readers.{fails_on, fails_out}
 use Rattle.group_parser.proofs.query.query.Goals as goal
@@ -84,7 +86,7 @@ returns-in_err-having c =
     ) refl) c.in_err-having.ensures)
 
 pub returns-in_err-order : goal.returns-in_err-order
-unfolding query_at
+unfolding query_at arrangement_at
 returns-in_err-order c =
     let ts = lexemes c.args.tokens.now in
     fails_out _ c.from_residual-in_err-order.result _ _ c.from_residual-in_err-order.ensures.1
@@ -101,7 +103,7 @@ returns-in_err-order c =
     ) refl) c.in_err-order.ensures)
 
 pub returns-in_err-end : goal.returns-in_err-end
-unfolding query_at
+unfolding query_at arrangement_at
 returns-in_err-end c =
     let ts = lexemes c.args.tokens.now in
     fails_out _ c.from_residual-in_err-end.result _ _ c.from_residual-in_err-end.ensures.1
@@ -119,7 +121,7 @@ returns-in_err-end c =
     ) refl) c.in_err-end.ensures)
 
 pub returns : goal.returns
-unfolding query_at
+unfolding query_at arrangement_at
 returns c = rw (
   c.in_ok-rest.ensures.read,
   c.in_ok-items.ensures.read,

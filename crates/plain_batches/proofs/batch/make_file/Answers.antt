@@ -3,10 +3,11 @@ use Rattle.std.specs.Prelude.{All}
 use Rattle.std.proofs.lemmas.Result.{err_from_is_err_and}
 use Rattle.csv.specs.Records.{fields_of}
 use Rattle.csv.specs.Writing.{default_writer, row_text}
+use Rattle.packed_rows.specs.Columns.{names}
 use Rattle.script_io.specs.Records.{Record}
 use Rattle.plain_batches.specs.Columns.{AreAmong, ArePlaces, arranged}
 use Rattle.plain_batches.specs.Packed.{IsPlain, Plain, file_of, file_text, head_fields, head_of}
-use Rattle.plain_batches.specs.Refusal.{HeaderFault, WidthFault}
+use Rattle.plain_batches.specs.Refusal.{HasNoOther, HeaderFault, IsRightHeader, WidthFault}
 use Rattle.plain_batches.proofs.FaultLaws.{has_parts, header_refused, widths_refused}
 use Rattle.plain_batches.proofs.PlainLaws.{places_within}
 use Rattle.plain_batches.proofs.batch.make_file.Goals as goal
@@ -41,7 +42,14 @@ returns-in_err-rows-clause-refused c =
     let parts = has_parts columns c.args.layout c.args.csv.now (fields_of c.in_ok-names.names) header _ rows c.in_ok-names.ensures.names
     c.new-records.ensures c.in_ok-header.ensures.parts in
     let fault = subst (λ (width : ℕ). WidthFault width rows c.in_err-rows.field-0.0) c.len-width.ensures c.in_err-rows.ensures.refused in
-    rw (p.1, p.2) (widths_refused columns c.args.layout c.args.csv.now header rows c.in_err-rows.field-0.0 parts fault)
+    let named = c.in_ok-names.ensures.names in
+    let right : IsRightHeader c.args.layout.skips_columns (names columns) header =
+    record {
+      known = subst (λ (n : Record). HasNoOther c.args.layout.skips_columns n header) named c.in_ok-places.ensures.known;
+      places = c.in_ok-places.places.items;
+      at = subst (λ (n : Record). ArePlaces header n c.in_ok-places.places.items) named c.in_ok-places.ensures.places;
+    } in
+    rw (p.1, p.2) (widths_refused columns c.args.layout c.args.csv.now header rows c.in_err-rows.field-0.0 parts right fault)
 
 pub returns-clause-made : goal.returns-clause-made
 returns-clause-made c =

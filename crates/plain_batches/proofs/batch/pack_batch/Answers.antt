@@ -26,8 +26,9 @@ returns-in-Err-BadField-clause-refused c =
     let again = made_again columns c.args.layout c.args.origin c.args.number c.args.csv.now c.in_ok-file.file.items
     c.in_ok-file.ensures.some
     made in (
-      made.plain,
-      made.is_plain,
+      c.in_ok-file.file.items,
+      made,
+      search rules,
       bad_field (kinds columns) (read_file c.deref.result.now) (file_of c.args.layout c.args.origin c.args.number made.plain)
           c.in-Err-BadField.field-0 c.in-Err-BadField.row c.in-Err-BadField.column (ap read_file c.deref.ensures.value ∙ again)
           c.in-Err-BadField.field-0-is c.in-Err-BadField.ensures.refused,

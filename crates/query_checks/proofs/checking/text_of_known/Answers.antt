@@ -1,7 +1,7 @@
 use Rattle.std.proofs.Common.{ap, sym, ◌∙◌}
 use Rattle.std.specs.Prelude.{Err}
 use Rattle.std.proofs.lemmas.Result.{err_from_is_err_and}
-use Rattle.query_checks.specs.Order.{asked_of}
+use Rattle.query_checks.specs.Arrangement.{asked_of}
 use Rattle.query_checks.specs.CheckedLaws.{gives_too_many, refused_as}
 use Rattle.query_checks.proofs.checking.text_of_known.Goals as goal
 

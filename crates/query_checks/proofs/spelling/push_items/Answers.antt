@@ -1,6 +1,7 @@
 use Rattle.std.proofs.Common.{◌++◌, map, option_map, ap, sym, ◌∙◌, append_assoc, string_bytes}
 use Rattle.query_checks.specs.Forms.{names_of, item_form, items_of}
-use Rattle.query_checks.specs.Spelling.{item_text, parted}
+use Rattle.query_checks.specs.Spelling.{item_text}
+use Rattle.query_checks.specs.Parted.{parted}
 use Rattle.query_checks.proofs.SpellingLaws.{followed, parted_first}
 use Rattle.query_checks.proofs.spelling.push_items.Goals as goal
 

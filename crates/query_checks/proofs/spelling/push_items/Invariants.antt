@@ -1,6 +1,7 @@
 use Rattle.std.specs.Prelude.{◌≡◌, ◌++◌, drop, map, string_bytes}
 use Rattle.query_checks.specs.Forms.{items_of}
-use Rattle.query_checks.specs.Spelling.{item_text, parted}
+use Rattle.query_checks.specs.Spelling.{item_text}
+use Rattle.query_checks.specs.Parted.{parted}
 use Rattle.query_checks.proofs.SpellingLaws.{followed}
 use Rattle.query_checks.proofs.spelling.push_items.Given as goal
 

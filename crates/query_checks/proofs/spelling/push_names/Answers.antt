@@ -1,6 +1,6 @@
 use Rattle.std.proofs.Common.{◌++◌, ap, sym, ◌∙◌, append_assoc, string_bytes}
 use Rattle.packed_rows.specs.View.{texts_of}
-use Rattle.query_checks.specs.Spelling.{parted}
+use Rattle.query_checks.specs.Parted.{parted}
 use Rattle.query_checks.proofs.SpellingLaws.{followed, parted_first}
 use Rattle.query_checks.proofs.spelling.push_names.Goals as goal
 

@@ -1,6 +1,6 @@
 use Rattle.std.specs.Prelude.{◌≡◌, ◌++◌, drop, string_bytes}
 use Rattle.packed_rows.specs.View.{texts_of}
-use Rattle.query_checks.specs.Spelling.{parted}
+use Rattle.query_checks.specs.Parted.{parted}
 use Rattle.query_checks.proofs.SpellingLaws.{followed}
 use Rattle.query_checks.proofs.spelling.push_names.Given as goal
 

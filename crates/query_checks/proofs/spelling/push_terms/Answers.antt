@@ -1,5 +1,6 @@
 use Rattle.std.proofs.Common.{◌++◌, map, ap, sym, ◌∙◌, append_assoc, string_bytes}
-use Rattle.query_checks.specs.Spelling.{term_text, parted}
+use Rattle.query_checks.specs.Order.{term_text}
+use Rattle.query_checks.specs.Parted.{parted}
 use Rattle.query_checks.proofs.SpellingLaws.{followed, parted_first}
 use Rattle.query_checks.proofs.spelling.push_terms.Goals as goal
 

@@ -1,18 +1,9 @@
-use Rattle.std.proofs.Common.{ap, arith}
-use Rattle.context_tree.specs.Tree.{held_from}
+use Rattle.std.proofs.Common.{arith}
 use Rattle.context_tree.proofs.Bounds.{below-all}
 use Rattle.context_tree.proofs.tree.Tree.held_below.Goals as goal
 
 pub returns-clause-bound : goal.returns-clause-bound
 returns-clause-bound c =
-    let x = c.self.inside in
-    let less = below-all x.links c.args.id.slot 0 x.contexts.items in
-    omega (
-      arith,
-      less,
-      c.self.invariant.bounded,
-      c.sum_below-sum.ensures,
-      c.from.ensures,
-      ap (λ cs. held_from x.links c.args.id.slot 0 cs)
-          c.deref.ensures,
-    )
+    let t = c.args.self.now in
+    let less = below-all t.links c.args.id.slot 0 t.contexts in
+    omega (arith, less, c.is_bounded.ensures, c.sum_from-sum.ensures, c.from.ensures)

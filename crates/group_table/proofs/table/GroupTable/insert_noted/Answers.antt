@@ -1,16 +1,17 @@
-use Rattle.std.proofs.Common.{◌≡◌, refl, ◌+◌, ◌-◌, ◌≤◌, ◌++◌, ◌∷◌, [], length, sym, subst, ◌∙◌, ap, arith}
+use Rattle.std.proofs.Common.{◌≡◌, refl, ◌+◌, ◌-◌, ◌≤◌, ◌++◌, ◌∷◌, [], length, sym, subst, ◌∙◌, ap, arith, Option, Some, None, false, is_some}
+use Rattle.std.proofs.lemmas.Bool.{false≢true}
 use Rattle.std.proofs.lemmas.Result.{err_from_is_err_and}
 use Rattle.std.specs.Vec.{vec_capacity, vec_len}
 use Rattle.group_table.proofs.Words.{TreeState, context_at, held_below, ContextId, TableState, groups, held_in, HasNo, IsSameBut, IsSetWith}
 use Rattle.group_table.proofs.Words.{group_growth, HoldsKeys}
 use Rattle.group_table.proofs.Words.{IsTableIn, IsFirst, HasArray, IsNext, with_slot, keys_in, IsRunWith, IsSlabWith, HoldsArray, HoldsNext}
-use Rattle.group_table.proofs.Words.{HoldsKeyBlocks, HoldsStates}
+use Rattle.group_table.proofs.Words.{ChunkName, HoldsKeyBlocks, HoldsStates, IsMet}
 use Rattle.group_table.specs.Standing.{KeepsOthers}
 use Rattle.group_table.proofs.HeldLaws.{others_held}
 use Rattle.group_table.proofs.SpaceLaws.{holds_more, buckets_at, keys_after, states_after}
 use Rattle.group_table.proofs.InsertLaws.{next_but, next_kept, keys_left, states_left, next_same, others_twice, others_left, next_others}
 use Rattle.group_table.proofs.InsertLaws.{any_space, groups_left, groups_pushed, held_left, next_left, replaced_groups, replaced_others}
-use Rattle.group_table.proofs.InsertLaws.{replaced_next, replaced_absent, replaced_held}
+use Rattle.group_table.proofs.InsertLaws.{replaced_next, replaced_absent, replaced_held, met_kept}
 use Rattle.group_table.proofs.table.GroupTable.insert_noted.Goals as goal
 use Rattle.group_table.proofs.table.GroupTable.insert_noted.Given as given
 
@@ -74,24 +75,39 @@ returns-in_err-slot g c =
       holds = tt;
     })
 
+none_kept : (next : Option ChunkName) → is_some next ≡ false → next ≡ None
+none_kept None kept = refl
+none_kept (Some name) kept = absurd (false≢true (sym kept))
+
 pub put_slot-requires : goal.put_slot-requires
 put_slot-requires g c =
     let hash = g.H.KeyHash.hash_of in let t = c.args.self.now in let tree = c.args.tree.now in let a = c.take_array.new.tree in let b =
     c.take_group-taken.new.tree in let e = c.replace_array.new.tree in
     let one = c.in_ok-next.ensures in let two = c.take_group-taken.ensures in let three = c.replace_array.ensures in
     let next = c.in_ok-next.next in let placed = c.requires.table.standing.placed in
+    let s1 = c.replace_array.new.self in let v = c.args.vacancy in
     record {
       standing = three.standing;
       room = three.room;
       next = (
+        c.args.key.now,
         c.args.state.now,
         subst (λ (x : TableState g.row.H.Denot). IsNext x e c.args.key.now c.args.state.now c.in_ok-slot.slot) (sym three.array)
             (replaced_next t next tree a b e placed one.only two.others two.buckets two.groups two.standing.placed three.only c.args.key.now
             c.args.state.now c.in_ok-slot.slot c.in_ok-slot.ensures.next),
+        subst (λ (x : TableState g.row.H.Denot). HasNo x e c.args.key.now) (sym three.array)
+            (replaced_absent t next tree a b e placed one.only two.others two.buckets two.groups two.standing.placed three.only
+            c.args.key.now
+            c.requires.absent),
+        subst (λ (x : TableState g.row.H.Denot). v.hash ≡ hash x.hash c.args.key.now) (sym three.array) c.requires.vacancy.hash,
       );
-      absent = subst (λ (x : TableState g.row.H.Denot). HasNo x e c.args.key.now) (sym three.array)
-          (replaced_absent t next tree a b e placed one.only two.others two.buckets two.groups two.standing.placed three.only c.args.key.now
-          c.requires.absent);
+      met = λ kept.
+          let none : next ≡ None = none_kept next (sym c.is_some.ensures ∙ kept) in
+          subst (λ (x : TableState g.row.H.Denot). IsMet x e v) (sym three.array)
+          (met_kept t next tree e v none
+          (ap (λ (x : TreeState). context_at x t.buckets) (three.same none) ∙ two.buckets
+          ∙ ap (λ (x : TreeState). context_at x t.buckets) (one.same none))
+          c.requires.vacancy.met);
     }
 
 -- the table at the end

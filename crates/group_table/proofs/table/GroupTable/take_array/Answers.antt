@@ -5,6 +5,7 @@ use Rattle.group_table.proofs.SpaceLaws.{none_taken, next_taken}
 use Rattle.group_table.proofs.TakeLaws.{Taken, taken_by_array, room_left, array_grown}
 use Rattle.context_tree.specs.CallLaws.{allocated}
 use Rattle.group_table.proofs.TreeFacts.{only_once}
+use Rattle.std.proofs.lemmas.Option.{none-some}
 use Rattle.group_table.proofs.table.GroupTable.take_array.Goals as goal
 use Rattle.group_table.proofs.table.GroupTable.take_array.Given as given
 
@@ -44,6 +45,7 @@ returns-then-wanted-bucket_count g c =
       only = only_once t.buckets tree c.requires.table.standing.placed.buckets.within;
       standing = c.requires.table.standing;
       next = room_left t.array (length t.slots) (sym wanted ∙ same ∙ count);
+      same = λ none. refl;
       unchanged = tt;
       held = omega arith;
       holds = none_taken g.H.KeyHash.hash_of t tree c.requires.table c.buckets_wanted-wanted.result c.bucket_count.result wanted count same;
@@ -59,6 +61,7 @@ returns-in-Ok g c =
       only = subst (λ (x : TableState g.row.H.Denot). OnlyIn x.buckets tree after) c.self.view_is on.rest;
       standing = taken.0.standing;
       next = taken.0.spare;
+      same = λ none. absurd (none-some c.in-Ok.name (sym none));
       unchanged = tt;
       held =
           let grown = subst (λ (x : TableState g.row.H.Denot). held_by (context_at after x.buckets) ≡ held_by (context_at tree x.buckets)
@@ -78,6 +81,7 @@ returns-in-Err g c =
           (only_once t.buckets tree c.requires.table.standing.placed.buckets.within);
       standing = subst (λ (x : TreeState). IsStanding g.H.KeyHash.hash_of t x) (sym same) c.requires.table.standing;
       next = tt;
+      same = tt;
       unchanged = same;
       held = omega (arith, ap (λ (x : TreeState). held_by (context_at x t.buckets)) same);
       holds = tt;

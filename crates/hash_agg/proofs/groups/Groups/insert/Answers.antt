@@ -8,12 +8,12 @@ use Rattle.hash_agg.proofs.groups.Groups.insert.Goals as goal
 pub invariant_of-self : goal.invariant_of-self
 invariant_of-self g c =
     record {
-      in_tree = c.insert.ensures.table;
+      in_tree = c.insert_vacant.ensures.table;
       by_keys = c.in-Ok.ensures.holds c.self.invariant.by_keys;
       most =
           c.max-self-inside.ensures
-          ∙ most_entered c.self.inside.table c.insert.new.self c.self.inside.tree c.insert.new.tree c.self.inside.most_held c.args.held
-          c.args.key.now c.args.states.now c.insert.ensures.same c.self.invariant.most
+          ∙ most_entered c.self.inside.table c.insert_vacant.new.self c.self.inside.tree c.insert_vacant.new.tree c.self.inside.most_held c.args.held
+          c.args.key.now c.args.states.now c.insert_vacant.ensures.same c.self.invariant.most
           (c.requires.held ∙ ap (λ (x : GroupsState g.row.H.Denot). need x.table.width (packed_keys (entries_of x) ++ c.args.key.now ∷ []))
           (sym c.self.view_is))
           c.in-Ok.ensures.groups;
@@ -23,7 +23,7 @@ pub invariant_of-self-in-Err : goal.invariant_of-self-in-Err
 invariant_of-self-in-Err g c =
     record {
       in_tree = c.clear.ensures.table;
-      by_keys = c.clear.ensures.holds (held_alone c.self.inside.table c.insert.new.self c.self.inside.tree c.insert.new.tree
-          c.insert.ensures.same c.self.invariant.by_keys.alone c.insert.ensures.rest);
+      by_keys = c.clear.ensures.holds (held_alone c.self.inside.table c.insert_vacant.new.self c.self.inside.tree c.insert_vacant.new.tree
+          c.insert_vacant.ensures.same c.self.invariant.by_keys.alone c.insert_vacant.ensures.rest);
       most = none_needed c.clear.new.self c.clear.new.tree c.clear.ensures.slots;
     }

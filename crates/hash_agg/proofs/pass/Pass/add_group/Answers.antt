@@ -15,7 +15,7 @@ returns-in-Ok g c =
     c.args.key.now
     (λ old new. AreCombined (functions q) c.args.self.now.plan.most old c.args.states.now new) c.requires.ready
     (entry_told q c.args.self.now.plan.most c.args.key.now c.args.states.now)
-    c.combine.new.self c.in-Some.slot c.find.ensures.once c.in-Some.ensures.found c.in-Ok.ensures.written c.combine.ensures.table
+    c.combine.new.self c.in-Found.slot c.look_up.ensures.once c.in-Found.ensures.found c.in-Ok.ensures.written c.combine.ensures.table
     c.combine.ensures.hash c.combine.ensures.held (λ new moved. moved.within))
 
 pub returns-in-Err : goal.returns-in-Err
@@ -25,7 +25,7 @@ returns-in-Err g c =
     c.args.key.now
     (λ old new. AreCombined (functions q) c.args.self.now.plan.most old c.args.states.now new) c.requires.ready
     (entry_told q c.args.self.now.plan.most c.args.key.now c.args.states.now)
-    c.combine.new.self c.in-Some.slot c.in-Some.ensures.found c.combine.ensures.table c.combine.ensures.hash c.combine.ensures.held
+    c.combine.new.self c.in-Found.slot c.in-Found.ensures.found c.combine.ensures.table c.combine.ensures.hash c.combine.ensures.held
     (λ more are m found states low.
     let one = one_group q are.0 c.args.key.now c.args.states.now more are.1 in
     c.in-Err.ensures.refused (m, are.0, found, one.0.1, states, one.2.states, low))
@@ -47,8 +47,8 @@ insert-requires-clause-states g c =
     same_wide (functions q) c.args.self.now.plan.most 0 c.args.states.now c.args.self.now.plan.first.items group.0.1 (partials q [])
     group.1.states c.requires.ready.plan.states ∙ sym c.requires.ready.width
 
-pub returns-in-Some-need_to_insert : goal.returns-in-Some-need_to_insert
-returns-in-Some-need_to_insert g c =
+pub returns-in-Some : goal.returns-in-Some
+returns-in-Some g c =
     let q : Query = query_of c.args.self.now in
     let group = c.requires.group in
     added_here _
@@ -56,8 +56,8 @@ returns-in-Some-need_to_insert g c =
     c.args.key.now
     (λ old new. AreCombined (functions q) c.args.self.now.plan.most old c.args.states.now new) c.requires.ready
     (entry_told q c.args.self.now.plan.most c.args.key.now c.args.states.now)
-    c.insert.new.self c.args.states.now c.in-Some-need_to_insert.need c.in_default.ensures.found c.in-Some-need_to_insert.ensures.room
-    (c.in-Some-need_to_insert.ensures.exact (g.H.KeyHash.hash_of c.args.self.now.groups.hash))
+    c.insert.new.self c.args.states.now c.in-Some.need c.in-Vacant.ensures.found.0 c.in-Some.ensures.room
+    (c.in-Some.ensures.exact (g.H.KeyHash.hash_of c.args.self.now.groups.hash))
     c.in_ok-insert.ensures.entered c.insert.ensures.table
     (λ more are low. (one_group q are.0 c.args.key.now c.args.states.now more are.1).2.states) group.0 group.1)
 
@@ -87,9 +87,9 @@ returns g c =
           c.args.key.now
           (λ old new. AreCombined (functions q) c.args.self.now.plan.most old c.args.states.now new) c.requires.ready
           (entry_told q c.args.self.now.plan.most c.args.key.now c.args.states.now)
-          c.spill.result c.spill.new.self c.spill.new.disk one c.in_default.ensures.found
+          c.spill.result c.spill.new.self c.spill.new.disk one c.in-Vacant.ensures.found.0
           (key_brief q c.args.key.now group.0.0 c.requires.ready.plan.formed group.1.key group.1.of_kinds)
-          (sym (c.in_default-need_to_insert.ensures.exact (g.H.KeyHash.hash_of c.args.self.now.groups.hash)))
+          (sym (c.in_default.ensures.exact (g.H.KeyHash.hash_of c.args.self.now.groups.hash)))
           (λ more are.
           is_group_record q (g.H.KeyHash.hash_of c.args.self.now.groups.hash) are.0 one c.args.key.now c.args.states.now
           (one_group q are.0 c.args.key.now c.args.states.now more are.1).0 refl written c.hash-hash.ensures
@@ -116,7 +116,7 @@ returns-in_err-insert g c =
       kept = record {
         plan = refl;
         table = c.insert.ensures.table c.args.self.now.plan.limit
-            c.in-Some-need_to_insert.ensures.room.within;
+            c.in-Some.ensures.room.within;
         spill = same_rest _;
       };
     })

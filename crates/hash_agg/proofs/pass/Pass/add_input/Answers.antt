@@ -14,6 +14,18 @@ add_run-requires-clause-run g c =
     run_within (query_of c.args.self.now) c.in-Groups.rows c.args.self.now.plan.most c.in-Groups.run'.now (omega (arith, few, sum))
     given.are.0
 
+pub add_rows-requires-clause-packings : goal.add_rows-requires-clause-packings
+add_rows-requires-clause-packings g c =
+    let given = subst (λ (input : Input). AreInputs (query_of c.args.self.now) c.args.self.now.plan.most (brought input ∷ []))
+    c.in-Rows.is c.requires.input in
+    given.are.0
+
+pub add_rows-requires-in-Packed-clause-packings : goal.add_rows-requires-in-Packed-clause-packings
+add_rows-requires-in-Packed-clause-packings g c =
+    let given = subst (λ (input : Input). AreInputs (query_of c.args.self.now) c.args.self.now.plan.most (brought input ∷ []))
+    c.in-Packed.is c.requires.input in
+    given.are.0
+
 pub returns-in-Rows : goal.returns-in-Rows
 returns-in-Rows g c =
     subst (λ (input : Input). Adds Added g.H.KeyHash.hash_of g.D.TapeDisk (source_of (brought input)) c.args.self.now c.args.disk.now

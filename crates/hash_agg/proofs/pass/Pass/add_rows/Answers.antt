@@ -1,7 +1,9 @@
 use Rattle.std.specs.Prelude.{◌∷◌, []}
-use Rattle.std.proofs.Common.{arith}
+use Rattle.std.proofs.Common.{arith, subst, sym}
 use Rattle.tape_disks.specs.DiskLaws.{leaves_none, leaves_twice}
-use Rattle.hash_agg.proofs.Words.{spill_faults, Packed_rows, query_of, packings_in}
+use Rattle.packed_rows.specs.Packing.{IsPacking}
+use Rattle.hash_agg.proofs.InputLaws.{packing_at}
+use Rattle.hash_agg.proofs.Words.{meaning, spill_faults, Packed_rows, query_of, packings_in}
 use Rattle.hash_agg.proofs.AddedLaws.{none_added, next_added, next_refused, all_added, refused_out}
 use Rattle.hash_agg.proofs.StepLaws.{flat_is_at, flat_short}
 use Rattle.hash_agg.proofs.pass.Pass.add_rows.Goals as goal
@@ -12,6 +14,11 @@ loop-place-init g c = record {
       c.args.disk.now c.requires.ready;
   disk = leaves_none g.D.TapeDisk c.args.disk.now;
 }
+
+pub add_row-requires-clause-packing : goal.add_row-requires-clause-packing
+add_row-requires-clause-packing g c =
+    subst (λ plan. IsPacking (meaning plan.query.now).kinds c.row.result.now) (sym c.loop-place.invariant.some.kept.plan)
+    (packing_at (query_of c.args.self.now) (packings_in c.args.rows) c.loop-place.place c.row.result.now c.requires.packings c.row.ensures)
 
 pub loop-place-preserved : goal.loop-place-preserved
 loop-place-preserved g c =

@@ -17,7 +17,7 @@ returns-in-Ok g c =
     (λ old new. AreAdvanced q.aggregates c.args.self.now.plan.most old (row_of c.args.row.now) new) c.requires.ready
     (row_told q c.args.self.now.plan.most c.args.packed.now c.args.key.now (row_of c.args.row.now) c.requires.ready.plan.formed
     c.requires.selected)
-    c.advance.new.self c.in-Some.slot c.find.ensures.once c.in-Some.ensures.found c.in-Ok.ensures.written c.advance.ensures.table
+    c.advance.new.self c.in-Found.slot c.look_up.ensures.once c.in-Found.ensures.found c.in-Ok.ensures.written c.advance.ensures.table
     c.advance.ensures.hash c.advance.ensures.held (λ new moved. moved.within))
 
 pub returns-in-Err : goal.returns-in-Err
@@ -27,7 +27,7 @@ returns-in-Err g c =
     (λ old new. AreAdvanced q.aggregates c.args.self.now.plan.most old (row_of c.args.row.now) new) c.requires.ready
     (row_told q c.args.self.now.plan.most c.args.packed.now c.args.key.now (row_of c.args.row.now) c.requires.ready.plan.formed
     c.requires.selected)
-    c.advance.new.self c.in-Some.slot c.in-Some.ensures.found c.advance.ensures.table c.advance.ensures.hash c.advance.ensures.held
+    c.advance.new.self c.in-Found.slot c.in-Found.ensures.found c.advance.ensures.table c.advance.ensures.hash c.advance.ensures.held
     (λ more are m found states low. c.in-Err.ensures.refused (m, found, states, omega (arith, low)))
 
 pub need_to_insert-requires-clause-key : goal.need_to_insert-requires-clause-key
@@ -56,8 +56,8 @@ insert-requires-clause-key g c =
     key_short q c.args.key.now (key_of q (row_of c.args.row.now)) c.requires.ready.plan.formed c.requires.selected.named
     (key_has q (row_of c.args.row.now) c.requires.ready.plan.formed.keys c.requires.selected.has)
 
-pub returns-in-Some-need_to_insert : goal.returns-in-Some-need_to_insert
-returns-in-Some-need_to_insert g c =
+pub returns-in-Some : goal.returns-in-Some
+returns-in-Some g c =
     let q : Query = query_of c.args.self.now in
     let within = c.in_ok-first_after.ensures.advanced.within in
     added_here _
@@ -65,9 +65,9 @@ returns-in-Some-need_to_insert g c =
     (λ old new. AreAdvanced q.aggregates c.args.self.now.plan.most old (row_of c.args.row.now) new) c.requires.ready
     (row_told q c.args.self.now.plan.most c.args.packed.now c.args.key.now (row_of c.args.row.now) c.requires.ready.plan.formed
     c.requires.selected)
-    c.insert.new.self c.first_after.new.states.items c.in-Some-need_to_insert.need c.in_default.ensures.found
-    c.in-Some-need_to_insert.ensures.room
-    (c.in-Some-need_to_insert.ensures.exact (g.H.KeyHash.hash_of c.args.self.now.groups.hash))
+    c.insert.new.self c.first_after.new.states.items c.in-Some.need c.in-Vacant.ensures.found.0
+    c.in-Some.ensures.room
+    (c.in-Some.ensures.exact (g.H.KeyHash.hash_of c.args.self.now.groups.hash))
     (c.in_ok-insert.ensures.entered ∙ ap (λ states. entries_of c.args.self.now.groups ++ (c.args.key.now, states)
     ∷ []) c.deref.ensures.value) c.insert.ensures.table
     (λ more are low. c.in_ok-first_after.ensures.advanced.moved 0 (partials q []) (omega (arith, low)) c.requires.ready.plan.states)
@@ -93,10 +93,10 @@ returns g c =
           (row_told q c.args.self.now.plan.most c.args.packed.now c.args.key.now (row_of c.args.row.now) c.requires.ready.plan.formed
           c.requires.selected)
           c.spill.result c.spill.new.self c.spill.new.disk (record { hash = c.hash-hash.result; tag = 0; bytes = c.args.packed.now })
-          c.in_default.ensures.found
+          c.in-Vacant.ensures.found.0
           (key_brief q c.args.key.now (key_of q (row_of c.args.row.now)) c.requires.ready.plan.formed c.requires.selected.named
           (key_has q (row_of c.args.row.now) c.requires.ready.plan.formed.keys c.requires.selected.has))
-          (sym (c.in_default-need_to_insert.ensures.exact (g.H.KeyHash.hash_of c.args.self.now.groups.hash)))
+          (sym (c.in_default.ensures.exact (g.H.KeyHash.hash_of c.args.self.now.groups.hash)))
           (λ more are. record {
             tag = refl;
             of_kinds = c.requires.selected.has;
@@ -128,7 +128,7 @@ returns-in_err-insert g c =
       kept = record {
         plan = refl;
         table = c.insert.ensures.table c.args.self.now.plan.limit
-            c.in-Some-need_to_insert.ensures.room.within;
+            c.in-Some.ensures.room.within;
         spill = same_rest _;
       };
     })

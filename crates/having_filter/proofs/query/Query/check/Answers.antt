@@ -4,7 +4,7 @@ use Rattle.std.specs.String.{string_bytes}
 use Rattle.having_filter.proofs.Words.{AreColumns, asked_of, checked_of, IsKept}
 use Rattle.query_checks.specs.CheckedLaws.{refused_as}
 use Rattle.having_filter.specs.declared.query.Kept.{Kept}
-use Rattle.having_filter.proofs.CheckedLaws.{kept, checked_here, refused_places, refused_order}
+use Rattle.having_filter.proofs.CheckedLaws.{kept, checked_here, refused_places, refused_arrangement}
 use Rattle.having_filter.proofs.query.Query.check.Goals as goal
 
 pub returns-in_err-texts-clause-refused : goal.returns-in_err-texts-clause-refused
@@ -26,7 +26,7 @@ invariant_of-result c =
     (string_bytes k.texts.schema)) (sym c.in_ok-kept.ensures.ok)
     (kept c.in_ok-columns.columns c.args.schema.now (asked_of c.args.raw.now) c.in_ok-parts.parts c.in_ok-parts.plan
     (string_bytes texts.query) (map string_bytes texts.labels.items) (string_bytes texts.schema)
-    c.in_ok-columns.ensures.same c.in_ok-parts.ensures.placed c.in_ok-parts.ensures.ordered
+    c.in_ok-columns.ensures.same c.in_ok-parts.ensures.placed c.in_ok-parts.ensures.arranged
     (subst AreColumns c.in_ok-columns.ensures.same c.in_ok-columns.ensures.columns) c.requires c.in_ok-texts.ensures.first
     c.in_ok-texts.ensures.query
     c.in_ok-texts.ensures.labels c.in_ok-texts.ensures.schema c.in_ok-parts.ensures.fit c.in_ok-parts.ensures.passed
@@ -35,14 +35,14 @@ invariant_of-result c =
 pub returns-clause-checked : goal.returns-clause-checked
 returns-clause-checked c =
     checked_here c.in_ok-columns.columns c.args.schema.now (asked_of c.args.raw.now) c.in_ok-parts.parts c.in_ok-columns.ensures.same
-    c.in_ok-parts.ensures.placed c.in_ok-parts.ensures.ordered c.in_ok-texts.ensures.first
-    c.in_ok-parts.ensures.passed c.in_ok-check_order.ensures.passed
+    c.in_ok-parts.ensures.placed c.in_ok-parts.ensures.arranged c.in_ok-texts.ensures.first
+    c.in_ok-parts.ensures.passed c.in_ok-check_arrangement.ensures.passed
     ∙ ap (λ (k : Kept). Ok (checked_of k.schema k.parts)) (sym c.in_ok-kept.ensures.ok)
 
-pub returns-in_err-check_order-clause-refused : goal.returns-in_err-check_order-clause-refused
-returns-in_err-check_order-clause-refused c =
+pub returns-in_err-check_arrangement-clause-refused : goal.returns-in_err-check_arrangement-clause-refused
+returns-in_err-check_arrangement-clause-refused c =
     let q = asked_of c.args.raw.now in
-    let error = c.in_err-check_order.field-0.0 in
-    refused_as c.args.schema.now q c.from_residual-in_err-check_order.result error c.from_residual-in_err-check_order.ensures.1
-    (λ other. refused_order c.args.schema.now q c.in_ok-parts.parts error c.in_ok-parts.ensures.placed c.in_ok-texts.ensures.first
-    c.in_ok-parts.ensures.passed c.in_err-check_order.ensures.refused)
+    let error = c.in_err-check_arrangement.field-0.0 in
+    refused_as c.args.schema.now q c.from_residual-in_err-check_arrangement.result error c.from_residual-in_err-check_arrangement.ensures.1
+    (λ other. refused_arrangement c.args.schema.now q c.in_ok-parts.parts error c.in_ok-parts.ensures.placed c.in_ok-texts.ensures.first
+    c.in_ok-parts.ensures.passed c.in_err-check_arrangement.ensures.refused)

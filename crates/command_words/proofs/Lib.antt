@@ -1,0 +1,2 @@
+mod LineEnd
+mod Twice
