@@ -23,7 +23,7 @@ use thiserror::Error;
 
 /// The bytes are those of no state, or the state would count more rows than it may.
 #[derive(Error, Debug, Clone, Copy, PartialEq, Eq, Drop)]
-#[error("the bytes are no state of the aggregate")]
+#[error("the bytes are not a state of the aggregate")]
 pub struct BadState;
 
 /// The result of an aggregate function (PostgreSQL 17, 9.21 Aggregate Functions).

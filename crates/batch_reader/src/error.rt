@@ -8,26 +8,26 @@ use std::alloc::AllocError;
 use thiserror::Error;
 
 /// Why a batch is refused. Of several errors the first in this order is given, `NoMemory` aside; `WrongWidth` and
-/// `BadField` are those of the first row that is no row of the schema. Rows and columns are counted from 0.
+/// `BadField` are those of the first row that does not fit the schema. Rows and columns are counted from 0.
 #[derive(Clone, Copy, Debug, PartialEq, Eq, Error)]
 pub enum BatchError {
     /// An allocation failed.
     #[error("out of memory")]
     NoMemory,
     /// The origin isn't 0 to 1,023, or the number isn't 1 to 4,294,967,295, in 1 to 10 digits each.
-    #[error("no head of a batch, or an origin or a number out of range")]
+    #[error("the batch has no header row, or its origin or number is out of range")]
     BadBatchHead,
-    /// The head states more rows than a batch may have.
-    #[error("more rows are told than a batch may have")]
+    /// The header states more rows than a batch may have.
+    #[error("the header states more rows than a batch may have")]
     TooManyRows,
-    /// There are more or fewer rows than the head states.
-    #[error("more or fewer rows than told")]
+    /// There are more or fewer rows than the header states.
+    #[error("the batch has more or fewer rows than its header states")]
     RowCount,
     /// A row has more or fewer fields than the schema has columns.
-    #[error("row {row} has more or fewer fields than there are columns, the first being row 0")]
+    #[error("row {row} has more or fewer fields than there are columns; rows are counted from 0")]
     WrongWidth { row: usize },
-    /// A row's field stands for no value of its column.
-    #[error("in row {row} a field stands for no value of column {column}, both counted from 0")]
+    /// A field is not a value of its column.
+    #[error("the field of row {row} and column {column} is not a value of its type; both are counted from 0")]
     BadField { row: usize, column: usize },
 }
 

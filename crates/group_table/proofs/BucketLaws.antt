@@ -1,9 +1,10 @@
 -- The bytes of buckets.
-use Rattle.std.specs.Prelude.{◌≡◌, ◌≢◌, ℕ, ◌+◌, ◌*◌, ◌^◌, ◌<◌, ◌≤◌, List, ◌++◌, Some, length, take, drop, get_or}
+use Rattle.std.specs.Prelude.{◌≡◌, ◌≢◌, ℕ, ◌+◌, ◌*◌, ◌^◌, ◌<◌, ◌≤◌, List, ◌++◌, Some, None, length, take, drop, get_or, refl, Bool, true, false, cond, ◌==◌}
 use Rattle.std.specs.Int.{w32, to_be_bytes}
 use Rattle.std.proofs.Common.{rules, sym, ◌∙◌, ap, arith}
 use Rattle.std.proofs.lemmas.List.{places, same_lists}
-use Rattle.group_table.proofs.Words.{number_at, name_at, bucket_in, bucket_at, Bucket}
+use Rattle.std.proofs.lemmas.Bool.{false≢true, ne_eqb}
+use Rattle.group_table.proofs.Words.{IsHashOf, number_at, name_at, bucket_in, bucket_at, Bucket}
 use Rattle.std.proofs.lemmas.Bool.Decides.{nat_tests}
 use Rattle.std.proofs.lemmas.Grind.{common_steps}
 
@@ -67,3 +68,13 @@ pub bucket_beside : (place k other : ℕ) (xs ys : List ℕ) → k ≡ 32 → le
 unfolding bucket_at
 bucket_beside place k other xs ys is len in_xs differ =
     ap bucket_in (same_lists _ _ (search (rules, places)) (λ j d h. grind (arith, places)))
+
+-- a bucket in use has the hash that is read by itself
+pub hash_read : (xs : List ℕ) → number_at xs 28 ≢ 0 → IsHashOf (bucket_in xs) (number_at xs 24)
+unfolding bucket_in
+hash_read xs some = by (number_at xs 28 == 0) (ne_eqb (number_at xs 28) 0 some)
+  where
+    by : (t : Bool) → t ≡ false
+        → IsHashOf (cond t None (Some (record { key = name_at xs 0; state = name_at xs 12; hash = number_at xs 24 }))) (number_at xs 24)
+    by true is = absurd (false≢true (sym is))
+    by false is = refl

@@ -1,20 +1,33 @@
 -- A key that is in an array is found.
-use Rattle.std.specs.Prelude.{◌≡◌, ◌≢◌, ℕ, ◌+◌, ◌<◌, ◌≤◌, ◌⊎◌, true, List, Option, Some, None, is_some}
+use Rattle.std.specs.Prelude.{◌≡◌, ◌≢◌, ℕ, ◌+◌, ◌<◌, ◌≤◌, ◌⊎◌, true, List, Option, Some, None, is_some, refl, IsSome}
 use Rattle.std.proofs.Common.{inl, inr, sym, ◌∙◌, ap, subst, arith}
 use Rattle.std.proofs.lemmas.Bool.{cases_eq, cases_lt, false≢true}
-use Rattle.group_table.proofs.Words.{chunk_bytes, Context, bucket_at, start_of, passes, IsIndex, IsFreeFor, IsOther, Tells, HasNone, Bucket}
+use Rattle.group_table.proofs.Words.{chunk_bytes, Context, bucket_at, start_of, passes, IsIndex, IsFreeFor, IsHashOf, IsOther, Tells, HasNone, Bucket}
 use Rattle.group_table.specs.Index.{in_use}
 use Rattle.group_table.specs.declared.search.Probe.TheVariants.{Free, Passed}
 use Rattle.group_table.proofs.IndexLaws.{one_more, not_all}
 use Rattle.std.proofs.lemmas.Bool.Decides.{nat_tests}
 use Rattle.std.proofs.lemmas.Grind.{common_steps}
 
+-- a bucket of another hash is another's; and one of which a hash is known is in use
+hash_used : (o : Option Bucket) (h : ℕ) → IsHashOf o h → (b : Bucket) × (o ≡ Some b) × (b.hash ≡ h)
+hash_used None h is = absurd is
+hash_used (Some b) h is = (b, refl, is)
+
+pub other_hash : (keys : Context) (array : List ℕ) (hash : ℕ) (key : List ℕ) (place h : ℕ) → IsHashOf (bucket_at array place) h → h ≢ hash
+    → IsOther keys array hash key place
+other_hash keys array hash key place h is differs =
+    let used = hash_used (bucket_at array place) h is in (used.0, used.1, λ equal. absurd (differs (sym used.2 ∙ equal)))
+
+pub known_used : (o : Option Bucket) (h : ℕ) → IsHashOf o h → IsSome o
+known_used None h is = absurd is
+known_used (Some b) h is = refl
+
 -- one more bucket that is another's
-pub next_other : (keys : Context) (array : List ℕ) (hash : ℕ) (key : List ℕ) (from n : ℕ) (b : Bucket)
-    → ((other : ℕ) → from ≤ other → other < n → IsOther keys array hash key other) → bucket_at array n ≡ Some b
-    → (b.hash ≡ hash → chunk_bytes keys b.key ≢ key)
+pub next_other : (keys : Context) (array : List ℕ) (hash : ℕ) (key : List ℕ) (from n : ℕ)
+    → ((other : ℕ) → from ≤ other → other < n → IsOther keys array hash key other) → IsOther keys array hash key n
     → (other : ℕ) → from ≤ other → other < n + 1 → IsOther keys array hash key other
-next_other keys array hash key from n b before is differs = one_more (IsOther keys array hash key) from n before (b, is, differs)
+next_other keys array hash key from n before other = one_more (IsOther keys array hash key) from n before other
 
 -- a bucket of another key is not that of this key
 not_other : (keys : Context) (array : List ℕ) (hash : ℕ) (key : List ℕ) (place : ℕ) (b : Bucket) → IsOther keys array hash key place

@@ -24,10 +24,10 @@ pub use Rattle.context_tree.specs.declared.links.Link.{Link}
 pub use Rattle.group_table.specs.Arrays.{HasNext, IsArrayAt, IsNext, IsRewritten, IsSpare, OnlyIn, bytes_at, count_of, with_next, with_slot}
 pub use Rattle.group_table.specs.Arrays.{with_spare}
 unfoldable pub use Rattle.group_table.specs.Buckets.{bucket_at, bucket_in, number_at}
-pub use Rattle.group_table.specs.Buckets.{name_at}
+pub use Rattle.group_table.specs.Buckets.{IsHashOf, name_at}
 pub use Rattle.group_table.specs.Children.{AreMade, AreNew, IsAsBefore, IsCleared, IsNew, IsRefusedOf, IsSameBySlot}
 pub use Rattle.group_table.specs.Index.{HasAll, Holds, IsFreeFor, IsIndex, IsPath, Puts, passes, start_of}
-pub use Rattle.group_table.specs.Search.{Finds, HasNone, IsOther, Tells}
+pub use Rattle.group_table.specs.Search.{Finds, HasNone, IsOther, Meets, Tells}
 pub use Rattle.group_table.specs.Lookups.{IsMet, IsVacancy}
 pub use Rattle.group_table.specs.Space.{AreArraysHeld, AreOfSize, HoldsArray, HoldsKeyBlocks, HoldsKeys, HoldsNext, HoldsStates}
 pub use Rattle.group_table.specs.Space.{IsArrayHeld, IsRunWith, IsSlabWith, key_of, keys_in}

@@ -1,5 +1,5 @@
 -- The bytes of the bucket array: 32 for each bucket. All of this is our own.
-use Rattle.std.specs.Prelude.{ℕ, ◌+◌, ◌*◌, ◌==◌, cond, List, [], ◌∷◌, Option, Some, None, get_or, slice_range}
+use Rattle.std.specs.Prelude.{◌≡◌, ℕ, ◌+◌, ◌*◌, ◌==◌, cond, List, [], ◌∷◌, Option, Some, None, get_or, slice_range}
 use Rattle.std.specs.Int.{w32, from_be_bytes}
 use Rattle.chunk_layout.specs.declared.place.ChunkName.{ChunkName}
 use Rattle.group_table.specs.declared.bucket.Bucket.{Bucket}
@@ -20,3 +20,8 @@ bucket_in bytes = cond (number_at bytes 28 == 0) None
 -- the bucket at a place of an array
 unfoldable pub bucket_at : List ℕ → ℕ → Option Bucket
 bucket_at array place = bucket_in (slice_range array (place * 32) (place * 32 + 32))
+
+-- a bucket is in use, and its key has this hash
+abbrev pub IsHashOf : Option Bucket → ℕ → Type 0
+IsHashOf None hash = ⊥
+IsHashOf (Some b) hash = b.hash ≡ hash

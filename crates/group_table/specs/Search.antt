@@ -14,6 +14,12 @@ use Rattle.group_table.specs.declared.search.Sought.TheVariants as sought
 abbrev pub IsOther : Context → List ℕ → ℕ → List ℕ → ℕ → Type 0
 IsOther keys array hash key place = (b : Bucket) × (bucket_at array place ≡ Some b) × (b.hash ≡ hash → chunk_bytes keys b.key ≢ key)
 
+-- at a place there is the bucket of a key; or a free one; or another
+abbrev pub Meets : Context → List ℕ → ℕ → ℕ → List ℕ → Probe → Type 0
+Meets keys array place hash key (Found b) = (bucket_at array place ≡ Some b) × (chunk_bytes keys b.key ≡ key)
+Meets keys array place hash key (Free free) = bucket_at array place ≡ None
+Meets keys array place hash key Passed = IsOther keys array hash key place
+
 -- from one place on and before another there is the bucket of a key; or a free one, and others before it; or others alone
 abbrev pub Tells : Context → List ℕ → ℕ → ℕ → ℕ → List ℕ → Probe → Type 0
 Tells keys array from to hash key (Found b) = (place : ℕ) × (from ≤ place) × (place < to) × (bucket_at array place ≡ Some b)

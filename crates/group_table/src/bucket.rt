@@ -1,7 +1,7 @@
 //! The bytes of buckets.
-ghost use Rattle.std.specs.Prelude.{◌≡◌, ◌≢◌, ◌<◌, ◌≤◌, ◌+◌, ◌*◌, Some, ℕ, length};
+ghost use Rattle.std.specs.Prelude.{◌≡◌, ◌≢◌, ◌<◌, ◌≤◌, ◌+◌, ◌*◌, Some, None, ℕ, length, MatchOption};
 ghost use Rattle.std.specs.Int.{from_be_bytes, w32};
-ghost use Rattle.group_table.specs.Buckets.{number_at, name_at, bucket_in, bucket_at};
+ghost use Rattle.group_table.specs.Buckets.{number_at, name_at, bucket_in, bucket_at, IsHashOf};
 
 use chunk_layout::ChunkName;
 
@@ -76,6 +76,17 @@ impl Bucket {
         })
     }
 
+    /// The hash of the bucket of 32 bytes, if it is in use.
+    fn read_hash(bytes: &[u8]) -> Option<u32>
+        requires { length bytes.now ≡ 32 }
+        ensures { MatchOption result (bucket_in bytes.now ≡ None) (IsHashOf (bucket_in bytes.now)) }
+    {
+        if number(bytes, 28) == 0 {
+            return None;
+        }
+        Some(number(bytes, 24))
+    }
+
     /// Writes a bucket in use.
     fn write(self, bytes: &mut [u8])
         requires { length bytes.old ≡ 32 }
@@ -96,6 +107,15 @@ pub(crate) fn bucket_at(array: &[u8], place: usize) -> Option<Bucket>
 {
     let start = place * BUCKET;
     Bucket::read(&array[start..start + BUCKET])
+}
+
+/// The hash of the bucket at a place of an array, if it is in use: less to read than the bucket.
+pub(crate) fn hash_at(array: &[u8], place: usize) -> Option<u32>
+    requires { 32 * place + 32 ≤ length array.now }
+    ensures { MatchOption result (bucket_at array.now place ≡ None) (IsHashOf (bucket_at array.now place)) }
+{
+    let start = place * BUCKET;
+    Bucket::read_hash(&array[start..start + BUCKET])
 }
 
 /// Writes a bucket in use to a place of an array.

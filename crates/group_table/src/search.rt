@@ -1,13 +1,13 @@
 //! The search for a key in an array of buckets.
-ghost use Rattle.std.specs.Prelude.{◌≡◌, ◌≢◌, ◌<◌, ◌≤◌, ◌*◌, ℕ, true, Some, IsTrue, MatchBool, length};
+ghost use Rattle.std.specs.Prelude.{◌≡◌, ◌≢◌, ◌<◌, ◌≤◌, ◌+◌, ◌*◌, ℕ, true, Some, IsTrue, MatchBool, length};
 ghost use Rattle.context_tree.specs.Contexts.{has_chunk, chunk_bytes};
 ghost use Rattle.context_tree.specs.Tree.{is_there, context_at};
 ghost use Rattle.group_table.specs.Buckets.{bucket_at};
 ghost use Rattle.group_table.specs.Index.{IsIndex, Holds, in_use};
-ghost use Rattle.group_table.specs.Search.{Tells, Finds};
+ghost use Rattle.group_table.specs.Search.{Meets, Tells, Finds};
 ghost use Rattle.group_table.specs.declared.bucket.Bucket.{Bucket};
 
-use crate::bucket::{Bucket, bucket_at};
+use crate::bucket::{Bucket, bucket_at, hash_at};
 use crate::index::start_of;
 use chunk_layout::ChunkName;
 use context_tree::{ContextId, Tree};
@@ -35,14 +35,24 @@ pub(crate) fn chunk(tree: &Tree, id: ContextId, name: ChunkName) -> &[u8]
     tree.get(id, name).unwrap()
 }
 
-/// Whether a bucket is that of a key with this hash.
-fn is_of(tree: &Tree, keys: ContextId, bucket: Bucket, hash: u32, key: &[u8]) -> bool
+/// What a search meets at a place: the bucket of the key with this hash, a free one, or neither. Of most others the hash alone is read.
+fn look_at(tree: &Tree, keys: ContextId, array: &[u8], place: usize, hash: u32, key: &[u8]) -> Probe
     requires there { is_there tree.now keys ≡ true }
-    requires chunk { IsTrue (has_chunk (context_at tree.now keys) bucket.key) }
-    ensures { MatchBool result (chunk_bytes (context_at tree.now keys) bucket.key ≡ key.now)
-        (bucket.hash ≡ hash → chunk_bytes (context_at tree.now keys) bucket.key ≢ key.now) }
+    requires keys { (b : Bucket) → bucket_at array.now place ≡ Some b → IsTrue (has_chunk (context_at tree.now keys) b.key) }
+    requires long { 32 * place + 32 ≤ length array.now }
+    ensures { Meets (context_at tree.now keys) array.now place hash key.now result }
 {
-    bucket.hash == hash && chunk(tree, keys, bucket.key) == key
+    let Some(other) = hash_at(array, place) else {
+        return Probe::Free(place);
+    };
+    if other != hash {
+        return Probe::Passed;
+    }
+    let bucket = bucket_at(array, place).unwrap();
+    if chunk(tree, keys, bucket.key) == key {
+        return Probe::Found(bucket);
+    }
+    Probe::Passed
 }
 
 /// Looks in the buckets from one place on and before another for a key, whose bytes are a chunk of this context.
@@ -62,13 +72,10 @@ fn look(
     ensures { Tells (context_at tree.now keys) array.now from to hash key.now result }
 {
     for place in from..to {
-        match bucket_at(array, place) {
-            None => return Probe::Free(place),
-            Some(bucket) => {
-                if is_of(tree, keys, bucket, hash, key) {
-                    return Probe::Found(bucket);
-                }
-            }
+        match look_at(tree, keys, array, place, hash, key) {
+            Probe::Found(bucket) => return Probe::Found(bucket),
+            Probe::Free(_) => return Probe::Free(place),
+            Probe::Passed => {}
         }
     }
     Probe::Passed

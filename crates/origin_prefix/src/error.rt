@@ -14,7 +14,7 @@ use thiserror::Error;
 pub enum JoinError {
     /// A number of the origin has two different batches: the given one, which is early, or else one within equal prefixes that have
     /// different groups.
-    #[error("one number of an origin has two different batches")]
+    #[error("an origin gave one number to two different batches")]
     OriginDisagrees {
         /// The number, if it is early.
         number: Option<u32>,

@@ -16,19 +16,19 @@ pub enum PackError {
     #[error("out of memory")]
     NoMemory,
     /// A header is expected, and there is no record.
-    #[error("there is no header")]
+    #[error("the file has no header row")]
     NoHeader,
     /// The header names a column that the schema doesn't have; this is the first.
-    #[error("the schema has no column of the name in place {place} of the header, the first being 0")]
+    #[error("name {place} of the header is not a column; names are counted from 0")]
     UnknownColumn { place: usize },
     /// The header doesn't name this column of the schema.
-    #[error("the header lacks column {column}, the first being 0")]
+    #[error("the header lacks column {column}; columns are counted from 0")]
     MissingColumn { column: usize },
     /// The header names this column of the schema more than once.
-    #[error("the header has column {column} more than once, the first being 0")]
+    #[error("the header names column {column} more than once; columns are counted from 0")]
     RepeatedColumn { column: usize },
     /// A row has more or fewer fields than the header has names, or the schema columns.
-    #[error("row {row} has more or fewer fields than there are columns, the first being row 0")]
+    #[error("row {row} has more or fewer fields than there are columns; rows are counted from 0")]
     WrongWidth { row: usize },
     /// There are more rows than a batch may have.
     #[error("more rows than a batch may have")]
@@ -37,7 +37,7 @@ pub enum PackError {
     #[error("the batch file would be too long")]
     TooLong,
     /// A row's field is not a value of its column.
-    #[error("in row {row} a field stands for no value of column {column}, both counted from 0")]
+    #[error("the field of row {row} and column {column} is not a value of its type; both are counted from 0")]
     BadField { row: usize, column: usize },
 }
 

@@ -14,25 +14,25 @@ pub enum QueryError {
     #[error("out of memory")]
     NoMemory,
     /// It names a column that the schema doesn't have, or in ORDER BY an item that it doesn't have.
-    #[error("there is no such column")]
+    #[error("the column does not exist")]
     NoSuchColumn,
-    /// A column among the items or in HAVING is none of GROUP BY.
-    #[error("a column outside of an aggregate is not in GROUP BY")]
+    /// The select list or HAVING uses a column outside of an aggregate that GROUP BY does not name.
+    #[error("a column must be in GROUP BY or be used in an aggregate function")]
     NotGrouped,
-    /// An argument, an operand or a condition has the wrong kind.
-    #[error("an operand or an argument is of the wrong kind")]
+    /// An argument, an operand or a condition has the wrong type.
+    #[error("an operand or an argument has the wrong type")]
     TypeMismatch,
-    /// An aggregate stands in WHERE or FILTER.
-    #[error("an aggregate stands in WHERE or FILTER")]
+    /// An aggregate is called in WHERE or FILTER.
+    #[error("aggregate functions are not allowed in WHERE or FILTER")]
     AggregateHere,
     /// There are more items, keys or aggregates than there may be, or the canonical text is too long.
-    #[error("too many items, keys or calls, or too long a text")]
+    #[error("too many items, keys or aggregate calls, or the query is too long")]
     TooMany,
     /// A condition is nested too deeply.
     #[error("conditions are nested too deeply")]
     TooDeep,
-    /// A name in ORDER BY is that of two items that aren't the same column or call.
-    #[error("a name in ORDER BY is that of two different items")]
+    /// A name in ORDER BY names two items that are not the same column or call.
+    #[error("a name in ORDER BY is ambiguous")]
     AmbiguousOrder,
 }
 

@@ -16,12 +16,12 @@ pub enum MergeError {
     /// Memory ran out, other than in joining the parts of an origin.
     #[error("out of memory")]
     NoMemory,
-    /// The parts of an origin are not joined. It is the lowest such origin: no lower one disagrees.
-    #[error("the parts of an origin are not joined")]
+    /// The parts of an origin cannot be joined. It is the lowest such origin: no lower one disagrees.
+    #[error("two parts of one origin cannot be joined")]
     Join {
         /// The origin.
         origin: u16,
-        /// Why its parts are not joined.
+        /// Why they cannot be joined.
         why: JoinError,
     },
 }

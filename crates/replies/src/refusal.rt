@@ -43,7 +43,7 @@ pub enum Refusal {
     DifferentQuery,
     /// An origin gave one number to two different batches. The number is given if its batch is early. Else it is within equal prefixes that
     /// have different groups.
-    #[error("one number of an origin has two different batches")]
+    #[error("an origin gave one number to two different batches")]
     OriginDisagrees {
         /// The origin.
         origin: u16,
@@ -67,7 +67,7 @@ pub enum Refusal {
     #[error("no replica or saved file has this name")]
     NoSuchName,
     /// A replica of this name exists already.
-    #[error("there is a replica of this name already")]
+    #[error("a replica of this name exists already")]
     NameTaken,
 }
 

@@ -1,4 +1,3 @@
-use Rattle.std.proofs.Common.{sym, ◌∙◌}
 use Rattle.context_tree.specs.Tree.{context_at}
 use Rattle.group_table.proofs.SearchLaws.{next_other}
 use Rattle.group_table.proofs.search.look.Goals as goal
@@ -6,5 +5,4 @@ use Rattle.group_table.proofs.search.look.Goals as goal
 pub loop-place-preserved : goal.loop-place-preserved
 loop-place-preserved c =
     next_other (context_at c.args.tree.now c.args.keys) c.args.array.now c.args.hash c.args.key.now c.args.from c.loop-place.place
-    c.in-Some.bucket
-    c.loop-place.invariant (sym c.bucket_at.ensures ∙ c.in-Some.is) c.if-is_of.ensures
+    c.loop-place.invariant c.in-Passed.ensures
