@@ -252,8 +252,10 @@ fn tallied(alloc: Global, hoard: &mut Hoard, commands: &str) -> Result<Tally, Al
     Ok(tally)
 }
 
-/// The same in a process of which all memory is taken.
+/// The same in a process of which all memory is taken. Before, the script runs once, after which the stack is as large as it has to be:
+/// it cannot grow where all addresses are taken.
 fn told(rt: HostRuntime, commands: &str) -> Result<String, Fail> {
+    drop(written_by(rt.alloc(), commands, usize::MAX, usize::MAX)?);
     let mut hoard = Hoard::new(&rt)?;
     let tally = tallied(rt.alloc(), &mut hoard, commands);
     drop(hoard);
