@@ -6,7 +6,7 @@ ghost use Rattle.query_checks.specs.Forms.{Form, form_of, call_form, item_form, 
 use crate::condition::{AggCall, Cond, Item};
 use std::alloc::{AllocError, Global};
 
-/// What becomes of the columns and calls of a condition: a column becomes another, and a call becomes a column, or a call
+/// What becomes of the columns and calls of a condition: a column becomes another one. A call becomes a column, or a call
 /// over other columns.
 pub trait Mapping<C, D> {
     // What a column becomes.
