@@ -6,7 +6,7 @@ ghost use Rattle.group_parser.specs.declared.fault.ReadError.TheVariants.{NoMemo
 use query_tokens::Token;
 use std::alloc::{AllocError, AllocFailed};
 
-/// Why reading stopped. A place is told by how many tokens are left from it on.
+/// Why reading stopped. A place is given by how many tokens are left from it on.
 #[derive(Clone, Copy, Debug, PartialEq, Eq)]
 pub(crate) enum ReadError {
     /// An allocation failed.

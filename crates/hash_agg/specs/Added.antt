@@ -185,7 +185,7 @@ AddInTurn hash_of g zero old before new after = (new ≡ old) × (after ≡ befo
 AddInTurn {H = H} {D = D} hash_of g (suc n) old before new after =
     (mid : Pass H) × (between : D) × AddInTurn hash_of g n old before mid between × ReadsAndAdds hash_of g mid between new after
 
--- all that its partition has were: over any disk, none was passed over
+-- all that its partition has were: over any disk, none was skipped
 pub record AddsEach {H D : Type 0} (hash_of : H → List ℕ → ℕ) (g : Ghosts D) (old : Pass H) (before : D) (new : Pass H) : Type 0 where
   pub last : Pass H
   pub disk : D

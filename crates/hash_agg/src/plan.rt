@@ -167,7 +167,7 @@ impl<'a> Plan<'a> {
         pack_key_of(self.query, row, key)
     }
 
-    /// Makes `states` those of a group of one row. `TapeDamaged` if no group may count a row.
+    /// Makes `states` those of a group of one row. `TapeDamaged` if groups may not count any row.
     pub(crate) fn first_after(
         &self,
         row: &[Value<'_>],
