@@ -474,7 +474,7 @@ impl<H: KeyHash + Drop> GroupTable<H> {
         }
     }
 
-    /// Adds a group where `look_up` says that its key would go: `insert` without another search.
+    /// Adds a group where `look_up` says that its key would go. It is `insert` without another search, and has its error.
     pub fn insert_vacant(
         &mut self,
         tree: &mut Tree,

@@ -111,7 +111,7 @@ pub(crate) fn has_too_many_calls(alloc: Global, raw: &RawQuery) -> Result<bool, 
 }
 
 impl Parts {
-    /// The distinct calls of the items and of HAVING, by the first of each.
+    /// The distinct calls of the items and of HAVING, by the first of each. The only error is a failed allocation.
     pub fn calls(&self, alloc: Global) -> Result<Vec<&AggCall<usize>>, AllocError>
         ensures { IfOk result (λ calls.
             call_forms calls.items ≡ distinct_calls ◌==◌ (written_of_parts self.now)) }

@@ -27,7 +27,7 @@ fn length_of<R: Files>(rt: &R, path: &str) -> Option<u64> {
     }
 }
 
-/// The bytes of a file, if it has at most 67,108,864 of them (64 MiB).
+/// The bytes of a file of at most 67,108,864 bytes (64 MiB). `Unread` has the errors; a longer file is `TooLong`.
 pub fn read_file<R: Files + AllocGlobal>(rt: &R, path: &str) -> Result<Vec<u8>, Unread>
     ensures few { IfOk result (λ bytes. length bytes.items ≤ MAX_INPUT_LEN) }
 {
