@@ -117,7 +117,7 @@ pub fn advance_part<A: Counting>(
     Ok(())
 }
 
-/// Writes the state of the arguments of both, those of `first` first. `BadState` if either is none, or more than `most` rows are counted.
+/// Writes the state of the arguments of both, those of `first` first. `BadState` if either is not a state, or both count too many rows.
 pub fn combine_part<A: Counting>(
     first: &[u8],
     second: &[u8],

@@ -64,7 +64,7 @@ fn first_or_last(tokens: &[Token]) -> Read<'_, Option<bool>>
     Err(ReadError::Unexpected(tokens.len()))
 }
 
-/// Whether nulls come first, if the term says so or denies it.
+/// Whether nulls come first, if the term has NULLS.
 #[tactic(auto, unfolding(query_grammar::specs::Arrangement::nulls_at))]
 fn nulls(tokens: &[Token]) -> Read<'_, Option<bool>>
     ensures read { Gives (λ x. (x.0, lexemes x.1.now)) result (nulls_at (lexemes tokens.now)) }

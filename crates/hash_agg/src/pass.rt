@@ -193,8 +193,8 @@ impl<'q, H: KeyHash + Drop> Pass<'q, H> {
         self.add_selected(disk, packed, row, key, states)
     }
 
-    /// Reads a record of a packed row from a tape. `TapeDamaged` if it is not a row of the query's table, if WHERE isn't true for it,
-    /// or if its hash isn't its key's: only selected rows are spilled. What `buffers` holds doesn't matter.
+    /// Reads a record of a packed row from a tape. `TapeDamaged` if it is not a row of the query's table, if its hash isn't its key's,
+    /// or if WHERE isn't true for it: only selected rows are spilled. What `buffers` holds doesn't matter.
     fn add_row_record<D: TapeDisk>(
         &mut self,
         alloc: Global,

@@ -18,7 +18,7 @@ pub(crate) fn is_null(field: &[u8]) -> bool
     matches!(field, [b'\\', b'N'])
 }
 
-/// Any digits of this number make a number below 2^63.
+/// This many digits, whichever they are, make a number below 2^63.
 const SURE_DIGITS: usize = 18;
 
 /// The number of 1 to 18 digits. Other bytes give none here, and may still be a number.

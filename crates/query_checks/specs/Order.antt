@@ -23,7 +23,7 @@ pub data Target : Type 0 where
   By_name : List ℕ → Target
   By_place : ℤ → Target
 
--- a term: what it names, whether it is descending, and whether nulls come first, if it says so or denies it
+-- a term: what it names, whether it is descending, and whether nulls come first, if it has NULLS
 pub record Term : Type 0 where
   pub target : Target
   pub descending : Bool

@@ -31,7 +31,7 @@ pub enum OrderBy {
 pub struct RawTerm {
     pub target: OrderBy,
     pub descending: bool,
-    /// Whether nulls come first, if the term says so or denies it.
+    /// Whether nulls come first, if the term has NULLS.
     pub nulls_first: Option<bool>,
 }
 
