@@ -2,4 +2,4 @@ pub mod AnswerLaws
 pub mod SavedLaws
 pub mod WorldLaws
 pub mod UnionLaws
-mod SameFiles
+pub mod SameFiles
