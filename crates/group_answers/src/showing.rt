@@ -1,8 +1,8 @@
 //! The rows of an answer, from the groups of a run.
 
-ghost use Rattle.std.specs.Prelude.{◌≡◌, ◌≤◌, ◌++◌, ◌∷◌, ℕ, List, [], map, IfOk, OnOk};
+ghost use Rattle.std.specs.Prelude.{◌≡◌, ◌≤◌, ◌∷◌, ℕ, List, [], map, IfOk, OnOk};
 ghost use Rattle.grouping_model.specs.Datum.{Row, HasKinds};
-ghost use Rattle.grouping_model.specs.Aggregates.{Partial, Plain, outcome};
+ghost use Rattle.grouping_model.specs.Aggregates.{Outcome, Partial, Plain, outcome};
 ghost use Rattle.grouping_model.specs.Grouping.{Group};
 ghost use Rattle.grouping_model.specs.Answer.{outcome_at, answered, rows_of, answer_of};
 ghost use Rattle.packed_rows.specs.Packing.{packing};
@@ -15,6 +15,7 @@ ghost use Rattle.having_filter.specs.Meaning.{meaning};
 ghost use Rattle.having_filter.specs.Plans.{source_of};
 ghost use Rattle.group_runs.specs.Standing.{StandsFor, AreGroups};
 
+use crate::row_sink::RowSink;
 use agg_library::{AggKind, StateRow};
 use agg_protocol::ResultValue;
 use group_runs::{Run, initial_states};
@@ -107,19 +108,20 @@ fn items_of<'r>(
     Ok(())
 }
 
-/// Appends the row of a group, if HAVING is true of the group. What `scratch` holds doesn't matter.
-fn push_group<'r>(
+/// Gives a sink the row of a group, if HAVING is true of the group. What `scratch` holds doesn't matter.
+fn push_group<'r, S: RowSink>(
     query: &Query,
     key: &'r [u8],
     states: &[u8],
     scratch: &mut Scratch<'r>,
-    rows: &mut AnswerRows,
+    rows: &mut S,
 ) -> Result<(), AllocError>
     requires { (most : ℕ) × (group : Group)
         × StandsFor (meaning query.now) most (key.now, states.now) group × (most ≤ most_rows) }
-    ensures { OnOk result ((most : ℕ) (group : Group) → most ≤ most_rows →
+    ensures { OnOk result ((given : List (List Outcome)) × S.took rows.old rows.new given
+        × ((most : ℕ) (group : Group) → most ≤ most_rows →
         StandsFor (meaning query.now) most (key.now, states.now) group →
-        rows.new ≡ rows.old ++ rows_of (meaning query.now) (group ∷ [])) }
+        given ≡ rows_of (meaning query.now) (group ∷ []))) }
 {
     unpack(query, key, &mut scratch.values)?;
     key_values(&scratch.values, &mut scratch.key)?;
@@ -133,36 +135,63 @@ fn push_group<'r>(
         &scratch.results,
         &mut scratch.items,
     )?;
-    rows.push(&scratch.items)
+    rows.push_row(&scratch.items)
 }
 
-/// The rows of an answer without groups. Without GROUP BY there is still one group, of no rows.
-fn rows_of_none(alloc: Global, query: &Query) -> Result<AnswerRows, AllocError>
-    ensures { IfOk result (λ rows. rows ≡ rows_of (meaning query.now) (answered (meaning query.now) [])) }
+/// Gives a sink the rows of an answer without groups. Without GROUP BY there is still one group, of no rows.
+fn rows_of_none<S: RowSink>(alloc: Global, query: &Query, rows: &mut S) -> Result<(), AllocError>
+    ensures { OnOk result (S.took rows.old rows.new
+        (rows_of (meaning query.now) (answered (meaning query.now) []))) }
 {
-    let mut rows = AnswerRows::new(alloc);
     if !query.keys().is_empty() {
-        return Ok(rows);
+        return Ok(());
     }
     let states = initial_states(alloc, query)?;
-    push_group(query, &[], &states, &mut Scratch::new(alloc), &mut rows)?;
-    Ok(rows)
+    push_group(query, &[], &states, &mut Scratch::new(alloc), rows)
 }
 
-/// The rows of the groups of a run, in their order.
-fn rows_of_run(alloc: Global, query: &Query, run: &Run) -> Result<AnswerRows, AllocError>
+/// Gives a sink the rows of the groups of a run, in their order.
+fn rows_of_run<S: RowSink>(
+    alloc: Global,
+    query: &Query,
+    run: &Run,
+    rows: &mut S,
+) -> Result<(), AllocError>
     requires { (most : ℕ) × (groups : List Group)
         × AreGroups (meaning query.now) most run.now groups × (most ≤ most_rows) }
-    ensures { IfOk result (λ rows. (most : ℕ) (groups : List Group) → most ≤ most_rows →
-        AreGroups (meaning query.now) most run.now groups → rows ≡ rows_of (meaning query.now) groups) }
+    ensures { OnOk result ((given : List (List Outcome)) × S.took rows.old rows.new given
+        × ((most : ℕ) (groups : List Group) → most ≤ most_rows →
+        AreGroups (meaning query.now) most run.now groups →
+        given ≡ rows_of (meaning query.now) groups)) }
 {
-    let mut rows = AnswerRows::new(alloc);
     let mut scratch = Scratch::new(alloc);
     for place in 0..run.len() {
         let (key, states) = run.group(place);
-        push_group(query, key, states, &mut scratch, &mut rows)?;
+        push_group(query, key, states, &mut scratch, rows)?;
     }
-    Ok(rows)
+    Ok(())
+}
+
+/// Gives a sink the rows of the answer from the groups of a run, before ORDER BY arranges them: a row of the query's items for each group
+/// for which HAVING is true, in the order of the run. Without GROUP BY there is one group, even over no rows. The only error is a failed
+/// allocation.
+pub fn project_into<S: RowSink>(
+    alloc: Global,
+    query: &Query,
+    run: &Run,
+    rows: &mut S,
+) -> Result<(), AllocError>
+    requires { (most : ℕ) × (groups : List Group)
+        × AreGroups (meaning query.now) most run.now groups × (most ≤ most_rows) }
+    ensures { OnOk result ((given : List (List Outcome)) × S.took rows.old rows.new given
+        × ((most : ℕ) (groups : List Group) → most ≤ most_rows →
+        AreGroups (meaning query.now) most run.now groups →
+        given ≡ rows_of (meaning query.now) (answered (meaning query.now) groups))) }
+{
+    if run.is_empty() {
+        return rows_of_none(alloc, query, rows);
+    }
+    rows_of_run(alloc, query, run, rows)
 }
 
 /// The answer from the groups of a run, arranged as the query says: a row of its items for each group for which HAVING is true. Without
@@ -174,10 +203,7 @@ pub fn finalize_and_project(alloc: Global, query: &Query, run: &Run) -> Result<A
         AreGroups (meaning query.now) most run.now groups →
         answer ≡ answer_of (meaning query.now) groups) }
 {
-    if run.is_empty() {
-        let rows = rows_of_none(alloc, query)?;
-        return Answer::arranged(alloc, rows, query.arrangement());
-    }
-    let rows = rows_of_run(alloc, query, run)?;
+    let mut rows = AnswerRows::new(alloc);
+    project_into(alloc, query, run, &mut rows)?;
     Answer::arranged(alloc, rows, query.arrangement())
 }

@@ -1,6 +1,6 @@
 -- Names and members of objects, one more at a time.
 use Rattle.std.proofs.Common.{◌≡◌, ◌<◌, ◌≤◌, ◌+◌, ◌∙◌, ℕ, List, [], ◌∷◌, ◌++◌, ◌==◌, append_assoc, ap, arith, codes, get_or, length, take}
-use Rattle.std.proofs.Common.{Bool, Some, false, if◌then◌else◌, refl, slice_get, suc, sym, true, zero}
+use Rattle.std.proofs.Common.{Bool, Some, false, if◌then◌else◌, min, refl, slice_get, suc, sym, true, zero}
 use Rattle.std.specs.Prelude.{◌||◌}
 use Rattle.std.proofs.lemmas.List.Folds.{list_any-append}
 use Rattle.std.proofs.lemmas.Option.{none-some, same_Some}
@@ -56,20 +56,20 @@ no_member = ([], Plain Null)
 
 -- an object that is one member longer
 pub longer_object : (names : List (List ℕ)) (row : List Outcome) (n : ℕ) (name : List ℕ) (value : Outcome) (old line new : List ℕ)
-    → n < length names → length names ≡ length row → get_or names n [] ≡ name → get_or row n (Plain Null) ≡ value
+    → n < length names → n < length row → get_or names n [] ≡ name → get_or row n (Plain Null) ≡ value
     → line ≡ old ++ join_by json_member (codes ",") (take n (zip names row))
     → new ≡ line ++ (if n == 0 then [] else codes ",") ++ json_member (name, value)
     → new ≡ old ++ join_by json_member (codes ",") (take (n + 1) (zip names row))
-longer_object names row n name value old line new within same named here is more =
+longer_object names row n name value old line new within beyond named here is more =
     let beside : get_or (zip names row) n no_member ≡ (name, value)
-    = get_or-zip names row n no_member within (omega arith) ∙ ap (λ (x : List ℕ). (x, get_or row n (Plain Null))) named
+    = get_or-zip names row n no_member within beyond ∙ ap (λ (x : List ℕ). (x, get_or row n (Plain Null))) named
     ∙ ap (λ (x : Outcome). (name, x)) here in
     let there : n < length (zip names row) = omega (arith, length-zip names row) in
     longer_line json_member (codes ",") (zip names row) n no_member old line new there is
     (more ∙ ap (λ (member : List ℕ × Outcome). line ++ (if n == 0 then [] else codes ",") ++ json_member member) (sym beside))
 
 -- an object of all its members
-pub whole_object : (names : List (List ℕ)) (row : List Outcome) (n : ℕ) (start line new : List ℕ) → length names ≤ n
+pub whole_object : (names : List (List ℕ)) (row : List Outcome) (n : ℕ) (start line new : List ℕ) → min (length names) (length row) ≤ n
     → line ≡ (start ++ codes "{") ++ join_by json_member (codes ",") (take n (zip names row)) → new ≡ line ++ codes "}\n"
     → new ≡ start ++ json_row names row
 whole_object names row n start line new all is ends =

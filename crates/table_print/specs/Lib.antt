@@ -3,3 +3,5 @@ pub mod Writer
 pub mod Aligned
 pub mod Tsv
 pub mod Json
+pub mod Growing
+pub mod GrowingLaws

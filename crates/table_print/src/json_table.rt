@@ -1,19 +1,23 @@
 //! Answers in JSON, an object a line.
 
-ghost use Rattle.std.specs.Prelude.{All, ◌≡◌, ◌+◌, ◌<◌, ◌++◌, ◌∷◌, ◌==◌, [], length, flat_map, codes, decimal, take, slice_index_or};
-ghost use Rattle.std.specs.Prelude.{if◌then◌else◌, IfOk, OnOk};
+ghost use Rattle.std.specs.Prelude.{All, ◌≡◌, ◌+◌, ◌<◌, ◌++◌, ◌∷◌, ◌==◌, ℕ, List, [], length, map, flat_map, codes, decimal, take};
+ghost use Rattle.std.specs.Prelude.{slice_index_or, if◌then◌else◌, IfOk, OnOk};
 ghost use Rattle.std.specs.List.{list_any};
 ghost use Rattle.std.specs.Str.{bytes_eq};
+ghost use Rattle.grouping_model.specs.Aggregates.{Outcome};
 ghost use Rattle.agg_protocol.specs.Results.{outcome_of};
 ghost use Rattle.packed_rows.specs.View.{bytes_of};
 ghost use Rattle.having_filter.specs.Meaning.{meaning};
 ghost use Rattle.having_filter.specs.Kept.{headers};
+ghost use Rattle.table_print.specs.Growing.{IsJsonTable, Takes};
 ghost use Rattle.table_print.specs.Json.{json_byte, json_letter, json_member, json_names, json_row, json_string, json_text, json_value};
 ghost use Rattle.table_print.specs.Json.{escaped_as, name_of, plain_byte};
 
 use crate::cell::cell;
 use crate::pieces::{hex_digit, push_separator};
+use crate::rows::{one_more, push_answer};
 use agg_protocol::ResultValue;
+use group_answers::RowSink;
 use having_filter::{Answer, Query};
 use itoa::Buffer;
 use std::alloc::{AllocError, Global};
@@ -173,24 +177,78 @@ fn push_member(
     push_value(out, value)
 }
 
-/// Appends the line of a row.
-fn push_row(
+/// Appends the object of a row, whose members are as many as there are names and values for.
+fn push_object(
     out: &mut Vec<u8>,
     names: &[Vec<u8>],
-    answer: &Answer,
-    row: usize,
+    row: &[ResultValue<'_>],
 ) -> Result<(), AllocError>
-    requires in_range { row < length answer.now }
-    requires width { length names.now ≡ length (slice_index_or answer.now row []) }
     ensures { OnOk result (out.new.items
-        ≡ out.old.items ++ json_row (bytes_of names.now) (slice_index_or answer.now row [])) }
+        ≡ out.old.items ++ json_row (bytes_of names.now) (map outcome_of row.now)) }
 {
     out.push(b'{')?;
-    for item in 0..names.len() {
-        push_member(out, item, &names[item], answer.value(row, item))?;
+    for item in 0..names.len().min(row.len()) {
+        push_member(out, item, &names[item], row[item])?;
     }
     out.extend_from_slice(b"}\n")?;
     Ok(())
+}
+
+/// A table in JSON that takes its rows one after another: an object of JSON (RFC 8259) on a line for each row, with a member for each item
+/// of the query, by its header. Null, true and false are these words, texts are strings, and numbers stand in plain decimal, those past
+/// 2^53 too, which some readers round. An item whose header an earlier item has is named by it, a dot and its place, as `sum.3`, the first
+/// place being 1. Each line ends with a line feed, and has no other.
+#[derive(Drop)]
+pub struct JsonTable {
+    /// The names of the members, each as a string of JSON.
+    names: Vec<Vec<u8>>,
+    text: Vec<u8>,
+    /// How many rows there are.
+    rows: usize,
+}
+
+impl JsonTable {
+    /// A table of a query's headers, without rows. The only error is a failed allocation.
+    pub fn new(alloc: Global, query: &Query) -> Result<JsonTable, AllocError>
+        ensures { IfOk result (IsJsonTable (headers query.now) []) }
+    {
+        let names = names_of(alloc, query)?;
+        let text = Vec::new(alloc);
+        let rows = 0;
+        Ok(JsonTable { names, text, rows })
+    }
+
+    /// Writes the object of a row.
+    fn put_row(&mut self, row: &[ResultValue<'_>]) -> Result<(), AllocError>
+        ensures { OnOk result (Takes IsJsonTable self.old self.new (map outcome_of row.now ∷ [])) }
+    {
+        push_object(&mut self.text, &self.names, row)?;
+        self.rows = one_more(self.rows)?;
+        Ok(())
+    }
+
+    /// How many rows the table has, and its text.
+    pub fn finish(self) -> (usize, Vec<u8>)
+        ensures { (headers : List (List ℕ)) (rows : List (List Outcome)) → IsJsonTable headers rows self →
+            (result.0 ≡ length rows) × (result.1.items ≡ json_text headers rows) }
+    {
+        (self.rows, self.text)
+    }
+}
+
+impl RowSink for JsonTable {
+    ghost use Rattle.table_print.specs.Growing.{IsJsonTable, Takes};
+    ghost use Rattle.table_print.specs.GrowingLaws.{none_taken, both_taken};
+
+    ghost took = { Takes IsJsonTable };
+
+    fn push_row(&mut self, row: &[ResultValue<'_>]) -> Result<(), AllocError> {
+        self.put_row(row)
+    }
+
+    ghost none = { none_taken IsJsonTable };
+
+    ghost both = { both_taken IsJsonTable };
 }
 
 /// The answer of a query as objects of JSON (RFC 8259): a line for each row, with a member for each item of the query, by its
@@ -202,10 +260,8 @@ pub fn print_json(alloc: Global, query: &Query, answer: &Answer) -> Result<Vec<u
     requires { All (λ row. length row ≡ length (meaning query.now).items) answer.now }
     ensures { IfOk result (λ text. text.items ≡ json_text (headers query.now) answer.now) }
 {
-    let names = names_of(alloc, query)?;
-    let mut text = Vec::new(alloc);
-    for row in 0..answer.len() {
-        push_row(&mut text, &names, answer, row)?;
-    }
+    let mut table = JsonTable::new(alloc, query)?;
+    push_answer(alloc, answer, &mut table)?;
+    let (_, text) = table.finish();
     Ok(text)
 }

@@ -6,9 +6,10 @@ mod cell;
 mod csv_table;
 mod json_table;
 mod pieces;
+mod rows;
 mod tsv_table;
 
 pub use aligned_table::print_aligned;
-pub use csv_table::print_csv;
-pub use json_table::print_json;
-pub use tsv_table::print_tsv;
+pub use csv_table::{CsvTable, print_csv};
+pub use json_table::{JsonTable, print_json};
+pub use tsv_table::{TsvTable, print_tsv};

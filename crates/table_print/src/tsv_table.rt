@@ -1,15 +1,19 @@
 //! Tables in TSV.
 
-ghost use Rattle.std.specs.Prelude.{All, ◌≡◌, ◌<◌, ◌++◌, ◌∷◌, [], length, flat_map, slice_index_or, IfOk, OnOk};
+ghost use Rattle.std.specs.Prelude.{All, ◌≡◌, ◌++◌, ◌∷◌, ℕ, List, [], length, map, flat_map, IfOk, OnOk};
 ghost use Rattle.std.specs.List.{join_by};
+ghost use Rattle.grouping_model.specs.Aggregates.{Outcome};
 ghost use Rattle.agg_protocol.specs.Results.{outcome_of};
 ghost use Rattle.having_filter.specs.Meaning.{meaning};
 ghost use Rattle.having_filter.specs.Kept.{headers};
+ghost use Rattle.table_print.specs.Growing.{IsTsvTable, Takes};
 ghost use Rattle.table_print.specs.Tsv.{behind_backslash, tsv_byte, tsv_cell, tsv_header, tsv_letter, tsv_row, tsv_text, tsv_value};
 
 use crate::cell::cell;
 use crate::pieces::push_separator;
+use crate::rows::{one_more, push_answer};
 use agg_protocol::ResultValue;
+use group_answers::RowSink;
 use having_filter::{Answer, Query};
 use itoa::Buffer;
 use std::alloc::{AllocError, Global};
@@ -75,16 +79,69 @@ fn push_header(out: &mut Vec<u8>, query: &Query) -> Result<(), AllocError>
 }
 
 /// Appends the line of a row.
-fn push_row(out: &mut Vec<u8>, answer: &Answer, row: usize) -> Result<(), AllocError>
-    requires { row < length answer.now }
-    ensures { OnOk result (out.new.items ≡ out.old.items ++ tsv_row (slice_index_or answer.now row [])) }
+fn push_line(out: &mut Vec<u8>, row: &[ResultValue<'_>]) -> Result<(), AllocError>
+    ensures { OnOk result (out.new.items ≡ out.old.items ++ tsv_row (map outcome_of row.now)) }
 {
-    for item in 0..answer.width(row) {
+    for item in 0..row.len() {
         push_separator(out, item, b"\t")?;
-        push_cell(out, answer.value(row, item))?;
+        push_cell(out, row[item])?;
     }
     out.push(b'\n')?;
     Ok(())
+}
+
+/// A table in PostgreSQL's text format of COPY that takes its rows one after another: a header, then a line for each row, values parted by
+/// tabs. Null shows as `\N`, truth values as `t` and `f`, numbers in plain decimal. In texts a backspace, a tab, a line feed, a vertical
+/// tab, a form feed, a carriage return and a backslash show as `\b`, `\t`, `\n`, `\v`, `\f`, `\r` and `\\`. Each line ends with a line
+/// feed, and has no other.
+#[derive(Drop)]
+pub struct TsvTable {
+    text: Vec<u8>,
+    /// How many rows there are.
+    rows: usize,
+}
+
+impl TsvTable {
+    /// A table of a query's headers, without rows. The only error is a failed allocation.
+    pub fn new(alloc: Global, query: &Query) -> Result<TsvTable, AllocError>
+        ensures { IfOk result (IsTsvTable (headers query.now) []) }
+    {
+        let mut text = Vec::new(alloc);
+        push_header(&mut text, query)?;
+        Ok(TsvTable { text, rows: 0 })
+    }
+
+    /// Writes the line of a row.
+    fn put_row(&mut self, row: &[ResultValue<'_>]) -> Result<(), AllocError>
+        ensures { OnOk result (Takes IsTsvTable self.old self.new (map outcome_of row.now ∷ [])) }
+    {
+        push_line(&mut self.text, row)?;
+        self.rows = one_more(self.rows)?;
+        Ok(())
+    }
+
+    /// How many rows the table has, and its text.
+    pub fn finish(self) -> (usize, Vec<u8>)
+        ensures { (headers : List (List ℕ)) (rows : List (List Outcome)) → IsTsvTable headers rows self →
+            (result.0 ≡ length rows) × (result.1.items ≡ tsv_text headers rows) }
+    {
+        (self.rows, self.text)
+    }
+}
+
+impl RowSink for TsvTable {
+    ghost use Rattle.table_print.specs.Growing.{IsTsvTable, Takes};
+    ghost use Rattle.table_print.specs.GrowingLaws.{none_taken, both_taken};
+
+    ghost took = { Takes IsTsvTable };
+
+    fn push_row(&mut self, row: &[ResultValue<'_>]) -> Result<(), AllocError> {
+        self.put_row(row)
+    }
+
+    ghost none = { none_taken IsTsvTable };
+
+    ghost both = { both_taken IsTsvTable };
 }
 
 /// The answer of a query as a table in PostgreSQL's text format of COPY: a header, then a line for each row, values parted by
@@ -96,10 +153,8 @@ pub fn print_tsv(alloc: Global, query: &Query, answer: &Answer) -> Result<Vec<u8
     requires { All (λ row. length row ≡ length (meaning query.now).items) answer.now }
     ensures { IfOk result (λ text. text.items ≡ tsv_text (headers query.now) answer.now) }
 {
-    let mut text = Vec::new(alloc);
-    push_header(&mut text, query)?;
-    for row in 0..answer.len() {
-        push_row(&mut text, answer, row)?;
-    }
+    let mut table = TsvTable::new(alloc, query)?;
+    push_answer(alloc, answer, &mut table)?;
+    let (_, text) = table.finish();
     Ok(text)
 }

@@ -1,6 +1,7 @@
-use Rattle.std.specs.Prelude.{◌≡◌, ◌≢◌, ◌++◌, ◌∷◌, []}
+use Rattle.std.specs.Prelude.{◌≡◌, ◌≢◌, []}
 use Rattle.std.proofs.Common.{sym, ◌∙◌, ap, subst, arith, rules, tests}
 use Rattle.std.proofs.lemmas.List.{nil_from_length}
+use Rattle.std.proofs.lemmas.Result.{on_ok_weaker}
 use Rattle.grouping_model.specs.Query.{Query}
 use Rattle.grouping_model.specs.Grouping.{Group, partials}
 use Rattle.grouping_model.specs.Parts.{functions}
@@ -11,7 +12,7 @@ use Rattle.group_answers.proofs.ShownLaws.{empty_stands, answered_none}
 use Rattle.group_answers.proofs.showing.rows_of_none.Goals as goal
 
 pub push_group-requires : goal.push_group-requires
-push_group-requires c =
+push_group-requires g c =
     let q : Query = meaning c.args.query.now in
     let none : c.keys.result.now ≡ [] = nil_from_length c.keys.result.now (search (rules, tests)) in (
       0,
@@ -22,19 +23,22 @@ push_group-requires c =
     )
 
 pub returns : goal.returns
-returns c =
+returns g c =
     let q : Query = meaning c.args.query.now in
     let none : c.keys.result.now ≡ [] = nil_from_length c.keys.result.now (search (rules, tests)) in
     let group : Group = ([], partials q []) in
-    let pushed =
-    c.in_ok-push_group.ensures 0 group (omega arith) (empty_stands q c.deref.result.now (sym c.keys.ensures.keys
+    on_ok_weaker c.push_group.result
+    (λ given.
+    let rows = given.2 0 group (omega arith) (empty_stands q c.deref.result.now (sym c.keys.ensures.keys
     ∙ none) (subst (λ b. AreStates (functions q) 0 b (partials q [])) (sym c.deref.ensures.value) c.in_ok-states.ensures)) in
-    pushed
-    ∙ ap (λ rows. rows ++ rows_of q (group ∷ [])) c.new-rows.ensures
-    ∙ ap (λ keys. rows_of q (answered_of_none q keys)) (sym (sym c.keys.ensures.keys ∙ none))
+    subst (g.S.RowSink.took c.args.rows.now c.push_group.new.rows) (rows ∙ ap (λ keys. rows_of q (answered_of_none q keys)) (sym (sym
+    c.keys.ensures.keys ∙ none))) given.1)
+    c.push_group.ensures
 
 pub returns-then-not-is_empty : goal.returns-then-not-is_empty
-returns-then-not-is_empty c =
+returns-then-not-is_empty g c =
     let q : Query = meaning c.args.query.now in
     let some : c.keys.result.now ≢ [] = search (rules, tests) in
-    c.new-rows.ensures ∙ sym (ap (rows_of q) (answered_none q q.keys (subst (λ keys. keys ≢ []) c.keys.ensures.keys some)))
+    subst (g.S.RowSink.took c.args.rows.now c.args.rows.now)
+    (sym (ap (rows_of q) (answered_none q q.keys (subst (λ keys. keys ≢ []) c.keys.ensures.keys some))))
+    (g.met.S.RowSink.none c.args.rows.now)
