@@ -1,3 +1,4 @@
 pub mod RowLaws
+pub mod WriterLaws
 pub mod AlignedLaws
 pub mod JsonLaws

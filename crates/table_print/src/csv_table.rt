@@ -1,57 +1,71 @@
 //! Tables in CSV.
 
-ghost use Rattle.std.specs.Prelude.{All, ◌≡◌, ◌++◌, ◌∷◌, ℕ, List, [], length, map, flat_map, IfOk, OnOk};
-ghost use Rattle.csv.specs.Records.{fields_of, partial_of};
+ghost use Rattle.std.specs.Prelude.{All, ◌≡◌, ◌<◌, ◌-◌, ◌^◌, ◌++◌, ◌∷◌, ℕ, List, [], length, map, flat_map, IfOk, OnOk};
+ghost use Rattle.csv.specs.Writing.{default_writer, writer_setup};
+ghost use Rattle.csv.specs.declared.writer.Writer.{Writer};
+ghost use Rattle.std.specs.declared.alloc.Global.{Global};
+ghost use Rattle.std.specs.declared.vec.Vec.{Vec};
 ghost use Rattle.grouping_model.specs.Aggregates.{Outcome};
 ghost use Rattle.agg_protocol.specs.Results.{outcome_of};
 ghost use Rattle.having_filter.specs.Meaning.{meaning};
 ghost use Rattle.having_filter.specs.Kept.{headers};
 ghost use Rattle.table_print.specs.Growing.{IsCsvTable, Takes};
 ghost use Rattle.table_print.specs.Table.{cell_text, table_text};
-ghost use Rattle.table_print.specs.Writer.{IsBetween, Writes, WritesLine};
+ghost use Rattle.table_print.specs.Writer.{IsBetween, IsWithin, WritesLine};
 
 use crate::cell::cell;
 use crate::rows::{one_more, push_answer};
 use agg_protocol::ResultValue;
-use csv::{ByteRecord, Writer};
+use csv::Writer;
 use group_answers::RowSink;
 use having_filter::{Answer, Query};
 use itoa::Buffer;
 use std::alloc::{AllocError, Global};
 
-/// Appends the items of a row to a record.
-fn push_items(line: &mut ByteRecord, row: &[ResultValue<'_>]) -> Result<(), AllocError>
-    requires empty { fields_of line.old ≡ [] }
-    requires whole { partial_of line.old ≡ [] }
-    ensures { OnOk result (fields_of line.new ≡ map cell_text (map outcome_of row.now)) }
+/// Writes a field of a line.
+fn put_field(writer: &mut Writer<Vec<u8>>, field: &[u8]) -> Result<(), AllocError>
+    ensures { OnOk result ((start : Writer (Vec ℕ Global)) (fields : List (List ℕ)) → length fields < 2 ^ 64 - 1 →
+        IsWithin start writer.old fields → IsWithin start writer.new (fields ++ field.now ∷ [])) }
 {
-    for value in row {
-        line.push_field(cell(&mut Buffer::new(), *value))?;
-    }
-    Ok(())
-}
-
-/// Writes the line of a record.
-fn put_record(writer: &mut Writer<Vec<u8>>, line: &ByteRecord) -> Result<(), AllocError>
-    ensures line { OnOk result (IsBetween writer.old → WritesLine writer.old writer.new (fields_of line.now)) }
-    ensures between { OnOk result (IsBetween writer.old → IsBetween writer.new) }
-{
-    match writer.write_byte_record(line) {
+    match writer.write_field(field) {
         Ok(()) => Ok(()),
         Err(_) => Err(AllocError),
     }
 }
 
-/// Appends the names of the answer's columns to a record.
-fn push_headers(line: &mut ByteRecord, query: &Query) -> Result<(), AllocError>
-    requires empty { fields_of line.old ≡ [] }
-    requires whole { partial_of line.old ≡ [] }
-    ensures { OnOk result (fields_of line.new ≡ headers query.now) }
+/// Ends a line.
+fn end_line(writer: &mut Writer<Vec<u8>>) -> Result<(), AllocError>
+    ensures line { OnOk result ((start : Writer (Vec ℕ Global)) (fields : List (List ℕ)) →
+        IsWithin start writer.old fields → WritesLine start writer.new fields) }
+    ensures between { OnOk result (writer_setup writer.old ≡ default_writer → IsBetween writer.new) }
+{
+    match writer.end_record() {
+        Ok(()) => Ok(()),
+        Err(_) => Err(AllocError),
+    }
+}
+
+/// Writes the line of the query's headers.
+fn put_headers(writer: &mut Writer<Vec<u8>>, query: &Query) -> Result<(), AllocError>
+    ensures line { OnOk result (IsBetween writer.old → WritesLine writer.old writer.new (headers query.now)) }
+    ensures between { OnOk result (IsBetween writer.old → IsBetween writer.new) }
 {
     for item in 0..query.items().len() {
-        line.push_field(query.header(item).as_bytes())?;
+        put_field(writer, query.header(item).as_bytes())?;
     }
-    Ok(())
+    end_line(writer)
+}
+
+/// Writes the line of a row.
+fn put_line(writer: &mut Writer<Vec<u8>>, row: &[ResultValue<'_>]) -> Result<(), AllocError>
+    ensures line { OnOk result (IsBetween writer.old →
+        WritesLine writer.old writer.new (map cell_text (map outcome_of row.now))) }
+    ensures between { OnOk result (IsBetween writer.old → IsBetween writer.new) }
+{
+    for value in row {
+        put_field(writer, cell(&mut Buffer::new(), *value))?;
+    }
+    end_line(writer)
 }
 
 /// A table in CSV that takes its rows one after another: a header, then a line for each row. Null shows as `\N`, truth values as `t` and
@@ -59,8 +73,6 @@ fn push_headers(line: &mut ByteRecord, query: &Query) -> Result<(), AllocError>
 #[derive(Drop)]
 pub struct CsvTable {
     writer: Writer<Vec<u8>>,
-    /// The fields of the line that was written last.
-    line: ByteRecord,
     /// How many rows there are.
     rows: usize,
 }
@@ -71,20 +83,15 @@ impl CsvTable {
         ensures { IfOk result (IsCsvTable (headers query.now) []) }
     {
         let mut writer = Writer::from_writer(Vec::new(alloc));
-        let mut line = ByteRecord::new(alloc);
-        push_headers(&mut line, query)?;
-        put_record(&mut writer, &line)?;
-        let rows = 0;
-        Ok(CsvTable { writer, line, rows })
+        put_headers(&mut writer, query)?;
+        Ok(CsvTable { writer, rows: 0 })
     }
 
     /// Writes the line of a row.
     fn put_row(&mut self, row: &[ResultValue<'_>]) -> Result<(), AllocError>
         ensures { OnOk result (Takes IsCsvTable self.old self.new (map outcome_of row.now ∷ [])) }
     {
-        self.line.clear();
-        push_items(&mut self.line, row)?;
-        put_record(&mut self.writer, &self.line)?;
+        put_line(&mut self.writer, row)?;
         self.rows = one_more(self.rows)?;
         Ok(())
     }
