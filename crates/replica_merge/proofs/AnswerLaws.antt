@@ -14,11 +14,12 @@ use Rattle.replica_merge.specs.Lemmas.Words.{each_weaker, each_both, LAST_ORIGIN
 use Rattle.replica_merge.specs.Lemmas.Words.{origin_rows, known_rows, rows_upto, Checked, meaning, AreGroups, Part, FitsOrigin, Parts}
 use Rattle.replica_merge.specs.Lemmas.Words.{part_at}
 use Rattle.replica_merge.specs.Lemmas.Words.{part_of, told, Held, Fits, IsHeldPart, AreHeldParts, counted_part, brought_by, IsRunAlone}
-use Rattle.replica_merge.specs.Lemmas.Words.{IsShown, IsUnion}
+use Rattle.replica_merge.specs.Lemmas.Words.{IsAnswerOf, IsShown, IsUnion}
 use Rattle.grouping_model.specs.Sorting.{sorted_moves}
 use Rattle.grouping_model.specs.Aggregates.{Outcome}
 use Rattle.grouping_model.specs.Condition.{is_met}
-use Rattle.grouping_model.specs.Order.{comes_before}
+use Rattle.grouping_model.specs.Order.{comes_before, arranged, unarranged}
+use Rattle.grouping_model.specs.OrderLaws.{unordered}
 use Rattle.grouping_model.specs.Answer.{source_in, answered, rows_of, answer_of, answer}
 use Rattle.agg_protocol.specs.States.{most_rows}
 use Rattle.group_runs.specs.Runs.{Entry}
@@ -219,3 +220,39 @@ pub alone_rows : (held : Held) (parts : List (Bor Part)) (run : List Entry) (row
 alone_rows held parts run rows is all alone shown =
     shown_rows held (brought_by parts) run rows is all
     (one_part (meaning held.query) parts run (listed_inputs held.query held.parts (brought_by parts) is all) alone) shown
+
+-- ---- rows that nothing arranges
+
+-- rows that the groups of a run give, before ORDER BY arranges them
+abbrev pub GivenBy : Query → List Entry → List (List Outcome) → Type 0
+GivenBy q run rows = (most : ℕ) (groups : List Group) → most ≤ most_rows → AreGroups q most run groups
+    → rows ≡ rows_of q (answered q groups)
+
+-- where nothing arranges them they are what is shown
+as_given : (q : Query) (run : List Entry) (rows : List (List Outcome)) → q.arrangement ≡ unarranged → GivenBy q run rows → ShownBy q run rows
+as_given q run rows none given =
+    λ most groups low are.
+    let those = rows_of q (answered q groups) in
+    given most groups low are ∙ sym (unordered those) ∙ ap (λ arrangement. arranged arrangement those) (sym none)
+
+-- the answer of a run that unites what all parts bring, and of the only part's
+pub whole_answer : (held : Held) (inputs : List Brought) (run : List Entry) (rows : List (List Outcome))
+    → (meaning held.query).arrangement ≡ unarranged
+    → AreHeldParts held.query held.parts → inputs ≡ map counted_part held.parts → IsUnion (meaning held.query) inputs run
+    → GivenBy (meaning held.query) run rows → IsAnswerOf held rows
+whole_answer held inputs run rows none is all union given =
+    let of : IsOfParts held run = whole_run held inputs run is all union in
+    let shown : ShownBy (meaning held.query) run rows = as_given (meaning held.query) run rows none given in
+    record {
+      width = shown_wide held run rows of shown;
+      shown = shown_rows held inputs run rows is all union shown;
+      of_world = λ world is fits. shown_answer held run rows of shown world fits;
+    }
+
+pub alone_answer : (held : Held) (parts : List (Bor Part)) (run : List Entry) (rows : List (List Outcome))
+    → (meaning held.query).arrangement ≡ unarranged
+    → AreHeldParts held.query held.parts → brought_by parts ≡ map counted_part held.parts → IsRunAlone parts run
+    → GivenBy (meaning held.query) run rows → IsAnswerOf held rows
+alone_answer held parts run rows none is all alone given =
+    whole_answer held (brought_by parts) run rows none is all
+    (one_part (meaning held.query) parts run (listed_inputs held.query held.parts (brought_by parts) is all) alone) given

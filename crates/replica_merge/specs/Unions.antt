@@ -1,18 +1,20 @@
 -- The groups of several origins in one run. All of this is our own.
-use Rattle.std.specs.Prelude.{◌≡◌, List, [], ◌∷◌, map}
+use Rattle.std.specs.Prelude.{◌≡◌, All, List, [], ◌∷◌, length, map}
 use Rattle.std.specs.Borrow.{Bor}
 use Rattle.grouping_model.specs.Datum.{Row}
 use Rattle.grouping_model.specs.Query.{Query}
 use Rattle.grouping_model.specs.Aggregates.{Outcome}
-use Rattle.grouping_model.specs.Answer.{answer_of}
+use Rattle.grouping_model.specs.Answer.{answer, answer_of}
 use Rattle.grouping_model.specs.Grouping.{Group, part}
+use Rattle.grouping_model.specs.World.{World, IsWorld}
+use Rattle.packed_rows.specs.Columns.{kinds}
 use Rattle.packed_rows.specs.ConcatenatedRows.{concatenated}
 use Rattle.group_runs.specs.Runs.{Entry}
 use Rattle.group_runs.specs.Standing.{AreGroups, IsRun}
 use Rattle.hash_agg.specs.Inputs.{Brought, all_rows, AreInputsOf}
 use Rattle.origin_prefix.specs.Parts.{Part}
 use Rattle.having_filter.specs.Meaning.{meaning}
-use Rattle.replica_merge.specs.Replicas.{Held, counted, counted_part}
+use Rattle.replica_merge.specs.Replicas.{Held, Fits, told, counted, counted_part}
 
 -- what a list of parts brings to an answer
 abbrev pub brought_by : List (Bor Part) → List Brought
@@ -37,3 +39,11 @@ pub record IsShown (held : Held) (rows : List (List Outcome)) : Type 0 where
   pub union : IsUnion (meaning held.query) (map counted_part held.parts) run
   pub shown : (groups : List Group) → AreGroups (meaning held.query) (all_rows (map counted_part held.parts)) run groups
       → rows ≡ answer_of (meaning held.query) groups
+
+-- rows are the answer of what is held: each has the query's items, they are those of one run of the groups of all parts, and for each world
+-- that what is held fits they are the query's answer over the unbroken prefixes
+pub record IsAnswerOf (held : Held) (rows : List (List Outcome)) : Type 0 where
+  pub width : All (λ (row : List Outcome). length row ≡ length (meaning held.query).items) rows
+  pub shown : IsShown held rows
+  pub of_world : (world : World) → IsWorld (kinds held.query.columns) world → Fits world held
+      → rows ≡ answer (meaning held.query) world (told held.parts)

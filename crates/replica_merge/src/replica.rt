@@ -1,7 +1,9 @@
 //! What a replica holds, knows and answers.
 
-ghost use Rattle.std.specs.Prelude.{◌≡◌, ℕ, List, None, All, [], map, length, IfOk, OnErr};
+ghost use Rattle.std.specs.Prelude.{◌≡◌, ℕ, List, None, All, [], map, length, IfOk, OnOk, OnErr};
+ghost use Rattle.grouping_model.specs.Aggregates.{Outcome};
 ghost use Rattle.grouping_model.specs.Answer.{answer};
+ghost use Rattle.grouping_model.specs.Order.{unarranged};
 ghost use Rattle.grouping_model.specs.Replies.{InLimits, known_list};
 ghost use Rattle.grouping_model.specs.World.{World, IsWorld};
 ghost use Rattle.packed_rows.specs.Columns.{kinds};
@@ -14,12 +16,12 @@ ghost use Rattle.origin_prefix.specs.Errors.{batch_ended};
 ghost use Rattle.replica_merge.specs.Replicas.{IsPlace, taken_back, part_at, part_of, told, Fits, known_of};
 ghost use Rattle.replica_merge.specs.Replicas.{known_part};
 ghost use Rattle.replica_merge.specs.Results.{DeliversBatch};
-ghost use Rattle.replica_merge.specs.Unions.{IsShown};
+ghost use Rattle.replica_merge.specs.Unions.{IsAnswerOf, IsShown};
 
 use crate::known_origin::KnownOrigin;
 use crate::uniting::{listed, run_alone, united};
 use batch_reader::{Batch, PackedRows};
-use group_answers::finalize_and_project;
+use group_answers::{RowSink, finalize_and_project, project_into};
 use hash_agg::{KeyHash, Means, TapeDisk, Work};
 use having_filter::{Answer, Query};
 use origin_prefix::{Delivered, JoinError, OriginPart, RefusedBatch};
@@ -191,5 +193,23 @@ impl Replica {
         }
         let run = united(self.alloc, &self.query, &parts)?;
         finalize_and_project(self.alloc, &self.query, &run)
+    }
+
+    /// Gives a sink the rows of the answer, where no clause behind HAVING arranges them: those of [`Replica::answer`], one after another. They
+    /// are not kept beside what the sink makes of them.
+    ///
+    /// # Errors
+    ///
+    /// Out of memory. The sink may then have taken some of the rows.
+    pub fn answer_into<S: RowSink>(&self, rows: &mut S) -> Result<(), AllocError>
+        requires { (meaning self.now.query).arrangement ≡ unarranged }
+        ensures { OnOk result ((given : List (List Outcome)) × S.took rows.old rows.new given × IsAnswerOf self.now given) }
+    {
+        let parts = listed(self.alloc, &self.parts)?;
+        if let Some(run) = run_alone(&parts) {
+            return project_into(self.alloc, &self.query, run, rows);
+        }
+        let run = united(self.alloc, &self.query, &parts)?;
+        project_into(self.alloc, &self.query, &run, rows)
     }
 }

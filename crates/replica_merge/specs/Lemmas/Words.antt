@@ -29,4 +29,4 @@ pub use Rattle.replica_merge.specs.Replicas.{AreHeldParts, AsideAt, DeliversAt, 
 pub use Rattle.replica_merge.specs.Replicas.{IsPlace, StandsAside, taken_back}
 pub use Rattle.replica_merge.specs.Replicas.{JoinedAside, JoinsAt, MergeTells, MergesParts, MergesIn, Parts, RefusesAt, batches_of, counted}
 pub use Rattle.replica_merge.specs.Replicas.{counted_part, filled, known_of, known_part, part_at, part_of, told}
-pub use Rattle.replica_merge.specs.Unions.{IsRunAlone, IsShown, IsUnion, brought_by}
+pub use Rattle.replica_merge.specs.Unions.{IsAnswerOf, IsRunAlone, IsShown, IsUnion, brought_by}
