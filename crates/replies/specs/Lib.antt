@@ -1,6 +1,7 @@
 pub mod Refusals
 pub mod Text
 pub mod KnownTables
+pub mod Printed
 pub mod Status
 pub mod Batches
 pub mod QueryLaws

@@ -3,20 +3,23 @@
 ghost use Rattle.std.specs.Prelude.{◌≡◌, All, List, IfOk, length};
 ghost use Rattle.grouping_model.specs.Aggregates.{Outcome};
 ghost use Rattle.grouping_model.specs.Answer.{answer};
+ghost use Rattle.grouping_model.specs.Order.{unarranged};
 ghost use Rattle.grouping_model.specs.Replies.{known_list};
 ghost use Rattle.grouping_model.specs.World.{World, IsWorld};
 ghost use Rattle.having_filter.specs.Meaning.{meaning};
 ghost use Rattle.packed_rows.specs.Columns.{kinds};
 ghost use Rattle.replica_merge.specs.Replicas.{told, Fits};
 ghost use Rattle.replies.specs.KnownTables.{known_in};
+ghost use Rattle.replies.specs.Printed.{PrintsAnswer};
 ghost use Rattle.replies.specs.Text.{origins_text, known_text, text_of};
+ghost use Rattle.replies.specs.declared.showing.Format.TheVariants.{Csv, Tsv, Json};
 
 use crate::known_tables::{list_json, list_tsv};
 use crate::texts::{list_known, list_origins};
 use having_filter::{Answer, Query};
 use replica_merge::Replica;
 use std::alloc::{AllocError, Global};
-use table_print::{print_aligned, print_csv, print_json, print_tsv};
+use table_print::{CsvTable, JsonTable, TsvTable, print_aligned, print_csv, print_json, print_tsv};
 
 /// How a table is written.
 #[derive(Clone, Copy, Debug, PartialEq, Eq)]
@@ -94,6 +97,65 @@ fn print(
     }
 }
 
+/// How many rows a replica's answer has, and its table in a format. The rows are made first, and the table from them.
+fn table_of_rows(
+    alloc: Global,
+    replica: &Replica,
+    format: Format,
+) -> Result<(usize, Vec<u8>), AllocError>
+    ensures { IfOk result (λ found. PrintsAnswer format replica.now found.0 found.1.items) }
+{
+    let answer = replica.answer()?;
+    let text = print(alloc, replica.query(), &answer, format)?;
+    Ok((answer.len(), text))
+}
+
+/// How many rows a replica's answer has that nothing arranges, and its table in CSV, to which the rows go one after another.
+fn csv_table(alloc: Global, replica: &Replica) -> Result<(usize, Vec<u8>), AllocError>
+    requires { (meaning replica.now.query).arrangement ≡ unarranged }
+    ensures { IfOk result (λ found. PrintsAnswer Csv replica.now found.0 found.1.items) }
+{
+    let mut table = CsvTable::new(alloc, replica.query())?;
+    replica.answer_into(&mut table)?;
+    table.finish()
+}
+
+/// The same in TSV.
+fn tsv_table(alloc: Global, replica: &Replica) -> Result<(usize, Vec<u8>), AllocError>
+    requires { (meaning replica.now.query).arrangement ≡ unarranged }
+    ensures { IfOk result (λ found. PrintsAnswer Tsv replica.now found.0 found.1.items) }
+{
+    let mut table = TsvTable::new(alloc, replica.query())?;
+    replica.answer_into(&mut table)?;
+    Ok(table.finish())
+}
+
+/// The same in JSON.
+fn json_table(alloc: Global, replica: &Replica) -> Result<(usize, Vec<u8>), AllocError>
+    requires { (meaning replica.now.query).arrangement ≡ unarranged }
+    ensures { IfOk result (λ found. PrintsAnswer Json replica.now found.0 found.1.items) }
+{
+    let mut table = JsonTable::new(alloc, replica.query())?;
+    replica.answer_into(&mut table)?;
+    Ok(table.finish())
+}
+
+/// How many rows a replica's answer has, and its table in a format. Rows are kept only where ORDER BY sorts them, or an aligned table has to
+/// know the widths of its columns.
+fn printed(alloc: Global, replica: &Replica, format: Format) -> Result<(usize, Vec<u8>), AllocError>
+    ensures { IfOk result (λ found. PrintsAnswer format replica.now found.0 found.1.items) }
+{
+    if !replica.query().order().is_empty() {
+        return table_of_rows(alloc, replica, format);
+    }
+    match format {
+        Format::Csv => csv_table(alloc, replica),
+        Format::Tsv => tsv_table(alloc, replica),
+        Format::Json => json_table(alloc, replica),
+        Format::Aligned => table_of_rows(alloc, replica, format),
+    }
+}
+
 /// How many rows a replica's answer has, and its table. The only error is out of memory.
 pub fn table(
     alloc: Global,
@@ -109,7 +171,5 @@ pub fn table(
     ensures shown { IfOk result (λ found. (rows : List (List Outcome)) × ((found.0 ≡ length rows)
         × (found.1.items ≡ text_of format replica.now.query rows))) }
 {
-    let answer = replica.answer()?;
-    let text = print(alloc, replica.query(), &answer, format)?;
-    Ok((answer.len(), text))
+    printed(alloc, replica, format)
 }
