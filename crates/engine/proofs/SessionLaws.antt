@@ -1,21 +1,10 @@
 -- What a session does, by what its replica does.
-use Rattle.std.specs.Prelude.{◌≡◌, ℕ, List, length, Option, true, Result, Ok, Err, IfOk, OnErr}
-use Rattle.std.specs.declared.alloc.AllocError.{AllocError}
-use Rattle.std.specs.declared.alloc.Global.{Global}
-use Rattle.std.specs.declared.vec.Vec.{Vec}
-use Rattle.grouping_model.specs.Aggregates.{Outcome}
-use Rattle.grouping_model.specs.Answer.{answer}
-use Rattle.grouping_model.specs.World.{World, IsWorld}
+use Rattle.std.specs.Prelude.{◌≡◌, ℕ, List, Option, true, Result, Ok, Err, OnErr}
 use Rattle.grouping_model.specs.declared.delivered.Delivered.{Delivered}
 use Rattle.batch_reader.specs.File.{BatchFile}
-use Rattle.having_filter.specs.Meaning.{meaning}
-use Rattle.packed_rows.specs.Columns.{kinds}
-use Rattle.replica_merge.specs.Replicas.{Held, told, Fits}
-use Rattle.replies.specs.Text.{text_of}
-use Rattle.replies.specs.declared.showing.Format.{Format}
 use Rattle.replies.specs.declared.refusal.Refusal.{Refusal}
 use Rattle.command_replicas.specs.ResultLaws.{feed_same, merge_same}
-use Rattle.engine.specs.Calls.{FeedsSession, MergesSession, MergesFileSession, KeepsMeans, IsTableOf}
+use Rattle.engine.specs.Calls.{FeedsSession, MergesSession, MergesFileSession, KeepsMeans}
 use Rattle.engine.specs.Sessions.{SessionState}
 
 -- two sessions that hold the same by the same means are one
@@ -37,13 +26,3 @@ pub merged_file_same : {T : Type 0} (file : List ℕ) (old new : SessionState) (
     → MergesFileSession file old new result → OnErr result (new ≡ old)
 merged_file_same file old new (Ok done) m = tt
 merged_file_same {T = T} file old new (Err why) m = session_is new old (merge_same {T = T} true file old.held new.held (Err why) m.merges) m.means
-
--- the table of what is held is one of its rows, too
-pub table_of : (format : Format) (held : Held) (result : Result (ℕ × Vec ℕ Global) AllocError)
-    → IfOk result (λ found. (world : World) → IsWorld (kinds held.query.columns) world → Fits world held
-    → (found.0 ≡ length (answer (meaning held.query) world (told held.parts)))
-    × (found.1.items ≡ text_of format held.query (answer (meaning held.query) world (told held.parts))))
-    → IfOk result (λ found. (rows : List (List Outcome)) × ((found.0 ≡ length rows) × (found.1.items ≡ text_of format held.query rows)))
-    → IfOk result (λ found. IsTableOf format held found.0 found.1.items)
-table_of format held (Ok found) table shown = record { table = table; shown = shown }
-table_of format held (Err why) table shown = tt

@@ -1,18 +1,16 @@
 -- What the calls of a session do, each by what a command does. All of this is our own.
-use Rattle.std.specs.Prelude.{◌≡◌, ◌≢◌, ◌<◌, ◌≤◌, ◌⊎◌, ℕ, Bool, true, List, [], length, decimal, Option, Some, None, Result, Ok, Err}
+use Rattle.std.specs.Prelude.{◌≡◌, ◌≢◌, ◌<◌, ◌≤◌, ◌⊎◌, ℕ, true, List, length, decimal, Option, Some, Result, Ok, Err}
 use Rattle.std.specs.Prelude.{IfErr, IsUtf8}
-use Rattle.grouping_model.specs.Aggregates.{Outcome}
 use Rattle.grouping_model.specs.Answer.{answer}
 use Rattle.grouping_model.specs.Replies.{known_list}
-use Rattle.grouping_model.specs.World.{World, IsWorld}
+use Rattle.grouping_model.specs.World.{World}
 pub use Rattle.grouping_model.specs.declared.delivered.Delivered.{Delivered}
 pub use Rattle.grouping_model.specs.declared.delivered.Delivered.TheVariants.{Folded, Early, Known}
 use Rattle.grouping_model.specs.declared.limits.TheConstants.{MAX_INPUT_LEN}
 use Rattle.batch_reader.specs.File.{BatchFile, read_file}
 use Rattle.key_hashes.specs.declared.sip_hash.Seed.{Seed}
 use Rattle.having_filter.specs.Kept.{by_names}
-use Rattle.having_filter.specs.Meaning.{meaning}
-use Rattle.packed_rows.specs.Columns.{kinds, printed}
+use Rattle.packed_rows.specs.Columns.{printed}
 use Rattle.query_checks.specs.Spelling.{spelling}
 use Rattle.hash_agg.specs.Means.{AreMeans}
 use Rattle.hash_agg.specs.declared.means.TheConstants.{MIN_LIMIT, MAX_LIMIT}
@@ -23,7 +21,8 @@ use Rattle.replica_merge.specs.Replicas.{told, Fits}
 pub use Rattle.replica_merge.specs.Replicas.{Held}
 use Rattle.replica_merge.specs.Results.{MergesHeld}
 use Rattle.replies.specs.Refusals.{limit_out_of_range, IsApart}
-use Rattle.replies.specs.Text.{text_of, origins_text}
+use Rattle.replies.specs.Printed.{PrintsAnswer}
+use Rattle.replies.specs.Text.{origins_text}
 use Rattle.replies.specs.declared.refusal.Refusal.TheVariants.{BadCommand, TapeFault, TapeDamaged}
 pub use Rattle.replies.specs.declared.refusal.Refusal.{Refusal}
 pub use Rattle.replies.specs.declared.refusal.Refusal.TheVariants.{NoMemory}
@@ -128,11 +127,8 @@ pub record IsFileOf (held : Held) (file : List ℕ) : Type 0 where
   pub world : (world : World) → Fits world held → file ≡ world_file held.query world (told held.parts)
 
 -- a text is the table of the answer, in a format
-pub record IsTableOf (format : Format) (held : Held) (rows : ℕ) (text : List ℕ) : Type 0 where
-  pub table : (world : World) → IsWorld (kinds held.query.columns) world → Fits world held
-      → (rows ≡ length (answer (meaning held.query) world (told held.parts)))
-      × (text ≡ text_of format held.query (answer (meaning held.query) world (told held.parts)))
-  pub shown : (shown : List (List Outcome)) × ((rows ≡ length shown) × (text ≡ text_of format held.query shown))
+abbrev pub IsTableOf : Format → Held → (rows : ℕ) → (text : List ℕ) → Type 0
+IsTableOf format held rows text = PrintsAnswer format held rows text
 
 -- a text lists what is known, a line for each origin
 abbrev pub IsKnownText : Held → List ℕ → Type 0

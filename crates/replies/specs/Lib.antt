@@ -2,6 +2,7 @@ pub mod Refusals
 pub mod Text
 pub mod KnownTables
 pub mod Printed
+pub mod PrintedLaws
 pub mod Status
 pub mod Batches
 pub mod QueryLaws

@@ -1,14 +1,10 @@
 //! What a replica knows and answers, as text.
 
-ghost use Rattle.std.specs.Prelude.{◌≡◌, All, List, IfOk, length};
-ghost use Rattle.grouping_model.specs.Aggregates.{Outcome};
-ghost use Rattle.grouping_model.specs.Answer.{answer};
+ghost use Rattle.std.specs.Prelude.{◌≡◌, All, IfOk, length};
 ghost use Rattle.grouping_model.specs.Order.{unarranged};
 ghost use Rattle.grouping_model.specs.Replies.{known_list};
-ghost use Rattle.grouping_model.specs.World.{World, IsWorld};
 ghost use Rattle.having_filter.specs.Meaning.{meaning};
-ghost use Rattle.packed_rows.specs.Columns.{kinds};
-ghost use Rattle.replica_merge.specs.Replicas.{told, Fits};
+ghost use Rattle.replica_merge.specs.Replicas.{told};
 ghost use Rattle.replies.specs.KnownTables.{known_in};
 ghost use Rattle.replies.specs.Printed.{PrintsAnswer};
 ghost use Rattle.replies.specs.Text.{origins_text, known_text, text_of};
@@ -140,9 +136,13 @@ fn json_table(alloc: Global, replica: &Replica) -> Result<(usize, Vec<u8>), Allo
     Ok(table.finish())
 }
 
-/// How many rows a replica's answer has, and its table in a format. Rows are kept only where ORDER BY sorts them, or an aligned table has to
-/// know the widths of its columns.
-fn printed(alloc: Global, replica: &Replica, format: Format) -> Result<(usize, Vec<u8>), AllocError>
+/// How many rows a replica's answer has, and its table in a format. For each world that the replica fits, it is the query's answer. Rows are
+/// kept only where ORDER BY sorts them, or an aligned table has to know the widths of its columns. The only error is out of memory.
+pub fn table(
+    alloc: Global,
+    replica: &Replica,
+    format: Format,
+) -> Result<(usize, Vec<u8>), AllocError>
     ensures { IfOk result (λ found. PrintsAnswer format replica.now found.0 found.1.items) }
 {
     if !replica.query().order().is_empty() {
@@ -154,22 +154,4 @@ fn printed(alloc: Global, replica: &Replica, format: Format) -> Result<(usize, V
         Format::Json => json_table(alloc, replica),
         Format::Aligned => table_of_rows(alloc, replica, format),
     }
-}
-
-/// How many rows a replica's answer has, and its table. The only error is out of memory.
-pub fn table(
-    alloc: Global,
-    replica: &Replica,
-    format: Format,
-) -> Result<(usize, Vec<u8>), AllocError>
-    // For each world that the replica fits, it is the query's answer.
-    ensures table { IfOk result (λ found. (world : World) → IsWorld (kinds replica.now.query.columns) world →
-        Fits world replica.now → (found.0 ≡ length (answer (meaning replica.now.query) world (told replica.now.parts)))
-        × (found.1.items ≡ text_of format replica.now.query
-        (answer (meaning replica.now.query) world (told replica.now.parts)))) }
-    // It is the table of some rows.
-    ensures shown { IfOk result (λ found. (rows : List (List Outcome)) × ((found.0 ≡ length rows)
-        × (found.1.items ≡ text_of format replica.now.query rows))) }
-{
-    printed(alloc, replica, format)
 }

@@ -1,18 +1,27 @@
-use Rattle.std.proofs.Common.{◌∙◌, ap, length}
-use Rattle.std.proofs.lemmas.Result.{IfOk-weaker}
-use Rattle.replies.specs.Text.{text_of}
+use Rattle.std.specs.Prelude.{◌≡◌, [], map}
+use Rattle.std.proofs.Common.{◌∙◌, ap, sym, rules, tests}
+use Rattle.std.proofs.lemmas.List.{nil_from_length}
+use Rattle.query_checks.specs.Checks.{Checked}
+use Rattle.having_filter.specs.Meaning.{order_term}
 use Rattle.replies.proofs.showing.table.Goals as goal
 
-pub returns-clause-table : goal.returns-clause-table
-returns-clause-table c =
-    IfOk-weaker c.printed.result _ _
-    (λ found prints world of_columns fits.
-    let same = prints.answers.of_world world of_columns fits in (
-      prints.counted ∙ ap length same,
-      prints.printed ∙ ap (text_of c.args.format c.args.replica.now.query) same,
-    ))
-    c.printed.ensures
+pub csv_table-requires : goal.csv_table-requires
+csv_table-requires c =
+    let none : c.order.result.now ≡ [] = nil_from_length c.order.result.now (search (rules, tests)) in
+    let terms : c.args.replica.now.query.arrangement.order ≡ [] = ap (λ (q : Checked). q.arrangement.order) (sym c.query.ensures)
+    ∙ sym c.order.ensures.order ∙ none in
+    λ i. record { order = map order_term (terms i) }
 
-pub returns-clause-shown : goal.returns-clause-shown
-returns-clause-shown c =
-    IfOk-weaker c.printed.result _ _ (λ found prints. (prints.given, (prints.counted, prints.printed))) c.printed.ensures
+pub tsv_table-requires : goal.tsv_table-requires
+tsv_table-requires c =
+    let none : c.order.result.now ≡ [] = nil_from_length c.order.result.now (search (rules, tests)) in
+    let terms : c.args.replica.now.query.arrangement.order ≡ [] = ap (λ (q : Checked). q.arrangement.order) (sym c.query.ensures)
+    ∙ sym c.order.ensures.order ∙ none in
+    λ i. record { order = map order_term (terms i) }
+
+pub json_table-requires : goal.json_table-requires
+json_table-requires c =
+    let none : c.order.result.now ≡ [] = nil_from_length c.order.result.now (search (rules, tests)) in
+    let terms : c.args.replica.now.query.arrangement.order ≡ [] = ap (λ (q : Checked). q.arrangement.order) (sym c.query.ensures)
+    ∙ sym c.order.ensures.order ∙ none in
+    λ i. record { order = map order_term (terms i) }
