@@ -3,17 +3,22 @@
 
 mod options;
 
-ghost use Rattle.std.specs.Prelude.{◌≤◌, ℕ, List, IfOk};
+ghost use Rattle.std.specs.Prelude.{◌≡◌, ◌≤◌, ℕ, List, IfOk, IfErr};
+ghost use Rattle.std.specs.Io.KnownBytes.{Appends};
 ghost use Rattle.grouping_model.specs.declared.limits.TheConstants.{LAST_ORIGIN};
-ghost use Rattle.packed_rows.specs.Columns.{Column};
-ghost use Rattle.plain_batches.specs.Packed.{PacksPlain};
-ghost use Rattle.command_streams.specs.Stopping.{EndsRefused};
+ghost use Rattle.plain_batches.specs.declared.layout.Layout.{Layout};
+ghost use Rattle.replies.specs.Text.{said_text};
+ghost use Rattle.replies.specs.declared.ending.ExitKind.TheVariants.{BadUsage, Done};
+ghost use Rattle.replies.specs.declared.reply.Reply.TheVariants.{Refused};
+ghost use Rattle.script_io.specs.Fused.{written};
+ghost use Rattle.command_streams.specs.Stopping.{RepliesRefused};
+ghost use Rattle.command_packs.specs.Packing.{pack_refusal, AreOfSummary, IsNotPacked, IsPacked, IsWithoutColumns};
 
 use crate::options::{files_of, head_of, layout_of};
 use batch_reader::BatchError;
 use clap::ArgMatches;
-use command_streams::{Inputs, Problem, Streams, reply_refused};
-use command_words::input_name;
+use command_streams::{Inputs, Problem, Streams, reply_refused, say};
+use command_words::{NUMBER, ORIGIN, input_name, value};
 use file_sentences::summary_reason;
 use pack_sentences::PlainText;
 use packed_rows::Schema;
@@ -27,7 +32,10 @@ use std::rt::Files;
 fn schema_of<'p, R: Files + AllocGlobal, I: Read>(
     inputs: &mut Inputs<'_, R, I>,
     path: &'p str,
-) -> Result<Schema, Problem<'p>> {
+) -> Result<Schema, Problem<'p>>
+    ensures columns { IfOk result AreOfSummary }
+    ensures why { IfErr result (λ problem. IsWithoutColumns problem.why) }
+{
     let alloc = inputs.rt.alloc();
     let file = inputs.read(path)?;
     let subject = input_name(path);
@@ -41,7 +49,9 @@ fn schema_of<'p, R: Files + AllocGlobal, I: Read>(
 }
 
 /// The refusal of a plain CSV. A header that doesn't fit the columns is no schema of theirs.
-fn refusal_of(why: PackError) -> Refusal {
+fn refusal_of(why: PackError) -> Refusal
+    ensures { result ≡ pack_refusal why }
+{
     match why {
         PackError::NoMemory => Refusal::NoMemory,
         PackError::NoHeader
@@ -66,8 +76,8 @@ fn pack<'p, R: Files + AllocGlobal, I: Read>(
 ) -> Result<Vec<u8>, Problem<'p>>
     requires origin { origin ≤ LAST_ORIGIN }
     requires number { 1 ≤ number }
-    ensures { IfOk result (λ file. (columns : List Column) × (csv : List ℕ)
-        × PacksPlain columns layout.entry origin number csv file.items) }
+    ensures packed { IfOk result (λ file. IsPacked layout.entry origin number file.items) }
+    ensures why { IfErr result (λ problem. IsNotPacked layout.entry origin number problem.why) }
 {
     let alloc = inputs.rt.alloc();
     let schema = schema_of(inputs, summary)?;
@@ -88,10 +98,11 @@ fn pack<'p, R: Files + AllocGlobal, I: Read>(
 
 /// Ends a command that stopped.
 fn stop<W: Write, E: Write>(problem: Problem<'_>, streams: &mut Streams<'_, W, E>) -> ExitKind
-    ensures { EndsRefused problem.entry.why result }
+    ensures { RepliesRefused (said_text (Refused problem.entry.why)) (written W.contents streams.old.writer.now)
+        (written W.contents streams.new.writer.now) problem.entry.why result }
 {
     if !problem.is_unread() {
-        streams.say(&problem);
+        say(streams.alloc, streams.errors, &problem);
     }
     reply_refused(streams.writer, problem.why)
 }
@@ -100,7 +111,9 @@ fn stop<W: Write, E: Write>(problem: Problem<'_>, streams: &mut Streams<'_, W, E
 fn end_unread<W: Write, E: Write>(
     problem: &Problem<'_>,
     streams: &mut Streams<'_, W, E>,
-) -> ExitKind {
+) -> ExitKind
+    ensures { result ≡ BadUsage }
+{
     streams.say(problem);
     ExitKind::BadUsage
 }
@@ -110,10 +123,13 @@ pub fn run_pack<R: Files + AllocGlobal, I: Read, W: Write, E: Write>(
     mut inputs: Inputs<'_, R, I>,
     matches: &ArgMatches<'_>,
     streams: &mut Streams<'_, W, E>,
-) -> ExitKind {
+) -> ExitKind
+    ensures { result ≡ Done → (layout : Layout) × (origin number : ℕ) × (file : List ℕ) × IsPacked layout origin number file
+        × Appends (written W.contents streams.old.writer.now) (written W.contents streams.new.writer.now) file }
+{
     let alloc = inputs.rt.alloc();
     let (summary, path) = files_of(matches);
-    let (origin, number) = match head_of(alloc, matches) {
+    let (origin, number) = match head_of(alloc, value(matches, ORIGIN), value(matches, NUMBER)) {
         Ok(head) => head,
         Err(problem) => return end_unread(&problem, streams),
     };

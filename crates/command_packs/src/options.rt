@@ -1,13 +1,14 @@
 //! The options of the command that makes a batch file.
 
-ghost use Rattle.std.specs.Prelude.{◌≤◌, IfOk, IfSome};
-ghost use Rattle.grouping_model.specs.declared.limits.TheConstants.{LAST_ORIGIN};
+ghost use Rattle.std.specs.Prelude.{◌≡◌, ◌≤◌, ℕ, Some, IfOk, IfErr, IfSome, IfNone, OnErr};
+ghost use Rattle.batch_reader.specs.Head.{ReadsOrigin, ReadsBatchNumber};
+ghost use Rattle.replies.specs.declared.refusal.Refusal.TheVariants.{BadCommand};
+ghost use Rattle.script_io.specs.Digits.{number_of};
+ghost use Rattle.command_packs.specs.Options.{delimiter_told};
 
 use clap::ArgMatches;
 use command_streams::{Problem, reason_of};
-use command_words::{
-    DELIMITER, HEADER, IN, NULL, NUMBER, ORIGIN, PLAIN, SKIP_COLUMNS, STREAM, value,
-};
+use command_words::{DELIMITER, HEADER, IN, NULL, PLAIN, SKIP_COLUMNS, STREAM, value};
 use fault_sentences::Quoted;
 use grouping_model::limits::{LAST_NUMBER, LAST_ORIGIN};
 use plain_batches::Layout;
@@ -18,30 +19,43 @@ use std::alloc::{AllocError, Global};
 /// The most digits of an origin or a number, leading zeros included.
 const MAX_DIGITS: usize = 10;
 
-/// The origin that a text tells.
-fn read_origin(text: &str) -> Option<u16>
-    ensures { IfSome result (λ origin. origin ≤ LAST_ORIGIN) }
+/// The least number of a batch.
+const FIRST_NUMBER: u64 = 1;
+
+/// The number that 1 to 10 digits stand for, leading zeros included, if it lies in a range.
+fn read_between(text: &str, least: u64, most: u64) -> Option<u64>
+    ensures found { IfSome result (λ n. (number_of 10 text.now ≡ Some n) × (least ≤ n) × (n ≤ most)) }
+    ensures none { IfNone result ((n : ℕ) → number_of 10 text.now ≡ Some n → least ≤ n → n ≤ most → ⊥) }
 {
-    let origin = read_digits(text.as_bytes(), MAX_DIGITS)?;
-    if origin > u64::from(LAST_ORIGIN) {
+    let number = read_digits(text.as_bytes(), MAX_DIGITS)?;
+    if number < least || number > most {
         return None;
     }
+    Some(number)
+}
+
+/// The origin that a text tells, as the head of a batch does.
+fn read_origin(text: &str) -> Option<u16>
+    ensures found { IfSome result (λ n. ReadsOrigin text.now n) }
+    ensures none { IfNone result ((n : ℕ) → ¬ (ReadsOrigin text.now n)) }
+{
+    let origin = read_between(text, 0, u64::from(LAST_ORIGIN))?;
     Some(origin as u16)
 }
 
-/// The number of a batch that a text tells.
+/// The number of a batch that a text tells, as the head of a batch does.
 fn read_number(text: &str) -> Option<u32>
-    ensures { IfSome result (λ number. 1 ≤ number) }
+    ensures found { IfSome result (λ n. ReadsBatchNumber text.now n) }
+    ensures none { IfNone result ((n : ℕ) → ¬ (ReadsBatchNumber text.now n)) }
 {
-    let number = read_digits(text.as_bytes(), MAX_DIGITS)?;
-    if number < 1 || number > u64::from(LAST_NUMBER) {
-        return None;
-    }
+    let number = read_between(text, FIRST_NUMBER, u64::from(LAST_NUMBER))?;
     Some(number as u32)
 }
 
 /// The byte that a text tells: one of ASCII that is neither in a name or a number nor a quote, or a tab by its name.
-fn read_delimiter(text: &str) -> Option<u8> {
+fn read_delimiter(text: &str) -> Option<u8>
+    ensures { result ≡ delimiter_told text.now }
+{
     match text.as_bytes() {
         b"tab" | b"\\t" => Some(b'\t'),
         [byte] if *byte == b'\t' || byte.is_ascii_punctuation() && *byte != b'"' => Some(*byte),
@@ -50,11 +64,9 @@ fn read_delimiter(text: &str) -> Option<u8> {
 }
 
 /// Why an option is refused.
-fn refused<'p>(
-    alloc: Global,
-    option: &'static str,
-    said: Result<String, AllocError>,
-) -> Problem<'p> {
+fn refused<'p>(alloc: Global, option: &'static str, said: Result<String, AllocError>) -> Problem<'p>
+    ensures { result.why ≡ BadCommand }
+{
     let reason = match said {
         Ok(said) => Ok(reason_of(alloc, Some(said))),
         Err(error) => Err(error),
@@ -67,15 +79,17 @@ pub(crate) fn files_of<'p>(matches: &ArgMatches<'p>) -> (&'p str, &'p str) {
     (value(matches, IN), matches.get_str(PLAIN).unwrap_or(STREAM))
 }
 
-/// The origin and the number of the batch.
+/// The origin and the number of the batch, by the texts of their options.
 pub(crate) fn head_of<'p>(
     alloc: Global,
-    matches: &ArgMatches<'_>,
+    origin: &str,
+    number: &str,
 ) -> Result<(u16, u32), Problem<'p>>
-    ensures origin { IfOk result (λ head. head.0 ≤ LAST_ORIGIN) }
-    ensures number { IfOk result (λ head. 1 ≤ head.1) }
+    ensures origin { IfOk result (λ head. ReadsOrigin origin.now head.0) }
+    ensures number { IfOk result (λ head. ReadsBatchNumber number.now head.1) }
+    ensures none { OnErr result ((o n : ℕ) → ReadsOrigin origin.now o → ReadsBatchNumber number.now n → ⊥) }
+    ensures why { IfErr result (λ problem. problem.why ≡ BadCommand) }
 {
-    let (origin, number) = (value(matches, ORIGIN), value(matches, NUMBER));
     let Some(origin) = read_origin(origin) else {
         let shown = Quoted(origin.as_bytes());
         let said = format!(in alloc; "{shown} is not an origin (0 to {LAST_ORIGIN})");

@@ -1,0 +1,16 @@
+-- The options of `pack`. All of this is our own.
+use Rattle.std.specs.Prelude.{◌==◌, ◌&&◌, ◌||◌, not, Bool, ℕ, List, [], ◌∷◌, Option, Some, None, codes, if◌then◌else◌}
+use Rattle.std.specs.Char.{is_ascii_punctuation}
+use Rattle.std.specs.Str.{bytes_eq}
+
+-- a byte that may stand between fields: a tab (9), or one of ASCII that is neither in a name or a number nor a quote (34)
+abbrev pub is_delimiter : ℕ → Bool
+is_delimiter byte = byte == 9 || (is_ascii_punctuation byte && not (byte == 34))
+
+abbrev pub delimiter_of_one : List ℕ → Option ℕ
+delimiter_of_one (byte ∷ []) = if is_delimiter byte then Some byte else None
+delimiter_of_one text = None
+
+-- the delimiter that a text tells: a tab by its name, or as \t, or else a byte by itself
+abbrev pub delimiter_told : List ℕ → Option ℕ
+delimiter_told text = if bytes_eq text (codes "tab") || bytes_eq text (92 ∷ 116 ∷ []) then Some 9 else delimiter_of_one text

@@ -1,0 +1,58 @@
+-- What `pack` writes, and why it is refused. All of this is our own.
+use Rattle.std.specs.Prelude.{◌≡◌, ◌⊎◌, ℕ, List}
+use Rattle.batch_reader.specs.declared.error.BatchError.TheVariants as batch
+use Rattle.packed_rows.specs.Columns.{Column}
+use Rattle.plain_batches.specs.Packed.{PacksPlain}
+use Rattle.plain_batches.specs.Refusal.{PackFault}
+use Rattle.plain_batches.specs.declared.layout.Layout.{Layout}
+use Rattle.plain_batches.specs.declared.error.PackError.{PackError}
+use Rattle.plain_batches.specs.declared.error.PackError.TheVariants as plain
+use Rattle.replica_merge.specs.Replicas.{Held}
+use Rattle.replica_merge.specs.Results.{IsLoaded}
+use Rattle.replies.specs.declared.error.RunError.TheVariants.{InputTooLong}
+use Rattle.replies.specs.declared.refusal.Refusal.{Refusal}
+use Rattle.replies.specs.declared.refusal.Refusal.TheVariants.{NoMemory, BadSchema, Batch, Run}
+use Rattle.command_replicas.specs.Commands.{IsNoSummary}
+use Rattle.command_streams.specs.Inputs.{IsUnread}
+
+-- the refusal of a plain CSV: a header that does not fit the columns is no schema of theirs, and rows are refused as those of a batch are
+abbrev pub pack_refusal : PackError → Refusal
+pack_refusal plain.NoMemory = NoMemory
+pack_refusal plain.NoHeader = BadSchema
+pack_refusal (plain.UnknownColumn place) = BadSchema
+pack_refusal (plain.MissingColumn column) = BadSchema
+pack_refusal (plain.RepeatedColumn column) = BadSchema
+pack_refusal (plain.WrongWidth row) = Batch (batch.WrongWidth row)
+pack_refusal plain.TooManyRows = Batch batch.TooManyRows
+pack_refusal plain.TooLong = Run InputTooLong
+pack_refusal (plain.BadField row column) = Batch (batch.BadField row column)
+
+-- columns are those of a summary file
+pub record AreOfSummary (columns : List Column) : Type 0 where
+  pub file : List ℕ
+  pub held : Held
+  pub loaded : IsLoaded file held
+  pub same : columns ≡ held.query.columns
+
+-- bytes are the batch file of a plain CSV, by the columns of a summary file
+pub record IsPacked (layout : Layout) (origin number : ℕ) (file : List ℕ) : Type 0 where
+  pub columns : List Column
+  pub of_summary : AreOfSummary columns
+  pub csv : List ℕ
+  pub packs : PacksPlain columns layout origin number csv file
+
+-- why columns are not found: a file is not read, or is no summary
+abbrev pub IsWithoutColumns : Refusal → Type 0
+IsWithoutColumns why = IsUnread why ⊎ ((file : List ℕ) × IsNoSummary file why)
+
+-- a plain CSV is refused by its first fault
+pub record RefusesPlain (layout : Layout) (origin number : ℕ) (why : Refusal) : Type 0 where
+  pub columns : List Column
+  pub csv : List ℕ
+  pub error : PackError
+  pub fault : PackFault columns layout origin number csv error
+  pub named : why ≡ pack_refusal error
+
+-- why there is no batch file
+abbrev pub IsNotPacked : Layout → (origin number : ℕ) → Refusal → Type 0
+IsNotPacked layout origin number why = IsWithoutColumns why ⊎ RefusesPlain layout origin number why
