@@ -154,7 +154,10 @@ uint32_t agg_merge_bytes(agg_slot *slot, const uint8_t *file, size_t file_len);
 
 /* The summary file: at most 67,108,864 bytes, the same from every program that knows the same batches. AGG_INPUT_TOO_LONG. */
 uint32_t agg_save(agg_slot *slot, size_t *wanted);
-/* The table of the answer, in CSV with a header, or in columns below one another, and how many rows it has beside the header. */
+/*
+ * The table of the answer, in CSV with a header, or in columns below one another, and how many rows it has beside the header. Early batches
+ * are not counted. agg_known lists them; the foot that agg_tool puts under its aligned table does not come with it.
+ */
 uint32_t agg_answer(agg_slot *slot, bool aligned, size_t *rows, size_t *wanted);
 /* A line `origin O upto P` for each origin of which something is known, with ` early N ..` after it. */
 uint32_t agg_known(agg_slot *slot, size_t *wanted);
