@@ -23,23 +23,30 @@ pub fn told_numbers()
         IsPartOf query b → Joins honest q a b new → (m : ℕ) → tells new m ≡ (tells a m || tells b m) }
 {}
 
-/// Parts that fit a world still fit it after they take a batch of the world or are joined, and none of this is refused for
-/// disagreement.
-pub fn fitting_parts()
-    ensures delivered { (honest : Bool) → IsTrue honest → (query : Checked) (world : World) (origin number : ℕ) (old new : Part)
+/// A part that fits a world still fits it after it takes a batch of the world.
+pub fn delivered_parts_fit()
+    ensures { (honest : Bool) → IsTrue honest → (query : Checked) (world : World) (origin number : ℕ) (old new : Part)
         (those : List Row) (reply : Delivered) → IsWorld (kinds query.columns) world →
         IsPartOf query old → FitsOrigin (meaning query) world origin old →
         world origin number ≡ Some those →
         Delivers honest (meaning query) old number (packings those) new reply →
         FitsOrigin (meaning query) world origin new }
-    ensures no_other_rows { (query : Checked) (world : World) (origin number : ℕ) (old : Part)
-        (those : List Row) → FitsOrigin (meaning query) world origin old →
-        world origin number ≡ Some those → ¬ (Disagrees old number (packings those)) }
-    ensures joined { (honest : Bool) → IsTrue honest → (query : Checked) (world : World) (origin : ℕ) (a b new : Part) →
+{}
+
+/// Parts that fit a world are joined to one that fits it.
+pub fn joined_parts_fit()
+    ensures { (honest : Bool) → IsTrue honest → (query : Checked) (world : World) (origin : ℕ) (a b new : Part) →
         IsWorld (kinds query.columns) world → FitsOrigin (meaning query) world origin a →
         FitsOrigin (meaning query) world origin b → Joins honest (meaning query) a b new →
         FitsOrigin (meaning query) world origin new }
-    ensures agree { (query : Checked) (world : World) (origin : ℕ) (a b : Part) →
+{}
+
+/// A part that fits a world is not refused for disagreement: neither with a batch of the world, nor with another part that fits it.
+pub fn fitting_parts_agree()
+    ensures batch { (query : Checked) (world : World) (origin number : ℕ) (old : Part)
+        (those : List Row) → FitsOrigin (meaning query) world origin old →
+        world origin number ≡ Some those → ¬ (Disagrees old number (packings those)) }
+    ensures part { (query : Checked) (world : World) (origin : ℕ) (a b : Part) →
         FitsOrigin (meaning query) world origin a → FitsOrigin (meaning query) world origin b →
         ¬ (PartsDisagree a b) }
 {}

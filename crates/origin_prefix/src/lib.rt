@@ -9,5 +9,7 @@ mod part;
 
 pub use error::{JoinError, RefusedBatch};
 pub use grouping_model::Delivered;
-pub use laws::{fitting_parts, told_numbers};
+pub use laws::{
+    delivered_parts_fit, fitting_parts_agree, included_parts, joined_parts_fit, told_numbers,
+};
 pub use part::{OriginPart, most_rows};

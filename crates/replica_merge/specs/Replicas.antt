@@ -22,6 +22,7 @@ use Rattle.origin_prefix.specs.declared.error.RefusedBatch.{RefusedBatch}
 use Rattle.origin_prefix.specs.Joins.{Joins, PartsDisagree, JoinTells, settled}
 use Rattle.origin_prefix.specs.Fitting.{FitsOrigin}
 pub use Rattle.origin_prefix.specs.Held.{Parts, IsHeldPart, AreHeldParts}
+use Rattle.summary_codec.specs.Reading.{IsSaved}
 use Rattle.replica_merge.specs.declared.known_origin.KnownOrigin as code
 use Rattle.replica_merge.specs.declared.error.MergeError.{MergeError}
 use Rattle.replica_merge.specs.declared.error.MergeError.TheVariants.{DifferentQuery, NoMemory, Join}
@@ -65,6 +66,17 @@ abbrev pub MergesParts : (honest : Bool) → Checked → Parts → Parts → Par
 MergesParts honest query old other new = (origin : ℕ) → JoinsAt honest query (part_of old origin) (part_at old origin) (part_at other
     origin)
     (part_at new origin)
+
+-- what is held of a query, and the first of it after it takes in the second
+pub record IsMergeOf (honest : Bool) (query : Checked) (own theirs new : Parts) : Type 0 where
+  pub own_held : AreHeldParts query own
+  pub their_held : AreHeldParts query theirs
+  pub new_held : AreHeldParts query new
+  pub merges : MergesParts honest query own theirs new
+
+-- what is held of a query is saved alike
+abbrev pub SavedAlike : Checked → (one other : Parts) → Type 0
+SavedAlike query one other = (bytes those : List ℕ) → IsSaved bytes query one → IsSaved those query other → bytes ≡ those
 
 -- replicas of a query that fit a world, and the first one after it takes in the second, over an honest disk
 pub record MergesIn (world : World) (query : Checked) (own theirs new : Parts) : Type 0 where

@@ -9,7 +9,7 @@ ghost use Rattle.origin_prefix.specs.declared.error.RefusedBatch.{RefusedBatch};
 ghost use Rattle.agg_protocol.specs.States.{most_rows};
 ghost use Rattle.hash_agg.specs.Inputs.{all_rows};
 ghost use Rattle.having_filter.specs.Kept.{IsCheckedQuery, by_names};
-ghost use Rattle.summary_codec.specs.Reading.{IsSummaryIn, IsSummary, IsSaved};
+ghost use Rattle.summary_codec.specs.Reading.{IsSummaryIn, IsSummary};
 ghost use Rattle.summary_codec.specs.Worlds.{IsWorldFile};
 ghost use Rattle.summary_codec.specs.declared.version.Version.{Version};
 ghost use Rattle.query_checks.specs.Checks.{Checked};
@@ -17,7 +17,7 @@ ghost use Rattle.query_checks.specs.Spelling.{spelling};
 ghost use Rattle.replica_merge.specs.Outcomes.{AfterDelivery, AfterJoin, AfterMerge};
 ghost use Rattle.replica_merge.specs.Results.{DeliversBatch, JoinsReplicas, MergesReplicas};
 ghost use Rattle.replica_merge.specs.declared.error.MergeError.{MergeError};
-ghost use Rattle.replica_merge.specs.Replicas.{Parts, Held, told, Fits, AreHeldParts, MergesParts, MergesIn, counted_part};
+ghost use Rattle.replica_merge.specs.Replicas.{Parts, Held, told, Fits, AreHeldParts, IsMergeOf, MergesIn, SavedAlike, counted_part};
 
 /// What holds after a delivery, by the contract of `deliver`.
 pub fn delivered_batch()
@@ -39,34 +39,31 @@ pub fn merged_replicas()
 
 /// Merging commutes, associates and is idempotent, in what is known.
 pub fn merged_knowledge()
-    ensures commutative { (h i : Bool) (query : Checked) (a b ab ba : Parts) → AreHeldParts query a →
-        AreHeldParts query b → AreHeldParts query ab → AreHeldParts query ba →
-        MergesParts h query a b ab → MergesParts i query b a ba → told ab ≡ told ba }
+    ensures commutative { (h i : Bool) (query : Checked) (a b ab ba : Parts) →
+        IsMergeOf h query a b ab → IsMergeOf i query b a ba → told ab ≡ told ba }
     ensures associative { (h i j k : Bool) (query : Checked) (a b c ab bc left right : Parts) →
-        AreHeldParts query a → AreHeldParts query b → AreHeldParts query c →
-        AreHeldParts query ab → AreHeldParts query bc → AreHeldParts query left →
-        AreHeldParts query right → MergesParts h query a b ab → MergesParts i query ab c left →
-        MergesParts j query b c bc → MergesParts k query a bc right → told left ≡ told right }
-    ensures idempotent { (honest : Bool) (query : Checked) (a aa : Parts) → AreHeldParts query a →
-        AreHeldParts query aa → MergesParts honest query a a aa → told aa ≡ told a }
+        IsMergeOf h query a b ab → IsMergeOf i query ab c left →
+        IsMergeOf j query b c bc → IsMergeOf k query a bc right → told left ≡ told right }
+    ensures idempotent { (honest : Bool) (query : Checked) (a aa : Parts) →
+        IsMergeOf honest query a a aa → told aa ≡ told a }
 {}
 
-/// Replicas that fit one world and know the same batches save the same bytes. So merging commutes, associates and is idempotent in saved
-/// bytes, too.
-pub fn merged_files()
-    ensures same { (world : World) (query : Checked) (a b : Parts) (bytes those : List ℕ) →
-        AreHeldParts query a → AreHeldParts query b →
+/// Replicas that fit one world and know the same batches save the same bytes.
+pub fn same_files()
+    ensures { (world : World) (query : Checked) (a b : Parts) → AreHeldParts query a → AreHeldParts query b →
         Fits world (record { query = query; parts = a }) → Fits world (record { query = query; parts = b }) →
-        told a ≡ told b → IsSaved bytes query a → IsSaved those query b → bytes ≡ those }
-    ensures commutative { (world : World) (query : Checked) (a b ab ba : Parts) (bytes those : List ℕ) →
-        MergesIn world query a b ab → MergesIn world query b a ba →
-        IsSaved bytes query ab → IsSaved those query ba → bytes ≡ those }
-    ensures associative { (world : World) (query : Checked) (a b c ab bc left right : Parts) (bytes those : List ℕ) →
+        told a ≡ told b → SavedAlike query a b }
+{}
+
+/// Merging commutes, associates and is idempotent in saved bytes, too.
+pub fn merged_files()
+    ensures commutative { (world : World) (query : Checked) (a b ab ba : Parts) →
+        MergesIn world query a b ab → MergesIn world query b a ba → SavedAlike query ab ba }
+    ensures associative { (world : World) (query : Checked) (a b c ab bc left right : Parts) →
         MergesIn world query a b ab → MergesIn world query ab c left →
-        MergesIn world query b c bc → MergesIn world query a bc right →
-        IsSaved bytes query left → IsSaved those query right → bytes ≡ those }
-    ensures idempotent { (world : World) (query : Checked) (a aa : Parts) (bytes those : List ℕ) →
-        MergesIn world query a a aa → IsSaved bytes query aa → IsSaved those query a → bytes ≡ those }
+        MergesIn world query b c bc → MergesIn world query a bc right → SavedAlike query left right }
+    ensures idempotent { (world : World) (query : Checked) (a aa : Parts) →
+        MergesIn world query a a aa → SavedAlike query aa a }
 {}
 
 /// The rows that a replica's prefixes may have, of all origins together, are fewer than 2^62, so a state may count them.
@@ -76,14 +73,18 @@ pub fn countable_rows()
 {}
 
 /// The file of a query, a world and what is known of this world, if it is read, is read in either version as the one replica of the query
-/// that fits the world and knows just that. A query's text is UTF-8. A file that is read as a replica is the file, in its version, of the
-/// query, a world and what the replica knows, exactly if the replica fits this world.
-pub fn files_that_fit()
-    ensures loaded { (version : Version) (query : Checked) (world : World) (known : Knowledge) (bytes : List ℕ) (held : Held) →
+/// that fits the world and knows just that. A query's text is UTF-8.
+pub fn loaded_files_fit()
+    ensures { (version : Version) (query : Checked) (world : World) (known : Knowledge) (bytes : List ℕ) (held : Held) →
         IsCheckedQuery query → IsUtf8 (spelling (by_names query)) → IsWorld (kinds query.columns) world →
         IsWorldFile version query world known bytes → IsSummary bytes held.query held.parts →
         (held.query ≡ query) × Fits world held × (told held.parts ≡ known) }
-    ensures exactly { (version : Version) (world : World) (held : Held) (bytes : List ℕ) →
+{}
+
+/// A file that is read as a replica is the file, in its version, of the query, a world and what the replica knows, exactly if the replica
+/// fits this world.
+pub fn files_that_fit()
+    ensures { (version : Version) (world : World) (held : Held) (bytes : List ℕ) →
         IsWorld (kinds held.query.columns) world → IsSummaryIn version bytes held.query held.parts →
         (Fits world held ↔ IsWorldFile version held.query world (told held.parts) bytes) }
 {}

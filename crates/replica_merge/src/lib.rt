@@ -12,8 +12,8 @@ mod uniting;
 pub use error::MergeError;
 pub use known_origin::KnownOrigin;
 pub use laws::{
-    countable_rows, delivered_batch, files_that_fit, joined_replicas, merged_files,
-    merged_knowledge, merged_replicas,
+    countable_rows, delivered_batch, files_that_fit, joined_replicas, loaded_files_fit,
+    merged_files, merged_knowledge, merged_replicas, same_files,
 };
 pub use merging::Joined;
 pub use origin_prefix::{Delivered, JoinError, RefusedBatch};

@@ -56,22 +56,30 @@ pub fn first_example()
     ensures { HasFirstOutput }
 {}
 
-/// The limits, in digits. Definitions and code cite them by their names.
-pub fn limits_in_digits()
+/// The limits of batches, scripts and files, in digits. Definitions and code cite them by their names.
+pub fn batch_limits_in_digits()
     ensures origins { LAST_ORIGIN ≡ 1023 }
     ensures numbers { LAST_NUMBER ≡ 4294967295 }
     ensures rows_of_a_batch { MAX_ROWS ≡ 1048576 }
+    ensures bytes_of_a_text { MAX_TEXT_LEN ≡ 255 }
+    ensures bytes_of_an_input { MAX_INPUT_LEN ≡ 67108864 }
+{}
+
+/// The limits of columns and queries, in digits.
+pub fn query_limits_in_digits()
     ensures columns { MAX_COLUMNS ≡ 32 }
+    ensures bytes_of_a_name { MAX_NAME_LEN ≡ 63 }
     ensures keys { MAX_KEYS ≡ 16 }
     ensures aggregates { MAX_CALLS ≡ 32 }
     ensures items { MAX_ITEMS ≡ 64 }
     ensures bytes_of_a_query { MAX_QUERY_LEN ≡ 16384 }
     ensures depth_of_a_condition { DEEPEST_CONDITION ≡ 64 }
     ensures open_parentheses { MAX_OPEN ≡ 64 }
-    ensures bytes_of_a_name { MAX_NAME_LEN ≡ 63 }
-    ensures bytes_of_a_text { MAX_TEXT_LEN ≡ 255 }
-    ensures bytes_of_an_input { MAX_INPUT_LEN ≡ 67108864 }
-    ensures least_limit { MIN_LIMIT ≡ 65536 }
-    ensures greatest_limit { MAX_LIMIT ≡ 1099511627776 }
-    ensures usual_limit { DEFAULT_LIMIT ≡ 4194304 }
+{}
+
+/// The least, the greatest and the default limit of memory, in bytes.
+pub fn memory_limits_in_digits()
+    ensures least { MIN_LIMIT ≡ 65536 }
+    ensures greatest { MAX_LIMIT ≡ 1099511627776 }
+    ensures default { DEFAULT_LIMIT ≡ 4194304 }
 {}

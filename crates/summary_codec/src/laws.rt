@@ -18,15 +18,19 @@ ghost use Rattle.summary_codec.specs.declared.error.SummaryError.{SummaryError};
 ghost use Rattle.summary_codec.specs.declared.version.Version.{Version};
 ghost use Rattle.summary_codec.specs.declared.version.Version.TheVariants.{First, Second};
 
-/// What a file begins with, and its bounds, by its version. A file is of one version, and what may be held is within the bounds of the
-/// second. What is read from a file of either is written as one of the second, with the same bytes after its opening, and is read again.
-pub fn versions()
+/// What a file begins with, and its bounds, by its version.
+pub fn versions_in_digits()
     ensures first { opening First ≡ codes "AGGSUM01" }
     ensures first_number { last_number First ≡ 2147483647 }
     ensures first_rows { most_batch_rows First ≡ 65536 }
     ensures second { opening Second ≡ codes "AGGSUM02" }
     ensures second_number { last_number Second ≡ 4294967295 }
     ensures second_rows { most_batch_rows Second ≡ 1048576 }
+{}
+
+/// A file is of one version, and what may be held is within the bounds of the second. What is read from a file of either is written as one
+/// of the second, with the same bytes after its opening, and is read again.
+pub fn versions()
     ensures one { (bytes : List ℕ) (version other : Version) (query those : Checked) (held parts : Parts) →
         IsSummaryIn version bytes query held → IsSummaryIn other bytes those parts → version ≡ other }
     ensures within { (query : Checked) (held : Parts) → AreHeldParts query held → AreWithin Second query held }
@@ -36,7 +40,7 @@ pub fn versions()
 {}
 
 /// Each query, with what is held for it, has one spelling in each version whose bounds it keeps, which is read back. Bytes that are read
-/// are such a spelling. Any bytes either have one reading or one first fault, never both and never two. A query's texts are UTF-8.
+/// are such a spelling. A query's texts are UTF-8.
 pub fn one_spelling()
     ensures read_again { (version : Version) (query : Checked) (held : Parts) → IsCheckedQuery query →
         IsUtf8 (printed query.columns) → IsUtf8 (spelling (by_names query)) → AreHeldParts query held →
@@ -44,10 +48,18 @@ pub fn one_spelling()
     ensures spelled { (version : Version) (bytes : List ℕ) (query : Checked) (held : Parts) →
         IsSummaryIn version bytes query held → (bytes ≡ file_in version query held)
         × AreHeldParts query held × AreWithin version query held }
+{}
+
+/// Bytes have at most one reading, and at most one first fault.
+pub fn one_reading()
     ensures one_reading { (bytes : List ℕ) (query other : Checked) (held those : Parts) →
         IsSummary bytes query held → IsSummary bytes other those → (query ≡ other) × (held ≡ those) }
     ensures one_fault { (bytes : List ℕ) (fault other : SummaryError) → HasFault bytes fault →
         HasFault bytes other → fault ≡ other }
+{}
+
+/// Any bytes have a reading or a first fault, and never both.
+pub fn reading_or_fault()
     ensures not_both { (bytes : List ℕ) (query : Checked) (held : Parts) (fault : SummaryError) →
         IsSummary bytes query held → ¬ (HasFault bytes fault) }
     ensures not_neither { (bytes : List ℕ) → ((i : ℕ) → slice_index bytes i < 256) →
@@ -65,8 +77,7 @@ pub fn files_of_the_known()
 {}
 
 /// The file of a query, a world and what is known of this world is a summary file, of the query and of the parts that the world has of
-/// what is known, in each version whose bounds the known batches keep: in the second, each world's batches do. These parts fit the world. A
-/// query's text is UTF-8.
+/// what is known, in each version whose bounds the known batches keep: in the second, each world's batches do. A query's text is UTF-8.
 pub fn files_of_worlds()
     ensures read { (version : Version) (query : Checked) (world : World) (known : Knowledge) (bytes : List ℕ) →
         IsCheckedQuery query → IsUtf8 (spelling (by_names query)) → IsWorld (kinds query.columns) world →
@@ -74,7 +85,11 @@ pub fn files_of_worlds()
         IsSummaryIn version bytes query (world_parts query world known) }
     ensures second { (query : Checked) (world : World) (known : Knowledge) → IsWorld (kinds query.columns) world →
         IsKnownWithin Second world known }
-    ensures fits { (query : Checked) (world : World) (known : Knowledge) → IsCheckedQuery query →
+{}
+
+/// The parts that a world has of what is known of it fit the world.
+pub fn parts_of_worlds()
+    ensures { (query : Checked) (world : World) (known : Knowledge) → IsCheckedQuery query →
         IsWorld (kinds query.columns) world → IsKnownOf world known → (origin : ℕ) →
         FitsOrigin (meaning query) world origin (world_part query world known origin).1 }
 {}

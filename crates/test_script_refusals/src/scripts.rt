@@ -238,8 +238,12 @@ fn try_rooms(
 }
 
 /// What runs of a script meet, where rooms are entered before its commands and when each of its replies goes out.
-fn tallied(alloc: Global, hoard: &mut Hoard, commands: &str) -> Result<Tally, AllocError> {
-    let all = all_wanted(alloc, commands)?;
+fn tallied(
+    alloc: Global,
+    hoard: &mut Hoard,
+    commands: &str,
+    all: &[Wanted],
+) -> Result<Tally, AllocError> {
     let script = script_of(alloc, commands, usize::MAX, usize::MAX)?;
     let mut tally = Tally {
         refused: false,
@@ -247,17 +251,17 @@ fn tallied(alloc: Global, hoard: &mut Hoard, commands: &str) -> Result<Tally, Al
         wrong: false,
     };
     for enter_at in 0..commands.split(';').count() {
-        try_rooms(alloc, hoard, &script, &all, enter_at, &mut tally)?;
+        try_rooms(alloc, hoard, &script, all, enter_at, &mut tally)?;
     }
     Ok(tally)
 }
 
-/// The same in a process of which all memory is taken. Before, the script runs once, after which the stack is as large as it has to be:
-/// it cannot grow where all addresses are taken.
+/// The same in a process of which all memory is taken. The scripts run before, after which the stack is as large as it has to be: it
+/// cannot grow where all addresses are taken.
 fn told(rt: HostRuntime, commands: &str) -> Result<String, Fail> {
-    drop(written_by(rt.alloc(), commands, usize::MAX, usize::MAX)?);
+    let all = all_wanted(rt.alloc(), commands)?;
     let mut hoard = Hoard::new(&rt)?;
-    let tally = tallied(rt.alloc(), &mut hoard, commands);
+    let tally = tallied(rt.alloc(), &mut hoard, commands, &all);
     drop(hoard);
     Ok(format!(in rt.alloc(); "{:?}", tally?)?)
 }

@@ -1,25 +1,10 @@
-use Rattle.std.specs.Prelude.{◌≡◌, refl, true, ℕ, List}
+use Rattle.std.specs.Prelude.{◌≡◌, refl, true}
 use Rattle.std.proofs.Common.{◌∙◌, ap, sym}
-use Rattle.replica_merge.specs.Lemmas.Words.{World, union, Checked, IsSaved, Second, world_file, Parts, told, Fits, AreHeldParts, MergesIn}
+use Rattle.replica_merge.specs.Lemmas.Words.{World, union, Checked, Parts, told, Fits, MergesIn}
 use Rattle.grouping_model.specs.KnowledgeLaws.{union_commutes, union_associates, union_itself}
-use Rattle.summary_codec.specs.Lemmas.SpelledRead.{spelled}
 use Rattle.replica_merge.specs.Lemmas.MergedLaws.{merges_told, merges_fit}
-use Rattle.replica_merge.proofs.SavedLaws.{saved_world}
+use Rattle.replica_merge.proofs.SameFiles.{same_bytes}
 use Rattle.replica_merge.proofs.laws.merged_files.Goals as goal
-
--- a saved file is the world's
-of_world : (world : World) (query : Checked) (parts : Parts) (bytes : List ℕ) → AreHeldParts query parts
-    → Fits world (record { query = query; parts = parts }) → IsSaved bytes query parts
-    → bytes ≡ world_file query world (told parts)
-of_world world query parts bytes held fits is = saved_world (record { query = query; parts = parts }) world bytes held fits
-    (spelled Second bytes query parts is).0
-
--- equal knowledge, equal bytes
-same_bytes : (world : World) (query : Checked) (a b : Parts) (bytes those : List ℕ) → AreHeldParts query a → AreHeldParts query b
-    → Fits world (record { query = query; parts = a }) → Fits world (record { query = query; parts = b })
-    → told a ≡ told b → IsSaved bytes query a → IsSaved those query b → bytes ≡ those
-same_bytes world query a b bytes those is_a is_b fits_a fits_b same one two =
-    of_world world query a bytes is_a fits_a one ∙ ap (world_file query world) same ∙ sym (of_world world query b those is_b fits_b two)
 
 -- what is told after a merge, and that it fits
 told_in : {world : World} {query : Checked} {a b ab : Parts} → MergesIn world query a b ab → told ab ≡ union (told a) (told b)
@@ -31,7 +16,6 @@ fits_in {world} {query} {a} {b} {ab} m = merges_fit true refl query a b ab m.mer
 
 pub returns : goal.returns
 returns c = record {
-  same = same_bytes;
   commutative = λ world query a b ab ba bytes those one two.
       same_bytes world query ab ba bytes those one.new_held two.new_held (fits_in one) (fits_in two) (told_in one
       ∙ union_commutes (told a) (told b) ∙ sym (told_in two));
