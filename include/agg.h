@@ -72,11 +72,12 @@ enum {
  * it, whatever that call returned. Never read, write or copy its fields: a copy of a slot that was closed or used points to freed memory.
  * A slot may be moved while no call uses it.
  *
- * Threads. A slot may move from thread to thread (no proof says so yet). One call at a time may use it: if threads share a slot, take a
- * lock of your own, for calls that only ask, too, since each call takes the summary out of its slot and puts it back. For agg_merge lock
- * both slots, always in one order. So one thread's call ends before another's begins, in the sense of C11. Calls on different slots may
- * run at the same time. No call waits, can be interrupted, takes a lock, starts a thread, or touches a file. None may be made from a
- * signal handler, or in the child of a fork of a process with threads.
+ * Threads. A slot may go from thread to thread, with all that it holds: that is proved. Two calls may never use it at once. Hand it over by
+ * a lock, by the start or the end of a thread, or by a sequentially consistent atomic: so one thread's call ends before another's begins, in
+ * the sense of C11. If threads share a slot, take a lock of your own, for calls that only ask, too, since each call takes the summary out of
+ * its slot and puts it back. For agg_merge lock both slots, always in one order. Calls on different slots may run at the same time. No call
+ * waits, can be interrupted, takes a lock, starts a thread, or touches a file. None may be made from a signal handler, or in the child of a
+ * fork of a process with threads.
  *
  * Pointers. No pointer is null, even if there are no bytes. Except for the two slots of agg_merge, what a call writes overlaps none of its
  * other arguments. Texts are UTF-8 with their length, without a terminating zero. After a status other than AGG_DONE, what a pointer such
