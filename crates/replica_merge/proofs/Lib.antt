@@ -2,3 +2,4 @@ pub mod AnswerLaws
 pub mod SavedLaws
 pub mod WorldLaws
 pub mod UnionLaws
+pub mod SameFiles
