@@ -70,7 +70,7 @@ fn is_total(how_many: u64, total: i128) -> bool
     how_many * i128::from(i64::MIN) <= total && total <= how_many * i128::from(i64::MAX)
 }
 
-/// Writes a number of 128 bits, as two of 64: so it takes two moves, and not one a byte.
+/// Writes a number of 128 bits as two of 64. So it takes two moves, and not one for each byte.
 fn write_halves(bits: u128, bytes: &mut [u8])
     requires { length bytes.old ≡ 16 }
     ensures { bytes.new ≡ bytes_high_first 16 bits }

@@ -1,4 +1,4 @@
-//! The functions that make one number of two: the least, the greatest, and the operations on bits
+//! The functions that combine two numbers to one: the least, the greatest, and the operations on bits
 //! (PostgreSQL 17, 9.21 Aggregate Functions).
 
 ghost use Rattle.std.specs.Prelude.{refl};

@@ -1,4 +1,4 @@
-//! The values of which a function makes one of two: numbers of 64 bits, and truth values.
+//! The values of which a function combines two to one: numbers of 64 bits, and truth values.
 
 ghost use Rattle.std.specs.Prelude.{◌≡◌, ℕ, [], length, Option, Some, None, IfOk, OnErr};
 ghost use Rattle.grouping_model.specs.Aggregates as model;
@@ -13,7 +13,7 @@ use crate::codec::{read_number, read_truth, write_number, write_truth};
 use agg_protocol::{BadState, ResultValue};
 use packed_rows::Value;
 
-/// What functions take that make one value of two. A state is such a value, or `None` where there was none.
+/// What functions take that combine two values to one. A state is such a value, or `None` if there was none.
 pub trait Operand: Copy {
     // What the states hold.
     ghost shape: { Shape };
@@ -45,16 +45,16 @@ pub trait Operand: Copy {
     ///
     /// # Errors
     ///
-    /// `BadState` if the bytes are those of none.
+    /// `BadState` if the bytes are not a state.
     fn read(bytes: &[u8]) -> Result<Option<Self>, BadState>
         ensures ok { IfOk result (λ state. Denotes most_rows shape bytes.now (denoted state)) }
         ensures err { OnErr result ((p : Partial) → ¬ (Denotes most_rows shape bytes.now p)) };
 
-    /// The operand as a function's answer.
+    /// The operand as a function's result.
     fn answer(self) -> ResultValue<'static>
         ensures { outcome_of result ≡ outcome (denoted (Some self)) };
 
-    // The state before any argument denotes nothing, and its answer is null.
+    // The state before any argument denotes nothing, and its result is null.
     ghost first: { (function : Function) → shape_of function ≡ shape →
         denoted None ≡ model.partial function [] };
 

@@ -16,11 +16,11 @@ use packed_rows::Value;
 
 /// An aggregate whose states say how many rows they count.
 pub trait Counting: Aggregate {
-    /// How many rows a state counts, or 0 where it counts none.
+    /// How many rows a state counts, or 0 if it counts none.
     fn rows(state: &Self::State) -> u64
         ensures { result ≡ rows_of (Self.denoted state.now) };
 
-    /// How many rows a state counts after one more argument, or 0 where it counts none.
+    /// How many rows a state counts after one more argument, or 0 if it counts none.
     fn rows_after(state: &Self::State, value: Value<'_>) -> u64
         requires { Takes Self.function (datum_of value) }
         ensures { result
@@ -50,7 +50,7 @@ pub fn read_part<A: Counting>(part: &[u8], most: u64) -> Result<A::State, BadSta
     Ok(state)
 }
 
-/// Checks that the bytes are those of a state that counts at most `most` rows. Others are `BadState`.
+/// Checks that the bytes are a state that counts at most `most` rows. Others are `BadState`.
 pub fn check_part<A: Counting>(part: &[u8], most: u64) -> Result<(), BadState>
     requires { most ≤ most_rows }
     ensures ok { OnOk result ((p : Partial) × Denotes most (shape_of A.function) part.now p) }
@@ -61,7 +61,7 @@ pub fn check_part<A: Counting>(part: &[u8], most: u64) -> Result<(), BadState>
     Ok(())
 }
 
-/// The answer of the state in the bytes.
+/// The result of the state in the bytes.
 pub fn finish_part<A: Aggregate>(part: &[u8]) -> ResultValue<'static>
     requires { (p : Partial) × Denotes most_rows (shape_of A.function) part.now p }
     ensures { (p : Partial) → Denotes most_rows (shape_of A.function) part.now p →
@@ -91,7 +91,7 @@ fn join<A: Counting>(a: A::State, b: A::State, most: u64) -> Result<A::State, Ba
     Ok(A::combine(a, b))
 }
 
-/// Moves the state in the bytes on by one row, whose value reaches the aggregate or not. At an error nothing changes.
+/// Moves the state in the bytes on by one row, whose value reaches the aggregate or not. An error changes nothing.
 pub fn advance_part<A: Counting>(
     part: &mut [u8],
     reach: Option<Value<'_>>,
@@ -117,7 +117,7 @@ pub fn advance_part<A: Counting>(
     Ok(())
 }
 
-/// Writes the state of the arguments of both, those of `first` first, where it counts at most `most` rows.
+/// Writes the state of the arguments of both, those of `first` first. `BadState` if either is not a state, or both count too many rows.
 pub fn combine_part<A: Counting>(
     first: &[u8],
     second: &[u8],

@@ -1,4 +1,4 @@
-//! The functions that make one value of two, as a reduction of all values (PostgreSQL 17, 9.21 Aggregate Functions).
+//! The functions that combine two values to one, as a reduction of all values (PostgreSQL 17, 9.21 Aggregate Functions).
 
 ghost use Rattle.std.proofs.Common.{ap, sym, ◌∙◌};
 ghost use Rattle.std.specs.Prelude.{◌≡◌};
@@ -12,7 +12,7 @@ use agg_protocol::{Aggregate, BadState, ResultValue};
 use packed_rows::Value;
 use std::marker::PhantomData;
 
-/// What a function makes of two values.
+/// How a function combines two values.
 pub trait Operation {
     /// The values that it takes.
     type Of: Operand;
@@ -38,7 +38,7 @@ fn joined<O: Operation>(a: Option<O::Of>, b: Option<O::Of>) -> Option<O::Of>
     }
 }
 
-/// What an operation makes of all the values. A state is the value so far, or `None` where there was none.
+/// An operation over all the values. A state is the value so far, or `None` if there was none.
 pub struct Reduction<O> {
     operation: PhantomData<O>,
 }

@@ -45,8 +45,8 @@ macro_rules! at_kind {
     };
 }
 
-/// The calls on rows of states. A row has the states of some aggregates, one after the other with nothing between, and
-/// stands for as many partial results. No call takes memory.
+/// The calls on rows of states. A row has the states of some aggregates, one after the other with nothing between. It
+/// denotes one partial result for each aggregate. No call takes memory.
 pub struct StateRow;
 
 impl StateRow {
@@ -69,14 +69,14 @@ impl StateRow {
     }
 
     /// Moves the state of one aggregate on by one row (PostgreSQL 17, CREATE AGGREGATE: `sfunc` is called for each input
-    /// row; 4.2.7: FILTER says which rows those are). `reach` is the row's argument, or `None` where the filter keeps
-    /// the row away. The argument is null or of the kind that the function takes (`AggKind::argument`); where it takes
-    /// any, or each row, any value will do.
+    /// row; 4.2.7: FILTER says which rows those are). `reach` is the row's argument, or `None` if the filter excludes
+    /// the row. The argument is null or of the kind that the function takes (`AggKind::argument`); if it takes any
+    /// kind, or each row, any value will do.
     ///
     /// # Errors
     ///
-    /// `BadState` if the bytes are those of no state that counts at most `most` rows, or if the state after the row
-    /// would count more. The bytes are then as they were.
+    /// `BadState` if the bytes are not a state that counts at most `most` rows, or if the state after the row would
+    /// count more. The bytes are then as they were.
     pub fn advance(
         kind: AggKind,
         part: &mut [u8],
@@ -96,8 +96,8 @@ impl StateRow {
         at_kind!(kind, advance_part(part, reach, most))
     }
 
-    /// The answer of one aggregate (PostgreSQL 17, CREATE AGGREGATE: `finalfunc`). The bytes are
-    /// those of one of its states.
+    /// The result of one aggregate (PostgreSQL 17, CREATE AGGREGATE: `finalfunc`). The bytes are
+    /// one of its states.
     pub fn finish(kind: AggKind, part: &[u8]) -> ResultValue<'static>
         requires { (p : Partial) × states.Denotes most_rows (kind_shape kind) part.now p }
         ensures { (p : Partial) → states.Denotes most_rows (kind_shape kind) part.now p →
@@ -118,7 +118,7 @@ impl StateRow {
         }
     }
 
-    /// Checks that the bytes are those of a row of states that count at most `most` rows each.
+    /// Checks that the bytes are a row of states that count at most `most` rows each.
     ///
     /// # Errors
     ///
@@ -156,7 +156,7 @@ impl StateRow {
     ///
     /// # Errors
     ///
-    /// `BadState` if either row is none of states that count at most `most` rows each, or if a state of both would
+    /// `BadState` if either is not a row of states that count at most `most` rows each, or if a combined state would
     /// count more. The bytes of `into` are then as they were.
     pub fn combine_into(
         kinds: &[AggKind],
@@ -233,8 +233,8 @@ impl StateRow {
     }
 }
 
-/// A row's part denotes the partial result at its place, and writing one part anew changes the partial result at that
-/// place alone.
+/// The part of a row at a place denotes the partial result at that place. Writing one part anew changes the partial
+/// result at its place alone.
 pub fn parts_of_rows()
     ensures read { (most : ℕ) (kinds : List AggKind) (row : List ℕ) (ps : List Partial) (i : ℕ)
         (kind : AggKind) (p : Partial) →

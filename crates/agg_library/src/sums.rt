@@ -44,7 +44,7 @@ impl Total {
     }
 }
 
-/// `sum(x)`: the exact sum of the numbers. It is null where there is none.
+/// `sum(x)`: the exact sum of the numbers. It is null if there is none.
 pub struct Sum;
 
 impl Aggregate for Sum {

@@ -1,4 +1,4 @@
-//! The functions that make one truth value of two: whether all are true, and whether one is
+//! The functions that combine two truth values to one: whether all are true, and whether one is
 //! (PostgreSQL 17, 9.21 Aggregate Functions).
 
 ghost use Rattle.std.specs.Prelude.{refl};

@@ -3,7 +3,7 @@ use Rattle.grouping_model.specs.Datum.{Datum, HasKind}
 use Rattle.grouping_model.specs.Aggregates.{Function}
 use Rattle.agg_protocol.specs.Signatures.{Argument, Each_row, Any_value, Values_of, signature}
 
--- a value that stands for an argument: any, or one that a column of the kind can have, null among them
+-- a value of an argument: any value, or one that a column of the kind can have, null among them
 abbrev pub IsArgument : Argument → Datum → Type 0
 IsArgument Each_row value = Unit {0}
 IsArgument Any_value value = Unit {0}

@@ -35,7 +35,7 @@ pub enum AggKind {
     Every,
 }
 
-/// What a function's parentheses take.
+/// What a function takes between its parentheses.
 #[derive(Clone, Copy, PartialEq, Eq)]
 pub enum Argument {
     /// `*`: each row.
@@ -51,7 +51,7 @@ pub enum Argument {
 pub struct Signature {
     /// Its name in a query, and the name of its result's column.
     pub name: &'static str,
-    /// What its parentheses take.
+    /// What it takes between its parentheses.
     pub argument: Argument,
     /// The kind of its result, a numeric counting as a bigint.
     pub result: ValueKind,
@@ -112,7 +112,7 @@ impl AggKind {
         self.signature().name
     }
 
-    /// What the function's parentheses take.
+    /// What the function takes between its parentheses.
     pub fn argument(self) -> Argument
         ensures { argument_of result ≡ (signature (function_of self)).argument }
     {
@@ -140,7 +140,7 @@ impl AggKind {
         first_named(&AggKind::ALL, name)
     }
 
-    /// Whether this is the function's name, and it takes values and not rows.
+    /// Whether this is the function's name, and the function takes values and not rows.
     fn is_named(self, name: &str) -> bool
         ensures { result ≡ is_named name.now (function_of self) }
     {

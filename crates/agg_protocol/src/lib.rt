@@ -21,7 +21,7 @@ pub use crate::kind::{AggKind, Argument, Signature, all_functions};
 use packed_rows::Value;
 use thiserror::Error;
 
-/// The bytes are those of no state, or the state would count more rows than it may.
+/// The bytes are not a state, or the state would count more rows than it may.
 #[derive(Error, Debug, Clone, Copy, PartialEq, Eq, Drop)]
 #[error("the bytes are not a state of the aggregate")]
 pub struct BadState;
@@ -29,7 +29,7 @@ pub struct BadState;
 /// The result of an aggregate function (PostgreSQL 17, 9.21 Aggregate Functions).
 #[derive(Clone, Copy, Debug, PartialEq, Eq)]
 pub enum ResultValue<'a> {
-    /// Null: the result of every function but the counts, where it had no argument.
+    /// Null: the result of every function but the counts, if no argument was other than null.
     Null,
     /// A number of 64 bits.
     Bigint(i64),
@@ -37,11 +37,11 @@ pub enum ResultValue<'a> {
     Numeric(i128),
     /// A truth value.
     Boolean(bool),
-    /// A text, which it borrows. No aggregate function answers one, but a key beside the answers may be one.
+    /// A text, which it borrows. No aggregate function returns one, but a key beside the results may be one.
     Text(&'a str),
 }
 
-/// A value as it stands beside answers.
+/// A value as it stands beside results.
 impl<'a> From<Value<'a>> for ResultValue<'a> {
     ghost use Rattle.grouping_model.specs.Aggregates.{Plain};
 
@@ -80,7 +80,7 @@ pub trait Aggregate {
     fn init() -> Self::State
         ensures { denoted result ≡ model.partial function [] };
 
-    /// The state after one more argument (`sfunc`). Every function but `count(*)` passes over a null, as a strict
+    /// The state after one more argument (`sfunc`). Every function but `count(*)` skips a null, as a strict
     /// `sfunc` does. The argument is null or of the function's argument kind, and the state after it counts at most
     /// 2^62 - 1 rows.
     fn transition(state: Self::State, value: Value<'_>) -> Self::State
@@ -110,14 +110,14 @@ pub trait Aggregate {
     ///
     /// # Errors
     ///
-    /// `BadState` if the bytes are those of no state.
+    /// `BadState` if the bytes are not a state.
     fn deserialize(bytes: &[u8]) -> Result<Self::State, BadState>
         ensures ok { IfOk result
             (λ state. Denotes most_rows (shape_of function) bytes.now (denoted state)) }
         ensures err { OnErr result
             ((p : Partial) → ¬ (Denotes most_rows (shape_of function) bytes.now p)) };
 
-    /// The function's answer (`finalfunc`).
+    /// The function's result (`finalfunc`): the state finalized.
     fn finish(state: &Self::State) -> ResultValue<'static>
         ensures { outcome_of result ≡ outcome (denoted state.now) };
 
@@ -166,8 +166,8 @@ pub fn moving()
         combining.combine function p (model.partial function (value ∷ [])) }
 {}
 
-/// Bytes denote at most one partial result of a shape, and have its width. So `deserialize` undoes `serialize`, and no
-/// other bytes are read as that state.
+/// Bytes denote at most one partial result of a shape, and have its width. So `deserialize` undoes `serialize`, and
+/// reads no other bytes as that state.
 #[tactic(auto, using(crate::specs::DenotingLaws::width_known))]
 pub fn spelling()
     ensures one { (most : ℕ) (shape : Shape) (bytes : List ℕ) (p q : Partial) → most ≤ most_rows →

@@ -87,7 +87,7 @@ one_of-distinct (key ∷ keys) x =
           ∙ one_of-distinct keys x
     ] refl
 
--- ---- a front, and what is after it
+-- ---- a prefix, and what is after it
 pub same_key_turned : (x y : Key) (b : Bool) → same_key x y ≡ b → same_key y x ≡ b
 same_key_turned x y true e = subst (λ z. same_key z x ≡ true) (same_key-is x y e) (same_key_itself x)
 same_key_turned x y false e = false_from_ne_true (same_key y x)
@@ -115,7 +115,7 @@ none_behind (x ∷ xs) rest (here, apart) = both rest (each_behind (λ y. same_k
     both [] first later = tt
     both (y ∷ ys) (miss, first) (none, later) = (ap (λ b. b || is_one_of xs y) (same_key_turned x y false miss) ∙ none, both ys first later)
 
--- of distinct keys, those that are not in a front are those after it
+-- of distinct keys, those that are not in a prefix are those after it
 pub not_in_front : (front rest : List Key) → IsDistinct same_key (front ++ rest) → filter (λ key. not (is_one_of front key)) (front ++ rest)
     ≡ rest
 not_in_front front rest apart =

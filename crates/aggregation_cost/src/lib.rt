@@ -4,9 +4,9 @@
 //! `specs/Space.antt` says what a table needs for some keys, `specs/Passes.antt` which keys a pass takes and which passes
 //! follow from it, and `specs/Cost.antt` what these cost. The functions here have no code: each contract is a law.
 //!
-//! Counted are the blocks of memory contexts that hold the buckets, the keys and the states of one table, of which there is
-//! one at a time. Nothing is promised of other memory: of the bytes of what is answered, of tapes, and of what is kept
-//! outside of blocks, such as 24 bytes for each group of a table.
+//! The blocks of memory contexts that hold the buckets, the keys and the states of a table are counted. There is one table
+//! at a time. Nothing is promised of other memory: of the bytes of an answer, of tapes, and of what is kept outside of
+//! blocks, such as 24 bytes for each group of a table.
 #![tactic(auto)]
 
 mod examples;

@@ -15,18 +15,18 @@ pub record FileHead : Type 0 where
   pub number : List ℕ
   pub told : ℕ
 
--- what four fields say as the head of a batch file
+-- what four fields say as the header of a batch file
 abbrev pub told_by : List ℕ → List ℕ → List ℕ → List ℕ → Option FileHead
 told_by word origin number rows =
     if bytes_eq word (codes "batch") then option_map (λ told. record { origin = origin; number = number; told = told }) (row_count rows)
     else None
 
--- what a record says as the head of a batch file
+-- what a record says as the header of a batch file
 unfoldable pub file_head : Record → Option FileHead
 file_head (word ∷ origin ∷ number ∷ rows ∷ []) = told_by word origin number rows
 file_head fields = None
 
--- a batch file: its head, and the records after it
+-- a batch file: its header, and the records after it
 pub record BatchFile : Type 0 where
   pub head : FileHead
   pub records : List Record
@@ -39,7 +39,7 @@ batch_file (first ∷ rest) = option_map (λ head. record { head = head; records
 abbrev pub read_file : List ℕ → Option BatchFile
 read_file bytes = batch_file (csv.records_of bytes)
 
--- the error of a batch file, unless memory ran out: its head is bad, or else the error of its batch
+-- the error of a batch file, unless memory ran out: its header is bad, or else the error of its batch
 abbrev pub FileFault : List Kind → Option BatchFile → BatchError → Type 0
 FileFault kinds file NoMemory = Unit {0}
 FileFault kinds None BadBatchHead = Unit {0}

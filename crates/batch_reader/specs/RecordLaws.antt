@@ -7,7 +7,7 @@ use Rattle.grouping_model.specs.declared.limits.TheConstants.{MAX_ROWS}
 use Rattle.packed_rows.specs.FieldLaws.{read_kinds}
 use Rattle.batch_reader.specs.Rows.{ArePackedRows, ReadsRows, packings}
 
--- the rows that records stand for have the kinds of the columns
+-- the rows of records have the kinds of the columns
 rows_of_kinds : (kinds : List Kind) (records : List (List (List ℕ))) (rows : List Row) → ReadsRows kinds records rows
     → AllByRecursion (HasKinds kinds) rows
 rows_of_kinds kinds [] [] reads = tt

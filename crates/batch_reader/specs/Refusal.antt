@@ -1,4 +1,4 @@
--- When a batch is refused, and by which refusal. All of this is our own.
+-- When a batch is refused, and with which error. All of this is our own.
 use Rattle.std.specs.Prelude.{◌≡◌, ◌≢◌, ℕ, ◌<◌, ◌≤◌, List, length, take, slice_index_or, []}
 use Rattle.grouping_model.specs.declared.limits.TheConstants.{MAX_ROWS}
 use Rattle.grouping_model.specs.Datum.{Kind, Row}
@@ -15,7 +15,7 @@ RecordFault kinds place fields (WrongWidth row) = (row ≡ place) × (length fie
 RecordFault kinds place fields (BadField row column) = (row ≡ place) × (length fields ≡ length kinds) × IsLeftmostBad kinds fields column
 RecordFault kinds place fields error = ⊥
 
--- the error of records, unless memory ran out: that of the first record that stands for no row
+-- the error of records, unless memory ran out: that of the first record that is not a row of the schema
 pub record FirstFault (kinds : List Kind) (records : List (List (List ℕ))) (error : BatchError) : Type 0 where
   pub place : ℕ
   pub within : place < length records
@@ -26,14 +26,14 @@ abbrev pub RowsFault : List Kind → List (List (List ℕ)) → BatchError → T
 RowsFault kinds records NoMemory = Unit {0}
 RowsFault kinds records error = FirstFault kinds records error
 
--- the head of a batch is right
+-- the header of a batch is right
 pub record HeadReads (origin number : List ℕ) : Type 0 where
   pub origin_value : ℕ
   pub number_value : ℕ
   pub reads_origin : ReadsOrigin origin origin_value
   pub reads_number : ReadsBatchNumber number number_value
 
--- the error of a batch that its head shows
+-- the error of a batch that its header shows
 abbrev pub HeadFault : List ℕ → List ℕ → ℕ → BatchError → Type 0
 HeadFault origin number told BadBatchHead = ¬ (HeadReads origin number)
 HeadFault origin number told TooManyRows = HeadReads origin number × (MAX_ROWS < told)

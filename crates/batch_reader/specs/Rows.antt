@@ -15,7 +15,7 @@ records_of records = map fields_of records
 abbrev pub packings : List Row → List (List ℕ)
 packings rows = map packing rows
 
--- record by record, the fields stand for these rows
+-- record by record, the fields are these rows
 abbrev pub ReadsRows : List Kind → List (List (List ℕ)) → List Row → Type 0
 ReadsRows kinds [] [] = Unit {0}
 ReadsRows kinds (fields ∷ records) (row ∷ rows) = ReadsRow kinds fields row × ReadsRows kinds records rows

@@ -16,7 +16,7 @@ use packed_rows::{PackedRows, Schema};
 use script_io::Records;
 use std::alloc::{AllocError, Global};
 
-/// A batch: the rows that an origin gave a number to.
+/// A batch: the rows to which an origin gave one number.
 #[derive(Drop)]
 pub struct Batch {
     /// The origin, 0 to 1,023.
@@ -27,9 +27,9 @@ pub struct Batch {
     pub rows: PackedRows,
 }
 
-/// The batch of records that stand for rows of a schema. Origin and number are 1 to 10 digits each, leading zeros
-/// included; `told` is the number of rows that the batch's head states. The error is the first that applies, in the
-/// order of `BatchError`.
+/// The batch of records that are rows of a schema. Origin and number are 1 to 10 digits each, leading zeros included;
+/// `told` is the number of rows that the batch's header states. The error is the first that applies, in the order of
+/// `BatchError`.
 pub fn build_batch(
     alloc: Global,
     schema: &Schema,
@@ -61,10 +61,10 @@ pub fn build_batch(
 }
 
 /// The batch of the next `told` records, or of all that are left if they are fewer, by the rules of `build_batch`. These records are
-/// consumed in any case. Each is packed as it is read, so only rows are kept; where the head is refused they are skipped through one
-/// buffer. Memory is taken for the records that come, not for the number that the head states.
+/// consumed in any case. Each is packed as it is read, so only rows are kept; if the header is refused they are skipped through one
+/// buffer. Memory is taken for the records that come, not for the number that the header states.
 ///
-/// The inner error is why they are no batch. The only outer error is that memory ran out for a record, and after it no
+/// The inner error tells why they are not a batch. The only outer error is that memory ran out for a record; after it no
 /// more records come.
 pub fn read_rows(
     alloc: Global,

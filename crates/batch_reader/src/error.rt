@@ -7,8 +7,8 @@ ghost use Rattle.batch_reader.specs.declared.error.BatchError.TheVariants.{NoMem
 use std::alloc::AllocError;
 use thiserror::Error;
 
-/// Why a batch is refused. Of several errors the first in this order is given, `NoMemory` aside; `WrongWidth` and
-/// `BadField` are those of the first row that does not fit the schema. Rows and columns are counted from 0.
+/// Why a batch is refused. Of several errors the first in this order is given, `NoMemory` aside. `WrongWidth` and
+/// `BadField` are those of the first row that is not a row of the schema. Rows and columns are counted from 0.
 #[derive(Clone, Copy, Debug, PartialEq, Eq, Error)]
 pub enum BatchError {
     /// An allocation failed.

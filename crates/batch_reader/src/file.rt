@@ -28,7 +28,7 @@ struct FileHead<'a> {
     told: u32,
 }
 
-/// What four fields say as the head of a batch file.
+/// What four fields say as the header of a batch file.
 fn told_by<'a>(word: &[u8], origin: &'a [u8], number: &'a [u8], rows: &[u8]) -> Option<FileHead<'a>>
     ensures { option_map head_view result ≡ told_by word.now origin.now number.now rows.now }
 {
@@ -45,7 +45,7 @@ fn told_by<'a>(word: &[u8], origin: &'a [u8], number: &'a [u8], rows: &[u8]) -> 
     }
 }
 
-/// What a record says as the head of a batch file.
+/// What a record says as the header of a batch file.
 #[tactic(auto, using(crate::proofs::FileLaws::head_of_four, crate::proofs::FileLaws::head_of_other))]
 fn file_head(first: &ByteRecord) -> Option<FileHead<'_>>
     ensures { option_map head_view result ≡ file_head (fields_of first.now) }
@@ -61,7 +61,7 @@ fn file_head(first: &ByteRecord) -> Option<FileHead<'_>>
     )
 }
 
-/// The packings of the rows that the remaining records stand for, if these are as many as `told`. At most one record more is read.
+/// The packings of the rows of the remaining records, if these are as many as `told`. At most one record more is read.
 fn pack_left(
     alloc: Global,
     schema: &Schema,
@@ -83,8 +83,8 @@ fn pack_left(
 }
 
 /// The batch of a batch file: records in CSV, as `csv` reads them by default, of which the first is `batch,ORIGIN,NUMBER,ROWS` and the
-/// others stand for rows of a schema. Origin and number are 1 to 10 digits each, and ROWS, the number of rows, 1 to 9; leading zeros are
-/// allowed. The error is the first that applies, in the order of `BatchError`. After a head that is refused no record is read, and of the
+/// others are rows of a schema. ORIGIN and NUMBER are 1 to 10 digits each, and ROWS, the number of rows, 1 to 9; leading zeros are
+/// allowed. The error is the first that applies, in the order of `BatchError`. After a header that is refused no record is read. Of the
 /// records only the rows are kept.
 pub fn read_batch(alloc: Global, schema: &Schema, file: &[u8]) -> Result<Batch, BatchError>
     ensures origin { IfOk result (λ batch. IsSomeAnd (read_file file.now) (λ read.

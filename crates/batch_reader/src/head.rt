@@ -1,4 +1,4 @@
-//! The head of a batch: its origin and its number.
+//! The header of a batch: its origin and its number.
 
 ghost use Rattle.std.specs.Prelude.{◌≡◌, ◌≤◌, Some, IfSome, IfNone, IfOk, IfErr, OnOk, ℕ};
 ghost use Rattle.script_io.specs.Digits.{number_of};
@@ -15,7 +15,7 @@ const MAX_DIGITS: usize = 10;
 /// The least number of a batch.
 const FIRST_NUMBER: u64 = 1;
 
-/// The number that 1 to 10 digits stand for, if it lies in a range.
+/// The number of 1 to 10 digits, if it lies in a range.
 fn read_number(field: &[u8], least: u64, most: u64) -> Option<u64>
     ensures found { IfSome result (λ n. (number_of 10 field.now ≡ Some n) × (least ≤ n) × (n ≤ most)) }
     ensures none { IfNone result ((n : ℕ) → number_of 10 field.now ≡ Some n → least ≤ n → n ≤ most → ⊥) }
@@ -27,7 +27,7 @@ fn read_number(field: &[u8], least: u64, most: u64) -> Option<u64>
     Some(number)
 }
 
-/// The origin that a field stands for.
+/// The origin in a field.
 pub(crate) fn read_origin(field: &[u8]) -> Option<u16>
     ensures found { IfSome result (λ n. ReadsOrigin field.now n) }
     ensures none { IfNone result ((n : ℕ) → ¬ (ReadsOrigin field.now n)) }
@@ -36,7 +36,7 @@ pub(crate) fn read_origin(field: &[u8]) -> Option<u16>
     Some(origin as u16)
 }
 
-/// The number of a batch that a field stands for.
+/// The number of a batch in a field.
 pub(crate) fn read_batch_number(field: &[u8]) -> Option<u32>
     ensures found { IfSome result (λ n. ReadsBatchNumber field.now n) }
     ensures none { IfNone result ((n : ℕ) → ¬ (ReadsBatchNumber field.now n)) }
@@ -45,7 +45,7 @@ pub(crate) fn read_batch_number(field: &[u8]) -> Option<u32>
     Some(number as u32)
 }
 
-/// The origin and the number of a batch, where its head is right and states no more rows than a batch may have.
+/// The origin and the number of a batch, if its header is right and states no more rows than a batch may have.
 pub(crate) fn checked_head(
     origin: &[u8],
     number: &[u8],

@@ -16,7 +16,7 @@ use packed_rows::{PackedRows, Schema, pack_value, read_value};
 use script_io::{Records, field};
 use std::alloc::{AllocError, Global};
 
-/// Packs the row that a record's fields stand for into a buffer, in place of what it held. An error names the row, counted from 0.
+/// Packs the row of a record into a buffer, replacing what it held. An error names the row, counted from 0.
 fn pack_record(
     schema: &Schema,
     row: usize,
@@ -41,7 +41,7 @@ fn pack_record(
     Ok(())
 }
 
-/// Appends the packing of the row that a record's fields stand for. The buffer serves for one row after the other. After an error the rows
+/// Appends the packing of the row of a record. The buffer serves for one row after the other. After an error the rows
 /// are as they were.
 fn push_record(
     schema: &Schema,
@@ -60,7 +60,7 @@ fn push_record(
     Ok(())
 }
 
-/// The packings of the rows that records stand for, record by record.
+/// The packings of the rows of records, record by record.
 pub(crate) fn pack_records(
     alloc: Global,
     schema: &Schema,
@@ -78,8 +78,8 @@ pub(crate) fn pack_records(
     Ok(rows)
 }
 
-/// The packings of the rows that the next `told` records stand for. Fewer records are the fault; else it is the first record that stands
-/// for no row. All of them are read in any case, and only their rows are kept.
+/// The packings of the rows of the next `told` records. The fault is that there are fewer, or else the first record that is not a row
+/// of the schema. All of them are read in any case, and only their rows are kept.
 ///
 /// The only outer error is that memory ran out for a record, and after it no more records come.
 pub(crate) fn pack_next(

@@ -10,7 +10,7 @@ use std::fmt;
 pub(crate) enum Hint<'w> {
     /// Nothing more is known.
     Nothing,
-    /// `feed` has two files and needs three: one may be meant as OUT and IN.
+    /// `feed` has two different files and needs three: one may be meant as OUT and IN.
     FeedTwice { summary: &'w str, batch: &'w str },
     /// `script` was given a file name, but reads standard input.
     ScriptFile(&'w str),
@@ -70,10 +70,12 @@ pub(crate) fn hint_of(words: &[String], kind: ErrorKind) -> Hint<'_> {
     let (files, count) = files_of(rest);
     let [first, second] = files;
     match (name.as_str(), kind) {
-        ("feed", ErrorKind::MissingRequiredArgument) if count == 2 => Hint::FeedTwice {
-            summary: first,
-            batch: second,
-        },
+        ("feed", ErrorKind::MissingRequiredArgument) if count == 2 && first != second => {
+            Hint::FeedTwice {
+                summary: first,
+                batch: second,
+            }
+        }
         ("script", ErrorKind::UnknownArgument) if count > 0 => Hint::ScriptFile(first),
         _ => Hint::Nothing,
     }

@@ -5,13 +5,13 @@ use Rattle.query_checks.specs.Order.{Asked}
 use Rattle.query_grammar.specs.Queries.{Begins}
 use Rattle.query_grammar.specs.Reading.{Read, Unexpected, Too_deep}
 
--- no query goes on behind the front with the first of these tokens, if there is one
+-- no query goes on after the front with the first of these tokens, if there is one
 abbrev pub NoneFollows : ℕ → List Lexeme → List Lexeme → Type 0
 NoneFollows limit front [] = Unit {0}
 NoneFollows limit front (t ∷ rest) = ¬ (Begins limit (front ++ t ∷ []))
 
--- so many of the tokens, from the left, begin a query in which at most `limit` parentheses of a condition are open at once, and
--- no more of them do
+-- this many of the tokens, from the left, and no more begin a query in which at most `limit` parentheses of a condition are
+-- open at once
 pub record IsLongestFront (limit : ℕ) (ts : List Lexeme) (count : ℕ) : Type 0 where
   pub front : List Lexeme
   pub rest : List Lexeme

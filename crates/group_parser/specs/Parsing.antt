@@ -25,7 +25,7 @@ use Rattle.group_parser.specs.declared.error.ParseError.TheVariants.{Syntax, Num
 abbrev pub most_bytes : ℕ
 most_bytes = MAX_QUERY_LEN
 
--- want of memory, which is no fault of a text
+-- memory ran out, which is no fault of a text
 abbrev pub no_memory : ParseError
 no_memory = Query checks.NoMemory
 
@@ -38,7 +38,7 @@ abbrev pub of_token_error : TokenError → ParseError
 of_token_error tokens.NoMemory = no_memory
 of_token_error (tokens.Fault fault) = of_fault fault
 
--- the place of the first of the last `left` tokens of a text; the text's length where there are none
+-- the place of the first of the last `left` tokens of a text; the text's length if there are none
 abbrev pub place_of_left : ℕ → List Placed → ℕ → ℕ
 place_of_left end ts left = unwrap_or (option_map (λ t. t.at) (slice_get ts (length ts - left))) end
 
@@ -51,7 +51,7 @@ pub record Accepts (columns : List Column) (text : List ℕ) (q : Checked) : Typ
   pub is_query : IsQuery most_open (lexemes_of tokens) asked
   pub passed : checked columns asked ≡ Ok q
 
--- a text is no query over these columns, in the order in which that is found
+-- a text is not a query over these columns, in the order in which that is found
 pub data Refuses (columns : List Column) (text : List ℕ) : ParseError → Type 0 where
   -- it is too long
   too_long : most_bytes < length text → Refuses columns text (Query checks.TooMany)

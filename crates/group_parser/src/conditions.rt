@@ -47,7 +47,7 @@ fn tested(
     })
 }
 
-/// Two conditions, of which both are to be true.
+/// Two conditions, both of which are to be true.
 fn both(alloc: Global, left: Cond<String>, right: Cond<String>) -> Result<Cond<String>, AllocError>
     ensures { IfOk result (λ c.
         condition_read c ≡ form.And (condition_read left) (condition_read right)) }
@@ -55,7 +55,7 @@ fn both(alloc: Global, left: Cond<String>, right: Cond<String>) -> Result<Cond<S
     Ok(Cond::And(Box::new(alloc, left)?, Box::new(alloc, right)?))
 }
 
-/// Two conditions, of which one is to be true.
+/// Two conditions, one of which is to be true.
 fn either(
     alloc: Global,
     left: Cond<String>,
@@ -113,7 +113,7 @@ fn test<'a>(alloc: Global, room: usize, tokens: &'a [Token]) -> Read<'a, Cond<St
     Ok((read, rest))
 }
 
-/// How many NOTs stand at the front, and the tokens behind them.
+/// How many NOTs stand at the front, and the tokens after them.
 fn count_nots(tokens: &[Token]) -> (usize, &[Token])
     ensures counted { (room : ℕ) → not_at (conditions most_open) room (lexemes tokens.now)
         ≡ nots result.0 (test_at (conditions most_open) room (lexemes result.1.now)) }
@@ -128,7 +128,7 @@ fn count_nots(tokens: &[Token]) -> (usize, &[Token])
     (count, rest)
 }
 
-/// A condition behind so many NOTs.
+/// A condition after this many NOTs.
 #[tactic(auto, using(crate::proofs::Readers::one_more_negated))]
 fn negated(alloc: Global, count: usize, operand: Cond<String>) -> Result<Cond<String>, AllocError>
     ensures { IfOk result (λ c. condition_read c ≡ negated count (condition_read operand)) }

@@ -1,4 +1,4 @@
-//! Why a text is no query.
+//! Why a text is not a query.
 
 ghost use Rattle.std.specs.Prelude.{◌≡◌};
 ghost use Rattle.group_parser.specs.Names.{parse_name};
@@ -10,18 +10,18 @@ use query_tokens::{Fault, TokenError};
 use std::alloc::{AllocError, AllocFailed};
 use thiserror::Error;
 
-/// Why a text is no query over a schema.
+/// Why a text is not a query over a schema.
 #[derive(Clone, Copy, Debug, PartialEq, Eq, Error)]
 pub enum ParseError {
-    /// At this byte, counted from 0, no token begins, or a token that no query can go on with; at the text's length,
-    /// the query goes on.
+    /// At this byte, counted from 0, no token begins, or a token that no query can go on with. At the text's length the
+    /// query is incomplete.
     #[error("syntax error at byte {at}")]
     Syntax { at: usize },
     /// An integer is below -9223372036854775808 or above 9223372036854775807.
     #[error("integer out of the range of 64 bits")]
     NumberTooLarge,
-    /// The query is refused: a check doesn't pass, or memory is wanting. It is `TooMany` too for a text that is too long,
-    /// and `TooDeep` for a condition in which too many parentheses are open at once.
+    /// The query is refused: it fails a check, or memory ran out. It is `TooMany` too for a text that is too long, and
+    /// `TooDeep` for a condition in which too many parentheses are open at once.
     #[error(transparent)]
     Query(QueryError),
 }

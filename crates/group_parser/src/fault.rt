@@ -6,12 +6,12 @@ ghost use Rattle.group_parser.specs.declared.fault.ReadError.TheVariants.{NoMemo
 use query_tokens::Token;
 use std::alloc::{AllocError, AllocFailed};
 
-/// Why reading stopped. A place is told by how many tokens are left from it on.
+/// Why reading stopped. A place is given by how many tokens are left from it on.
 #[derive(Clone, Copy, Debug, PartialEq, Eq)]
 pub(crate) enum ReadError {
     /// An allocation failed.
     NoMemory,
-    /// A token that nothing can stand before, or the end of the tokens.
+    /// A token that can't stand here, or the end of the tokens.
     Unexpected(usize),
     /// One parenthesis too many.
     TooDeep(usize),
@@ -33,5 +33,5 @@ impl<T: Drop> From<AllocFailed<T>> for ReadError {
     }
 }
 
-/// What was read, and the tokens behind it.
+/// What was read, and the tokens after it.
 pub(crate) type Read<'a, T> = Result<(T, &'a [Token]), ReadError>;

@@ -24,7 +24,7 @@ fn count_read(alloc: Global, tokens: &[Token]) -> Result<usize, AllocError>
     }
 }
 
-/// How many of these tokens begin a query, from the left: all, if they are a query or more tokens make one of them.
+/// How many of these tokens begin a query, from the left: all, if they are one or more can make them one. It fails only if memory runs out.
 #[tactic(auto, using(crate::specs::Lemmas::FrontLaws::longest))]
 pub fn count_begun(alloc: Global, tokens: &[Token]) -> Result<usize, AllocError>
     ensures { IfOk result (λ count. IsLongestFront most_open (lexemes tokens.now) count) }

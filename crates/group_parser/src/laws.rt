@@ -6,8 +6,8 @@ ghost use Rattle.query_checks.specs.Checks.{Checked};
 ghost use Rattle.group_parser.specs.Parsing.{Accepts, Refuses, parsing};
 ghost use Rattle.group_parser.specs.declared.error.ParseError.{ParseError};
 
-/// Exactly the texts that the grammar and the checks allow are parsed, each as one query, and all others are refused, each
-/// by one fault.
+/// Exactly the texts that the grammar and the checks allow are parsed, each as one query. All others are refused, each
+/// with one fault.
 #[tactic(auto, using(crate::specs::Lemmas::ParseLaws::parses_accepts, crate::specs::Lemmas::ParseLaws::parses_refuses))]
 pub fn exactly_the_grammar()
     ensures parsed { (columns : List Column) (text : List ℕ) (q : Checked) →

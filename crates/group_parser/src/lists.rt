@@ -30,7 +30,7 @@ pub(crate) trait Listed: Drop {
     ghost stays: { Stays one_at };
 }
 
-/// One or more of them, between commas.
+/// One or more of them, separated by commas.
 pub(crate) fn list<'a, T: Listed>(alloc: Global, tokens: &'a [Token]) -> Read<'a, Vec<T>>
     ensures read { Gives (λ x. (map T.said x.0.items, lexemes x.1.now)) result
         (list_at T.one_at (length (lexemes tokens.now)) (lexemes tokens.now)) }

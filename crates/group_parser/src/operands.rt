@@ -90,7 +90,7 @@ fn filtered<'a>(
     Ok((call, rest))
 }
 
-/// A call, from behind its parenthesis on.
+/// A call, from after its parenthesis on.
 #[cycle(conditions)]
 #[tactic(auto, unfolding(query_grammar::specs::Reading::call_at))]
 fn call<'a>(alloc: Global, kind: AggKind, tokens: &'a [Token]) -> Read<'a, AggCall<String>>
@@ -103,7 +103,7 @@ fn call<'a>(alloc: Global, kind: AggKind, tokens: &'a [Token]) -> Read<'a, AggCa
     filtered(alloc, kind, column, behind)
 }
 
-/// What a name begins: a call where it is a function's and a parenthesis stands behind it, or else a column.
+/// What a name begins: a call if it is a function's and a parenthesis stands after it, or else a column.
 #[cycle(conditions)]
 pub(crate) fn column_or_call<'a>(
     alloc: Global,
@@ -124,7 +124,7 @@ pub(crate) fn column_or_call<'a>(
     Ok((Item::Column(String::from_str(alloc, name)?), tokens))
 }
 
-/// A condition in parentheses, from behind the first on. So many more of them may be opened, this one included.
+/// A condition in parentheses, from after the first on. This many more of them may be opened, this one included.
 #[cycle(conditions)]
 #[tactic(auto, unfolding(query_grammar::specs::Reading::enclosed_at))]
 fn enclosed<'a>(alloc: Global, room: usize, tokens: &'a [Token]) -> Read<'a, Cond<String>>

@@ -49,7 +49,7 @@ fn direction(tokens: &[Token]) -> (bool, &[Token])
     (false, tokens)
 }
 
-/// What stands behind NULLS: whether they come first.
+/// What stands after NULLS: whether they come first.
 #[tactic(auto, unfolding(query_grammar::specs::Arrangement::first_or_last))]
 fn first_or_last(tokens: &[Token]) -> Read<'_, Option<bool>>
     ensures read { Gives (λ x. (x.0, lexemes x.1.now)) result (first_or_last (lexemes tokens.now)) }
@@ -64,7 +64,7 @@ fn first_or_last(tokens: &[Token]) -> Read<'_, Option<bool>>
     Err(ReadError::Unexpected(tokens.len()))
 }
 
-/// Whether nulls come first, if that is said.
+/// Whether nulls come first, if the term has NULLS.
 #[tactic(auto, unfolding(query_grammar::specs::Arrangement::nulls_at))]
 fn nulls(tokens: &[Token]) -> Read<'_, Option<bool>>
     ensures read { Gives (λ x. (x.0, lexemes x.1.now)) result (nulls_at (lexemes tokens.now)) }

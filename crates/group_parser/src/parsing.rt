@@ -21,7 +21,7 @@ use packed_rows::Schema;
 use query_tokens::{Token, tokens};
 use std::alloc::Global;
 
-/// The place of the first of the last tokens of a text, of which so many are left; the text's length where there are none.
+/// The place of the first of the last `left` tokens of a text, or the text's length if none are left.
 fn place_of_left(end: usize, tokens: &[Token], left: usize) -> usize
     ensures { result ≡ place_of_left end (all_placed tokens.now) left }
 {
@@ -48,7 +48,7 @@ fn read_tokens(alloc: Global, end: usize, tokens: &[Token]) -> Result<RawQuery, 
     }
 }
 
-/// The query that a text says, before it is checked. The errors are those of [`parse`] that come before the errors of the checks.
+/// The query in a text, before it is checked. The errors are those of [`parse`] that come before the errors of the checks.
 #[tactic(auto, unfolding(crate::specs::Parsing::asked_in))]
 pub fn read(alloc: Global, text: &str) -> Result<RawQuery, ParseError>
     ensures read { IfOk result (λ raw. asked_in text.now ≡ Ok (asked_of raw)) }
@@ -63,14 +63,14 @@ pub fn read(alloc: Global, text: &str) -> Result<RawQuery, ParseError>
     }
 }
 
-/// The query that a text says over the columns of a schema.
+/// The query in a text, over the columns of a schema.
 ///
 /// # Errors
 ///
-/// The first of these: `TooMany` for a text of more than 16,384 bytes; `Syntax` or `NumberTooLarge` for the first
-/// fault of its tokens; `Syntax` at the first token after which no query can follow, or at the text's end, or `TooDeep`
-/// at a parenthesis of a condition if 64 are open, whichever comes first, the condition of a FILTER counting its own;
-/// and then the errors of [`Query::check`].
+/// The first of these: `TooMany` for a text of more than 16,384 bytes; `Syntax` or `NumberTooLarge` for the first fault
+/// of its tokens; whichever comes first of `Syntax`, at the first token that no query can go on with or at the text's
+/// end, and `TooDeep`, at a parenthesis of a condition of which 64 are open; and then the errors of [`Query::check`].
+/// The condition of a FILTER counts its own parentheses.
 #[tactic(auto, using(crate::specs::Lemmas::ParseLaws::accepts, crate::specs::Lemmas::ParseLaws::refuses_text, crate::specs::Lemmas::ParseLaws::refuses_query, crate::specs::Lemmas::ParseLaws::can_be_written))]
 pub fn parse(alloc: Global, schema: &Schema, text: &str) -> Result<Query, ParseError>
     ensures accepted { IfOk result (λ q. Accepts schema.now text.now q) }

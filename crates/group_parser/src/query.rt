@@ -134,7 +134,7 @@ fn keys<'a>(alloc: Global, tokens: &'a [Token]) -> Read<'a, Vec<String>>
     }
 }
 
-/// A condition behind this word, or none.
+/// A condition after this key word, or none.
 #[tactic(auto, unfolding(query_grammar::specs::Whole::clause_at))]
 fn clause<'a>(alloc: Global, word: &str, tokens: &'a [Token]) -> Read<'a, Option<Cond<String>>>
     ensures { Gives (λ x. (option_map condition_read x.0, lexemes x.1.now)) result
@@ -164,8 +164,8 @@ fn end(tokens: &[Token]) -> Result<(), ReadError>
     }
 }
 
-/// The query that tokens say, all of them. It takes time linear in their number, and calls itself as deep as parentheses
-/// and FILTERs stand in one another.
+/// The query of tokens, all of them. It takes time linear in their number, and calls itself as deep as parentheses
+/// and FILTERs are nested.
 #[tactic(auto, unfolding(query_grammar::specs::Whole::query_at, query_grammar::specs::Arrangement::arrangement_at))]
 pub(crate) fn query(alloc: Global, tokens: &[Token]) -> Result<RawQuery, ReadError>
     ensures { Gives (λ q. (asked_of q, [])) result (query_at most_open (lexemes tokens.now)) }

@@ -9,7 +9,7 @@ use Rattle.grouping_model.specs.Query.{Query, Aggregate}
 use Rattle.grouping_model.specs.Grouping.{Group, argument, column_of}
 use Rattle.grouping_model.specs.Parts.{functions, partials_at, with_row}
 
--- one more row, which WHERE keeps or passes over
+-- one more row, which WHERE keeps or rejects
 abbrev pub row_added : Query → List Group → Row → List Group
 row_added query groups row = if is_met (column_of row) query.condition then with_row query groups row else groups
 

@@ -53,7 +53,7 @@ AreCut segments cuts = ⊥
 abbrev pub all_pieces : List (Vec (List Entry) Global) → List (List (List Entry))
 all_pieces cuts = map (λ (pieces : Vec (List Entry) Global). pieces.items) cuts
 
--- how many segments there are at most once some are cut into such pieces
+-- the most segments that there are once some are cut into such pieces
 abbrev pub cut_count : List (List (List Entry)) → ℕ
 cut_count cuts = sum_by (λ (pieces : List (List Entry)). length pieces + 1) cuts
 

@@ -44,7 +44,7 @@ pub record IsGroupOf (query : Query) (most : ℕ) (group : Group) : Type 0 where
   pub key : HasKinds (key_kinds query) group.0
   pub partials : ArePartials most (functions query) group.1
 
--- a run of a query: rising packed keys, and states of its aggregates that count at most this many rows each
+-- a run of a query: packed keys in increasing order, and states of its aggregates that count at most this many rows each
 pub record IsRun (query : Query) (most : ℕ) (run : List Entry) : Type 0 where
   pub groups : List Group
   pub are : AreGroups query most run groups

@@ -14,8 +14,8 @@ use crate::segments::{MAX_GROUPS, Segments};
 use having_filter::Query;
 use std::alloc::{AllocError, Global};
 
-/// Where the piece of `count` groups ends that begins at a place: it has half as many groups as a segment may have, and the last piece has
-/// the rest.
+/// Where the piece that begins at a place ends, among `count` groups. It has half as many groups as a segment may have, and the last
+/// piece has the rest.
 fn end_of_piece(from: usize, count: usize) -> usize
     requires { from < count }
     ensures some { from < result }
@@ -29,8 +29,8 @@ fn end_of_piece(from: usize, count: usize) -> usize
 }
 
 impl Segment {
-    /// The place of a key among the groups from a place on: that of the first one whose key is not below it. It is sought by steps that
-    /// begin with a guess of how far it is, double and then halve, so a good guess finds it soon.
+    /// The place of a key among the groups from a place on: that of the first one whose key is not below it. It is found by an exponential
+    /// search, which begins with a guess of how far it is. So a good guess finds it soon.
     pub(crate) fn seek(&self, from: usize, step: usize, key: &[u8]) -> usize
         requires { from ≤ length self.now }
         ensures place { IsPlaceOf self.now from key.now result }
@@ -133,7 +133,7 @@ impl Segment {
         Ok(piece)
     }
 
-    /// The groups in pieces, and no piece where they are no more than a segment may have. The only error is a failed allocation.
+    /// The groups in pieces, or no piece if they are no more than a segment may have. The only error is a failed allocation.
     pub(crate) fn pieces(&self, alloc: Global) -> Result<Vec<Segment>, AllocError>
         ensures { IfOk result (λ pieces. ArePiecesOf self.now pieces.items) }
     {

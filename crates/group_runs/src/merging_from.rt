@@ -33,8 +33,8 @@ impl Segments {
         true
     }
 
-    /// Combines the states of a key that is there with others. It stands after `from` groups at least, and about `step` more by a
-    /// guess; the result is how many there are up to it.
+    /// Combines the states of a key that is there with others. It stands after at least `from` groups, and by a guess after about `step`
+    /// more. The result is how many groups there are up to it.
     fn combine_group(
         &mut self,
         query: &Query,
@@ -96,7 +96,7 @@ impl Segments {
         Ok(fresh)
     }
 
-    /// Adds the groups of another run. Where all its keys are there, this takes no memory. The only error is a failed
+    /// Adds the groups of another run. If all its keys are there, this takes no memory. The only error is a failed
     /// allocation, which leaves the groups as they were.
     ///
     /// A segment that no group comes into stays where it is.

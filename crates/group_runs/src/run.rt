@@ -12,7 +12,7 @@ use std::marker::Model;
 
 /// Groups in the order of their keys, each with the bytes of its key and of its states. No two have the same key.
 ///
-/// They lie in segments, so a group that enters moves those of one segment alone.
+/// They lie in segments, so an insertion moves only the groups of one segment.
 #[derive(Drop)]
 pub struct Run {
     segments: Segments,
@@ -86,7 +86,7 @@ impl Run {
         self.segments.group(place)
     }
 
-    /// The same groups again. The only error is a failed allocation.
+    /// A copy of the groups. The only error is a failed allocation.
     pub fn try_clone(&self, alloc: Global) -> Result<Run, AllocError>
         ensures { IfOk result (λ copy. copy ≡ self.now) }
     {
@@ -112,7 +112,7 @@ impl Run {
         true
     }
 
-    /// Adds the groups of another run. Where all its keys are there, this takes no memory. The only error is a failed
+    /// Adds the groups of another run. If all its keys are there, this takes no memory. The only error is a failed
     /// allocation, which leaves the run as it was.
     pub fn merge_from(&mut self, alloc: Global, query: &Query, more: &Run) -> Result<(), AllocError>
         requires { HasRoomForRun (meaning query.now) self.old more.now }

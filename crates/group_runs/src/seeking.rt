@@ -42,7 +42,7 @@ pub(crate) fn is_below(key: &[u8], other: &[u8]) -> bool
 }
 
 impl Segments {
-    /// The segment of the group at a place, or how many segments there are where there is no group.
+    /// The segment of the group at a place, or how many segments there are if there is no group.
     fn segment_from(&self, place: usize) -> usize
         requires { place ≤ length (concatenated self.now) }
         ensures { length (concatenated (take result self.now)) ≤ place }
@@ -67,8 +67,8 @@ impl Segments {
         self.group(end - 1)
     }
 
-    /// Two places between which the place of a key lies, and the segment that all groups from the one to the other are in. The last
-    /// groups of segments tell, by steps that begin with a guess, double and then halve.
+    /// Two places between which the place of a key lies, and the segment that has all groups from the one to the other. They are found by
+    /// an exponential search over the last groups of segments, which begins with a guess.
     fn narrow(&self, from: usize, step: usize, key: &[u8]) -> (usize, usize, usize)
         requires { from ≤ length (concatenated self.now) }
         ensures between { IsBetween (concatenated self.now) from result.0 result.1 key.now }
@@ -140,8 +140,8 @@ impl Segments {
         place < self.len() && self.group(place).0 == key
     }
 
-    /// Which segment the groups of another run from a place on begin to come into, and up to which place they do. None of them comes into
-    /// one of the first `first` segments.
+    /// The segment that the groups of another run enter from a place on, and the place up to which they enter it. None of them enters one
+    /// of the first `first` segments.
     pub(crate) fn part(&self, first: usize, more: &Segments, from: usize) -> (usize, usize)
         requires there { first < length self.now }
         requires within { from < length (concatenated more.now) }

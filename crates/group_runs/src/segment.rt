@@ -37,7 +37,7 @@ impl Model for Segment {
 }
 
 /// A capacity for `one` and `other` together, rounded up by at most a quarter. So segments that grow little by little ask for blocks of few
-/// sizes, four between a power of two and the next, and an allocator can reuse the blocks that they gave back.
+/// sizes, four between a power of two and the next. Then an allocator can reuse the blocks that they freed.
 fn capacity_for(one: usize, other: usize) -> usize {
     let both = one.saturating_add(other);
     let step = both.checked_next_power_of_two().unwrap_or(0) / 8;
@@ -109,7 +109,7 @@ fn move_ends(ends: &mut [(usize, usize)], start: (usize, usize), behind: (usize,
 }
 
 /// Adds the ends of groups that began at `start` in another run, and begin at `behind` in this one. They are copied at once and then
-/// moved, which takes a few instructions an end. A failed allocation changes nothing.
+/// moved, which takes a few instructions for each. A failed allocation changes nothing.
 fn push_ends(
     ends: &mut Vec<(usize, usize)>,
     more: &[(usize, usize)],
@@ -246,7 +246,7 @@ impl Segment {
         combine_part(query, &mut self.states, from.1, to.1, more);
     }
 
-    /// The same groups again. The only error is a failed allocation.
+    /// A copy of the groups. The only error is a failed allocation.
     pub(crate) fn try_clone(&self, alloc: Global) -> Result<Segment, AllocError>
         ensures { IfOk result (λ copy. copy ≡ self.now) }
     {

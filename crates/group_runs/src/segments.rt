@@ -19,14 +19,14 @@ use std::alloc::{AllocError, Global};
 use std::marker::Model;
 use std::mem::replace;
 
-/// The most groups of a segment. A group that enters a run copies its segment, some ten kilobytes, and one in a hundred or so moves what is
-/// kept of each segment beside its groups, some seventy bytes. With half as many groups a segment, or twice as many, one of the two costs
+/// The most groups of a segment. An insertion copies its segment, some ten kilobytes. About one insertion in a hundred also moves what is
+/// kept for each segment beside its groups, some seventy bytes. With half or twice as many groups to a segment, one of the two costs
 /// more.
 pub(crate) const MAX_GROUPS: usize = 256;
 
-/// Groups in the order of their keys, in segments, one after the other: in a clause, the list of the segments.
+/// Groups in the order of their keys, in segments, one after the other. In a clause they are the list of the segments.
 ///
-/// A segment that has more groups than it may is cut before others enter it. None has no group.
+/// A segment that has more groups than it may is cut before others enter it. No segment is empty.
 #[derive(Drop)]
 pub(crate) struct Segments {
     segments: Vec<Segment>,
@@ -97,7 +97,7 @@ fn put_all(segments: &mut Vec<Segment>, fresh: Vec<(usize, Segment)>)
     }
 }
 
-/// `count` segments, `pieces` pieces, and one more. No memory has more than a number can say.
+/// `count` segments, `pieces` pieces, and one more. No memory holds more than a number can count.
 fn count_more(count: usize, pieces: usize) -> Result<usize, AllocError>
     ensures { IfOk result (λ more. more ≡ count + (pieces + 1)) }
 {
@@ -300,7 +300,7 @@ impl Segments {
         self.segments[at].combine_at(query, place - start, more);
     }
 
-    /// The same segments again. The only error is a failed allocation.
+    /// A copy of the segments. The only error is a failed allocation.
     pub(crate) fn try_clone(&self, alloc: Global) -> Result<Segments, AllocError>
         ensures { IfOk result (λ copy. copy ≡ self.now) }
     {
@@ -335,7 +335,7 @@ impl Segments {
             .any(|segment| segment.len() > MAX_GROUPS)
     }
 
-    /// Of each segment the pieces that it is cut into, if it has more groups than it may, and how many segments there are at most
+    /// For each segment the pieces that it is cut into, if it has more groups than it may; and the most segments that there are
     /// then. The only error is a failed allocation.
     fn cuts(&self) -> Result<(Vec<Vec<Segment>>, usize), AllocError>
         ensures cut { IfOk result (λ cuts. AreCut self.now (all_pieces cuts.0.items)) }

@@ -21,7 +21,7 @@ use having_filter::Query;
 use packed_rows::Value;
 use std::alloc::{AllocError, Global};
 
-/// What an aggregate takes from a row, or `None` where its FILTER leaves the row out.
+/// What an aggregate takes from a row, or `None` if its FILTER excludes the row.
 fn reach<'a>(query: &Query, place: usize, row: &[Value<'a>]) -> Option<Value<'a>>
     requires { place < length (meaning query.now).aggregates }
     ensures { (a : Aggregate) → slice_get (meaning query.now).aggregates place ≡ Some a →
@@ -74,8 +74,8 @@ fn advance_from(
     advance_from(query, place + 1, kinds, rest, row, most)
 }
 
-/// Moves the states of a group on by a row. They are refused if they are no states of the query, or would then count more than `most` rows;
-/// their bytes are unspecified after that.
+/// Moves the states of a group on by a row. They are refused if they are not states of the query, or would then count more than `most`
+/// rows. Their bytes are unspecified after that.
 pub fn advance_slice(
     query: &Query,
     states: &mut [u8],
@@ -102,7 +102,7 @@ pub fn initial_states(alloc: Global, query: &Query) -> Result<Vec<u8>, AllocErro
     Ok(states)
 }
 
-/// Combines the states of a group with others of its key, which come after. The error is `BadState` if either are no
+/// Combines the states of a group with others of its key, which come after. The error is `BadState` if either are not
 /// states of the query, or if they would then count more than `most` rows.
 pub fn combine_within(
     query: &Query,

@@ -17,8 +17,8 @@ pub record WritesState {H : Type 0} (hash_of : H → List ℕ → ℕ) (t : Tabl
   pub others : KeepsOthers t old new
   pub holds : length state ≡ t.width → HoldsKeys t old → HoldsKeys t new
 
--- all groups were given up, and the table is otherwise the same; the tree beside it stays, and of what is held below its parent it gave
--- up what its contexts no longer hold
+-- all groups were removed, and the table is otherwise the same; the tree beside it stays, and of what is held below its parent it freed
+-- what its contexts no longer hold
 pub record Clears {H : Type 0} (hash_of : H → List ℕ → ℕ) (before after : TableState H) (old new : TreeState) : Type 0 where
   pub table : IsTableIn hash_of after new
   pub same : IsSameBut before after

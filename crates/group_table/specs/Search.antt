@@ -28,7 +28,7 @@ Tells keys array from to hash key (Free place) = (from ≤ place) × (place < to
     × ((other : ℕ) → from ≤ other → other < place → IsOther keys array hash key other)
 Tells keys array from to hash key Passed = (other : ℕ) → from ≤ other → other < to → IsOther keys array hash key other
 
--- the bucket of a key among all of them; or none has the key, if keys have one hash each, and a free one is where the search ends
+-- the bucket of a key among all of them; or no bucket has the key, if keys have one hash each, and the search ends at a free one
 abbrev pub HasNone : Context → List ℕ → ℕ → ℕ → List ℕ → Type 0
 HasNone keys array count hash key = (b : Bucket) → Holds array count b → b.hash ≡ hash → chunk_bytes keys b.key ≢ key
 

@@ -68,8 +68,8 @@ array_growth t tree =
 abbrev pub group_growth : {H : Type 0} → TableState H → TreeState → ℕ → ℕ
 group_growth t tree n = array_growth t tree + growth_of (context_at tree t.keys) n + growth_of (context_at tree t.states) t.width
 
--- whether one more group, with a key of this many bytes, keeps within a limit on what is held below the parent, at each step of the way,
--- and within the most buckets
+-- whether one more group, with a key of this many bytes, keeps within the most buckets, and at each step within a limit on what is held
+-- below the parent
 abbrev pub has_room : {H : Type 0} → TableState H → TreeState → ℕ → ℕ → Bool
 has_room t tree n limit = nat_le (held_below tree t.parent + group_growth t tree n) limit
     && nat_le (buckets_for (buckets_in t.array) (length t.slots)) most_buckets

@@ -55,7 +55,7 @@ pub(crate) fn refill(tree: &mut Tree, id: ContextId, from: ChunkName, to: ChunkN
     }
 }
 
-/// Gives up an array of a set.
+/// Frees an array of a set.
 pub(crate) fn give_up(tree: &mut Tree, id: ContextId, name: ChunkName)
     requires { IsArrayAt tree.old id name }
     ensures { OnContext id tree.old tree.new (Frees name) }

@@ -16,8 +16,8 @@ pub(crate) struct Children {
 
 /// Makes the contexts of a table below another: an `AllocSet`, a `Bump`, and a `Slab` of chunks of `width` bytes.
 ///
-/// The errors are `StampsSpent` where fewer than three stamps are left, and `NoMemory`. After an error none of the
-/// three contexts is left, though stamps may be spent.
+/// The errors are `StampsSpent` if fewer than three stamps are left, and `NoMemory`. After an error none of the three
+/// contexts is left, though stamps may be spent.
 pub(crate) fn make_children(
     tree: &mut Tree,
     parent: ContextId,

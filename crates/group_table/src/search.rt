@@ -81,7 +81,7 @@ fn look(
     Probe::Passed
 }
 
-/// The bucket of a key in an array of this many buckets, of which one is free; or, if it has none, the free one that the search comes to.
+/// The bucket of a key in an array of this many buckets, of which one is free; or else the free one at which the search ends.
 pub(crate) fn search(
     tree: &Tree,
     keys: ContextId,

@@ -35,7 +35,7 @@ const FIRST_BUCKETS: usize = 256;
 
 const MAX_BUCKETS: usize = 16777216;
 
-/// For how many groups there is room to note them at first.
+/// How many groups can be noted at first without more memory.
 const FIRST_SLOTS: usize = 16;
 
 /// Where a group of a table lies. A slot is that of its key until the table is cleared.
@@ -45,7 +45,7 @@ pub struct Slot {
     pub(crate) state: ChunkName,
 }
 
-/// Where a key that no group has would go: its hash, and the free bucket that the search for it came to. This is so until a group is
+/// Where a key that no group has would go: its hash, and the free bucket at which the search for it ended. It holds until a group is
 /// inserted or the table is cleared.
 #[derive(Clone, Copy)]
 pub struct Vacancy {
@@ -119,7 +119,7 @@ fn growth(tree: &Tree, id: ContextId, n: usize) -> u64
     tree.growth_for(id, n as u32).unwrap()
 }
 
-/// Gives up the chunks of a context that is there.
+/// Frees the chunks of a context that is there.
 fn empty(tree: &mut Tree, id: ContextId)
     requires { is_there tree.old id ≡ true }
     ensures reset { tree.new ≡ reset tree.old id }
@@ -144,10 +144,10 @@ fn held_below(tree: &Tree, id: ContextId) -> u128
 }
 
 impl<H: KeyHash + Drop> GroupTable<H> {
-    /// Makes a table of no group, with states of `width` bytes, 65,535 at most. Its three contexts are made below `parent`,
+    /// Makes an empty table, whose states have `width` bytes each, 65,535 at most. Its three contexts are made below `parent`,
     /// and hold nothing yet.
     ///
-    /// The errors are `StampsSpent` where fewer than three stamps are left, and `NoMemory`. After an error none of the three contexts is
+    /// The errors are `StampsSpent` if fewer than three stamps are left, and `NoMemory`. After an error none of the three contexts is
     /// left, though stamps may be spent.
     pub fn new(
         alloc: Global,
@@ -190,8 +190,8 @@ impl<H: KeyHash + Drop> GroupTable<H> {
             ≡ held_below tree.now self.now.parent → HoldsKeys self.now tree.now → HoldsKeys self.now after }
     {}
 
-    /// A law: where the contexts of the table hold what is counted for its keys, that much is held below its parent. Where
-    /// there is no group, that is a block of buckets at most.
+    /// A law: if the contexts of the table hold what is counted for its keys, that much is held below its parent. With no
+    /// group, that is a block of buckets at most.
     pub fn held_by_keys(&self, tree: &Tree)
         requires { IsTableIn H.hash_of self.now tree.now }
         ensures some { HoldsKeys self.now tree.now → 0 < length self.now.slots → held_below tree.now self.now.parent
@@ -262,12 +262,12 @@ impl<H: KeyHash + Drop> GroupTable<H> {
         (chunk(tree, self.keys, slot.key), self.state(tree, slot))
     }
 
-    /// Whether one more group with this key fits: below the table's parent no more bytes of blocks are held than a limit at each step of
-    /// the way, and there are at most 2^24 buckets. Where the contexts hold what is counted for the keys of the table, and nothing else is
-    /// held, this is so exactly if the keys with this one fit.
+    /// Whether one more group with this key fits. At each step of its insertion no more bytes of blocks are held below the table's parent
+    /// than the limit, and there are at most 2^24 buckets. Let the contexts hold what is counted for the keys of the table, and nothing
+    /// else. Then it is true exactly if these keys and this one fit.
     ///
-    /// After `new` or `clear`, when there is no group and only the buckets hold anything below the parent, it is true of each key of up to
-    /// 8,192 bytes at each limit from 32,768 up, if a state has up to 8,184 bytes.
+    /// After `new` or `clear` there is no group. If then only the buckets hold anything below the parent, and a state has up to 8,184
+    /// bytes, each key of up to 8,192 bytes fits at each limit from 32,768 up.
     pub fn room_for(&self, tree: &Tree, key: &[u8], limit: u64) -> bool
         requires table { IsTableIn H.hash_of self.now tree.now }
         requires key { length key.now ≤ LONGEST }
@@ -283,7 +283,7 @@ impl<H: KeyHash + Drop> GroupTable<H> {
         }
     }
 
-    /// What is held below the table's parent at most while a group with this key enters, in bytes of blocks, unless there
+    /// The most bytes of blocks held below the table's parent while a group with this key is inserted, or `None` if there
     /// would be more than 2^24 buckets.
     pub fn need_for(&self, tree: &Tree, key: &[u8]) -> Option<u128>
         requires table { IsTableIn H.hash_of self.now tree.now }
@@ -398,8 +398,8 @@ impl<H: KeyHash + Drop> GroupTable<H> {
         }
     }
 
-    /// Gives up all groups, and all blocks but the first one of the buckets, if there is one. It takes no memory. Contexts that were made
-    /// below the table's own go too; all others stay as they are.
+    /// Removes all groups, and frees all blocks but the first one of the buckets, if there is one. It takes no memory. Contexts that were
+    /// made below the table's own are deleted too; all others stay as they are.
     pub fn clear(&mut self, tree: &mut Tree)
         requires { IsTableIn H.hash_of self.old tree.old }
         ensures { Clears H.hash_of self.old self.new tree.old tree.new }
@@ -411,7 +411,7 @@ impl<H: KeyHash + Drop> GroupTable<H> {
         self.slots.clear();
     }
 
-    /// Makes the next array that of the table, if there is one: all buckets in use are put there, and the old array is given up.
+    /// Makes the next array that of the table, if there is one: all buckets in use are put there, and the old array is freed.
     fn replace_array(&mut self, tree: &mut Tree, next: Option<ChunkName>)
         requires standing { IsStanding H.hash_of self.old tree.old }
         requires next { HasNext self.old tree.old next }
@@ -455,7 +455,7 @@ impl<H: KeyHash + Drop> GroupTable<H> {
     }
 
     /// Adds a group with a key that no other has, and a state of `width` bytes. The key has at most 65,535 bytes, and at most 2^24 buckets
-    /// are needed, as where `room_for` is true for some limit.
+    /// are needed, as is so if `room_for` is true for some limit.
     ///
     /// The only error is a failed allocation. The groups are then as they were, and blocks that were taken may stay held. On the
     /// way no more is held below the parent than `need_for` counts: an array twice as long beside the old one, the key, and
@@ -474,7 +474,7 @@ impl<H: KeyHash + Drop> GroupTable<H> {
         }
     }
 
-    /// Adds a group where `look_up` says that its key would go: `insert` without another search.
+    /// Adds a group where `look_up` says that its key would go. It is `insert` without another search, and has its error.
     pub fn insert_vacant(
         &mut self,
         tree: &mut Tree,
@@ -538,9 +538,9 @@ impl<H: KeyHash + Drop> GroupTable<H> {
     ghost use Rattle.std.specs.Borrow.{sem};
     ghost use Rattle.context_tree.specs.TreeLends.{lends_chunk, with_bytes_in};
 
-    /// Lends the state of a group, to be changed. All other groups stay as they are.
+    /// Borrows the state of a group, to change it. All other groups stay as they are.
     ///
-    /// The tree is the first argument, since the bytes are lent from it.
+    /// The tree is the first argument, since the bytes are borrowed from it.
     pub fn state_mut<'a>(tree: &'a mut Tree, table: &GroupTable<H>, slot: Slot) -> &'a mut [u8]
         requires table { IsTableIn H.hash_of table.now tree.old }
         requires slot { IsSlot table.now slot }

@@ -122,7 +122,7 @@ pub record AddedBy {H D : Type 0} (plan : Plan) (hash : List ℕ → ℕ) (g : G
   pub ready : IsReady new
   pub kept : KeepsPass old new
 
--- it was not; if it can be read, no tape is to blame
+-- it was not; if it can be read, the reason is not a damaged tape
 pub record RefusedBy {H D : Type 0} (plan : Plan) (hash : List ℕ → ℕ) (g : Ghosts D) (what : Source) (old : Pass H) (before : D)
     (error : SpillError) (new : Pass H) : Type 0 where
   pub undamaged : CanRead plan hash (Are (meaning plan.query.now) hash what) (standing old.groups old.spill (g.last before))
@@ -168,7 +168,7 @@ pub record KeepsLater {H : Type 0} (old new : Pass H) : Type 0 where
   pub pending : new.spill.pending ≡ old.spill.pending
   pub level : new.spill.level ≡ old.spill.level
 
--- a record was read of the partition, is genuine, and was added
+-- a record of the partition was read, is genuine, and was added
 pub record ReadsAndAdds {H D : Type 0} (hash_of : H → List ℕ → ℕ) (g : Ghosts D) (old : Pass H) (before : D) (new : Pass H) (after : D) :
     Type 0 where
   pub hash : ℕ
@@ -185,7 +185,7 @@ AddInTurn hash_of g zero old before new after = (new ≡ old) × (after ≡ befo
 AddInTurn {H = H} {D = D} hash_of g (suc n) old before new after =
     (mid : Pass H) × (between : D) × AddInTurn hash_of g n old before mid between × ReadsAndAdds hash_of g mid between new after
 
--- all that its partition has were: over any disk, none was passed over
+-- all that its partition has were: over any disk, none was skipped
 pub record AddsEach {H D : Type 0} (hash_of : H → List ℕ → ℕ) (g : Ghosts D) (old : Pass H) (before : D) (new : Pass H) : Type 0 where
   pub last : Pass H
   pub disk : D

@@ -39,7 +39,7 @@ pub record IsCounted (inputs : List Brought) (query : Query) (setting : Setting)
   pub work : (givens : List Given) → AllGive query inputs givens → AddsUp old (cost_given query setting inputs givens) new
   pub pages : (givens : List Given) → AllGive query inputs givens → written ≡ writes + (cost_given query setting inputs givens).pages
 
--- it was, and the work returned is exactly what it costs, unless it has more groups than a counter of passes holds
+-- it was, and the work returned is exactly what it costs, unless it has more groups than a counter of passes can hold
 pub record Took (inputs : List Brought) (query : Query) (setting : Setting) (old : Work) (writes : ℕ) (told : Work) (written : ℕ) :
     Type 0 where
   pub counted : IsCounted inputs query setting old writes told written

@@ -70,7 +70,7 @@ abbrev pub IsInputOf : Query → Brought → List Row → Type 0
 IsInputOf query (Packed packed) rows = ArePackings query.kinds packed rows
 IsInputOf query (Counted run most) rows = AreGroups query most run (part query rows)
 
--- two lists are as long as each other, and what is at a place of the one belongs to what is at that place of the other
+-- two lists have the same length, and what is at a place of the one belongs to what is at that place of the other
 abbrev pub OneByOne : {X Y : Type 0} → (X → Y → Type 0) → List X → List Y → Type 0
 OneByOne Belongs [] [] = Unit {0}
 OneByOne Belongs (x ∷ xs) (y ∷ ys) = Belongs x y × OneByOne Belongs xs ys
@@ -107,8 +107,8 @@ AllBring query [] [] = Unit {0}
 AllBring query (input ∷ inputs) (keys ∷ lists) = Brings query input keys × AllBring query inputs lists
 AllBring query inputs lists = ⊥
 
--- what aggregation gives of inputs. Where they stand for lists of rows, it is the groups of all these rows. In any case it has the keys
--- that the inputs bring, each once and rising, and states that count at most as many rows as there are
+-- what aggregation gives for inputs. If they stand for lists of rows, it is the groups of all these rows. In any case it has the keys
+-- that the inputs bring, each once and in increasing order, and states that count at most as many rows as there are
 pub record IsAggregate (query : Query) (inputs : List Brought) (run : List Entry) : Type 0 where
   pub part : (lists : List (List Row)) → AreInputsOf query inputs lists
       → AreGroups query (all_rows inputs) run (part query (concatenated lists))

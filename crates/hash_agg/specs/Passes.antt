@@ -253,7 +253,7 @@ Reads plan hash Are old new =
     → CountUpTo (meaning plan.query.now) plan.most (pieces ++ more)
     → Holds (meaning plan.query.now) (setting_of plan hash) new (pieces ++ more) ahead pending
 
--- they can be read: an honest disk is no reason for a refusal
+-- they can be read: over an honest disk they are not refused
 abbrev pub CanRead : Plan → (List ℕ → ℕ) → (List Piece → Type 0) → PassState → Type 0
 CanRead plan hash Are old =
     (pieces more : List Piece) × (ahead : List Record) × (pending : List PendingPartition)
@@ -299,7 +299,7 @@ all_pieces inputs givens = []
 abbrev pub total : List Entry → PartitionsState → ℕ
 total entries spill = length entries + spilled_number spill
 
--- a record makes one group at most, and none if WHERE passes over it
+-- a record makes one group at most, and none if WHERE rejects it
 abbrev pub brings : Query → Piece → ℕ
 brings query (Of_row row) = if is_met (column_of row) query.condition then 1 else 0
 brings query (Of_group group most) = 1

@@ -19,7 +19,7 @@ use Rattle.hash_agg.specs.declared.work.Work.{Work}
 abbrev pub AreListed : Query → (List ℕ → ℕ) → List PendingPartition → List (List Piece) → Type 0
 AreListed query hash = OneByOne (λ list rest. ArePieces query hash list.records rest)
 
--- none of these is there; and just one of them is, which is this one, or none is, as this one isn't
+-- none of these is there; and exactly one of them is there, which is this one, or none is, if this one isn't
 abbrev pub AreNone : List (Option (List Partial)) → Type 0
 AreNone found = AllByRecursion (λ one. one ≡ None) found
 

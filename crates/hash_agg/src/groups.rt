@@ -31,9 +31,9 @@ use std::alloc::{AllocError, Global};
 use std::marker::Model;
 
 /// Groups: a hash table from their packed keys to their states. Its buckets, keys and states lie in contexts below the root of a tree,
-/// which has nothing else below it. `most_held` is the most bytes of blocks that these held since there was no
-/// group. `hash` is the hash function by which records are spilled; the table itself finds its buckets by another one, with a seed of its
-/// own.
+/// which has nothing else below it. `most_held` is the most bytes of blocks that these held since the table was
+/// empty. `hash` is the hash function by which records are spilled. The table itself finds its buckets by another one, with a seed of
+/// its own.
 #[derive(Drop)]
 pub(crate) struct Groups<H: KeyHash + Drop> {
     tree: Tree,
@@ -53,7 +53,7 @@ impl<H: KeyHash + Drop> Model for Groups<H> {
 }
 
 impl<H: KeyHash + Drop> Groups<H> {
-    /// No groups, whose states will have `width` bytes each. Records are spilled by `hash`; the table's hash function has this seed.
+    /// No groups yet. Their states will have `width` bytes each. Records are spilled by `hash`; the table's hash function has this seed.
     #[tactic(auto, using(crate::proofs::TableLaws::finds_made, crate::proofs::TableLaws::nothing_held))]
     pub(crate) fn new(
         alloc: Global,
@@ -112,7 +112,7 @@ impl<H: KeyHash + Drop> Groups<H> {
         self.table.entry(&self.tree, place)
     }
 
-    /// The most bytes of blocks that the groups held since there was none.
+    /// The most bytes of blocks that the groups held since the table was empty.
     pub(crate) fn most_held(&self) -> u64
         ensures is { result ≡ self.now.most_held }
         ensures by_needs { result ≡ greatest (map (need self.now.table.width) (fronts (packed_keys (entries_of self.now)))) }
@@ -120,8 +120,8 @@ impl<H: KeyHash + Drop> Groups<H> {
         self.most_held
     }
 
-    /// How many bytes of blocks are held at most while a group with this key is inserted, if these are within a limit and the buckets are
-    /// not too many.
+    /// The most bytes of blocks held while a group with this key is inserted, or `None` if they exceed a limit or there would be too many
+    /// buckets.
     pub(crate) fn need_within(&self, key: &[u8], limit: u64) -> Option<u64>
         requires { length key.now ≤ 65535 }
         ensures few { IfSome result (λ need. HasPlace self.now) }
@@ -137,7 +137,7 @@ impl<H: KeyHash + Drop> Groups<H> {
         Some(need as u64)
     }
 
-    /// Adds a group whose key isn't there, where `look_up` says, while this many bytes of blocks are held at most. The only error is a
+    /// Adds a group whose key isn't there, where `look_up` says, while at most this many bytes of blocks are held. The only error is a
     /// failed allocation, and no group is left then.
     pub(crate) fn insert(
         &mut self,
@@ -219,7 +219,7 @@ impl<H: KeyHash + Drop> Groups<H> {
         combine_within(query, states, more, most)
     }
 
-    /// Gives up all groups.
+    /// Removes all groups.
     pub(crate) fn clear(&mut self)
         ensures empty { entries_of self.new ≡ [] }
         ensures held { self.new.most_held ≡ 0 }

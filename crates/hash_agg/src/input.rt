@@ -11,7 +11,7 @@ use packed_rows::PackedRows;
 pub enum Input<'a> {
     /// Rows of the query's table, packed.
     Rows(&'a [Vec<u8>]),
-    /// The same, end to end in one run of bytes.
+    /// The same, end to end in one string of bytes.
     Packed(&'a PackedRows),
     /// The groups of `run`, no state of which counts more than `rows` rows.
     Groups { run: &'a Run, rows: u64 },
@@ -30,7 +30,7 @@ impl<'a> Input<'a> {
     }
 }
 
-/// Packed rows: each by itself, or end to end in one run of bytes.
+/// Packed rows: each by itself, or end to end in one string of bytes.
 #[derive(Drop)]
 pub(crate) enum Packings<'a> {
     Apart(&'a [Vec<u8>]),

@@ -7,15 +7,15 @@ ghost use Rattle.grouping_model.specs.Query.{Query};
 ghost use Rattle.group_runs.specs.Runs.{Entry};
 ghost use Rattle.group_runs.specs.Standing.{AreGroups, IsRun, IsGroupOf, run_bytes};
 
-/// A run stands for groups exactly where it is their bytes, and they are groups that the query can have. So groups have one
-/// run, which is a function of them.
+/// A run stands for groups exactly if it is their bytes, and they are groups that the query can have. So groups have exactly
+/// one run, which is a function of them.
 pub fn one_run()
     ensures { (query : Query) (most : ℕ) (run : List Entry) (groups : List Group) →
         AreGroups query most run groups ↔
         ((run ≡ run_bytes groups) × AllByRecursion (IsGroupOf query most) groups) }
 {}
 
-/// A run of groups that count at most this many rows is one of groups that count at most more rows.
+/// A run of groups that count at most this many rows is also a run for any higher bound.
 pub fn more_rows()
     ensures groups { (query : Query) (m n : ℕ) (run : List Entry) (groups : List Group) →
         m ≤ n → AreGroups query m run groups → AreGroups query n run groups }

@@ -27,7 +27,7 @@ pub struct LimitOutOfRange;
 /// not fit the limit. The disk to which it spills is a separate argument.
 ///
 /// The table itself finds keys by a hash function with a seed. No result and no page on the disk depends on the seed. But whoever knows it
-/// can make many keys of one hash, with which the table is slow. So where others choose the keys, take a random seed.
+/// can make many keys of one hash, with which the table is slow. So if others choose the keys, take a random seed.
 #[derive(Drop)]
 pub struct Means<H: KeyHash + Copy> {
     limit: u64,
@@ -46,8 +46,8 @@ impl<H: KeyHash + Copy> Model for Means<H> {
 }
 
 impl<H: KeyHash + Copy> Means<H> {
-    /// A limit in bytes, from 65,536 to 1,099,511,627,776, and a hash function. The seed is a fixed one. Another limit
-    /// is `LimitOutOfRange`.
+    /// A limit in bytes, from 65,536 to 1,099,511,627,776 (1 TiB), and a hash function. The seed is a fixed one. Any other
+    /// limit is `LimitOutOfRange`.
     pub fn new(limit: u64, hash: H) -> Result<Means<H>, LimitOutOfRange>
         ensures means { IfOk result (λ means. means ≡ record { limit = limit; hash = hash; seed = DEFAULT_SEED }) }
         ensures within { IfOk result (λ _. (MIN_LIMIT ≤ limit) × (limit ≤ MAX_LIMIT)) }
@@ -63,7 +63,7 @@ impl<H: KeyHash + Copy> Means<H> {
         })
     }
 
-    /// The usual limit, of 4,194,304 bytes, and a hash function. The seed is a fixed one.
+    /// The default limit, of 4,194,304 bytes (4 MiB), and a hash function. The seed is a fixed one.
     pub fn usual(hash: H) -> Means<H>
         ensures { result ≡ record { limit = DEFAULT_LIMIT; hash = hash; seed = DEFAULT_SEED } }
     {

@@ -52,7 +52,7 @@ impl Buffers {
     }
 }
 
-/// A pass, by a plan. Its table takes no new group that would exceed the limit, except the first one, and none once a record was spilled.
+/// A pass, by a plan. Its table takes no new group that would exceed the limit, except for the first, and none once a record was spilled.
 #[derive(Drop)]
 pub(crate) struct Pass<'q, H: KeyHash + Drop> {
     pub(crate) plan: Plan<'q>,
@@ -85,7 +85,7 @@ impl<'q, H: KeyHash + Copy> Pass<'q, H> {
 }
 
 impl<'q, H: KeyHash + Drop> Pass<'q, H> {
-    /// How many bytes of blocks the table holds at most while it inserts a group that isn't there, if it may.
+    /// The most bytes of blocks that the table holds while it inserts a group that isn't there, or `None` if it may not.
     fn need_to_insert(&self, key: &[u8]) -> Option<u64>
         requires ready { IsReady self.now }
         requires key { length key.now ≤ 8192 }
@@ -193,8 +193,8 @@ impl<'q, H: KeyHash + Drop> Pass<'q, H> {
         self.add_selected(disk, packed, row, key, states)
     }
 
-    /// Reads a record of a packed row from a tape. `TapeDamaged` if it is none of the query, if WHERE isn't true of it, since only
-    /// selected rows are spilled, or if its hash isn't its key's. What `buffers` holds doesn't matter.
+    /// Reads a record of a packed row from a tape. `TapeDamaged` if it is not a row of the query's table, if its hash isn't its key's,
+    /// or if WHERE isn't true for it: only selected rows are spilled. What `buffers` holds doesn't matter.
     fn add_row_record<D: TapeDisk>(
         &mut self,
         alloc: Global,
@@ -218,8 +218,8 @@ impl<'q, H: KeyHash + Drop> Pass<'q, H> {
         self.add_selected(disk, packed, &row, key, states)
     }
 
-    /// Reads a record of a group from a tape. `TapeDamaged` if it is none of the query, or if its hash isn't its key's. What `buffers`
-    /// holds doesn't matter.
+    /// Reads a record of a group from a tape. `TapeDamaged` if it is not a group of the query, or if its hash isn't its key's. What
+    /// `buffers` holds doesn't matter.
     fn add_group_record<D: TapeDisk>(
         &mut self,
         alloc: Global,
@@ -241,7 +241,7 @@ impl<'q, H: KeyHash + Drop> Pass<'q, H> {
         self.add_group(disk, key, states, &mut buffers.tape_record)
     }
 
-    /// Reads a record from a tape. `TapeDamaged` if it is none of the query. What `buffers` holds doesn't matter.
+    /// Reads a record from a tape. `TapeDamaged` if it is not a record of the query. What `buffers` holds doesn't matter.
     fn add_record<D: TapeDisk>(
         &mut self,
         alloc: Global,

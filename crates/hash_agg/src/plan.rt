@@ -35,7 +35,7 @@ pub(crate) struct Plan<'a> {
     pub(crate) first: Vec<u8>,
 }
 
-/// Reads values of these kinds from their packing into `row`, where they take the place of what was there.
+/// Reads values of these kinds from their packing into `row`, replacing what it held.
 fn unpack<'r>(
     kinds: &[ValueKind],
     packed: &'r [u8],
@@ -54,7 +54,7 @@ fn unpack<'r>(
     }
 }
 
-/// Packs the key of a row into `key`, where it takes the place of what was there.
+/// Packs the key of a row into `key`, replacing what it held.
 fn pack_key_of(query: &Query, row: &[Value<'_>], key: &mut Vec<u8>) -> Result<(), AllocError>
     requires formed { IsWellFormed (meaning query.now) }
     requires row { HasKinds (meaning query.now).kinds (row_of row.now) }
@@ -93,8 +93,8 @@ impl<'a> Plan<'a> {
         })
     }
 
-    /// Reads a packed row into `row`, and its key into `key` if WHERE is true of it, which is the answer. What both hold
-    /// before doesn't matter. `TapeDamaged` if it is no row of the query's table.
+    /// Reads a packed row into `row`, and its key into `key` if WHERE is true for it, and tells whether it is. What both hold
+    /// before doesn't matter. `TapeDamaged` if it is not a row of the query's table.
     pub(crate) fn select<'r>(
         &self,
         packed: &'r [u8],
@@ -120,7 +120,7 @@ impl<'a> Plan<'a> {
         Ok(true)
     }
 
-    /// Reads a packed row of the query's table into `row`, and where each value ends into `ends`, and tells whether WHERE is true of it.
+    /// Reads a packed row of the query's table into `row`, and where each value ends into `ends`, and tells whether WHERE is true for it.
     /// What both hold before doesn't matter. The only error is `NoMemory`.
     #[inline(always)]
     pub(crate) fn select_known<'r>(
@@ -157,7 +157,7 @@ impl<'a> Plan<'a> {
         part_at(packed, ends, self.query.keys())
     }
 
-    /// Packs the key of a row into `key`, where it takes the place of what was there. The only error is a failed allocation.
+    /// Packs the key of a row into `key`, replacing what it held. The only error is a failed allocation.
     pub(crate) fn pack_key(&self, row: &[Value<'_>], key: &mut Vec<u8>) -> Result<(), AllocError>
         requires plan { IsPlan self.now }
         requires row { HasKinds (meaning self.now.query.now).kinds (row_of row.now) }
@@ -167,7 +167,7 @@ impl<'a> Plan<'a> {
         pack_key_of(self.query, row, key)
     }
 
-    /// Makes `states` those of a group of one row. `TapeDamaged` if no group may count a row.
+    /// Makes `states` those of a group of one row. `TapeDamaged` if groups may not count any row.
     pub(crate) fn first_after(
         &self,
         row: &[Value<'_>],
@@ -191,7 +191,7 @@ impl<'a> Plan<'a> {
         }
     }
 
-    /// Checks a group that was read from a tape. `TapeDamaged` if it is none of the query, or counts too many rows.
+    /// Checks a group that was read from a tape. `TapeDamaged` if it is not a group of the query, or counts too many rows.
     pub(crate) fn check_group(
         &self,
         alloc: Global,

@@ -10,7 +10,7 @@ pub(crate) const ROW: u8 = 0;
 
 pub(crate) const GROUP: u8 = 1;
 
-/// Writes the record of a group to `out`, where it takes the place of what was there. The only error is a failed allocation.
+/// Writes the record of a group to `out`, replacing what it held. The only error is a failed allocation.
 pub(crate) fn write_group(out: &mut Vec<u8>, key: &[u8], states: &[u8]) -> Result<(), AllocError>
     requires { length key.now ≤ 65535 }
     ensures { OnOk result (out.new.items ≡ group_record key.now states.now) }

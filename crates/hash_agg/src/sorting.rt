@@ -16,7 +16,7 @@ use std::alloc::{AllocError, Global};
 /// these, without a look at the bytes themselves.
 pub(crate) type AbbreviatedKey<'a> = (u64, (&'a [u8], &'a [u8]));
 
-/// The byte at a place of a key, and 0 after its last one.
+/// The byte at a place of a key, or 0 after its end.
 fn byte_at(key: &[u8], place: usize) -> u8
     ensures { result ≡ slice_index key.now place }
 {
@@ -69,7 +69,7 @@ pub(crate) fn united(alloc: Global, first: &Run, others: &[Run]) -> Result<Run, 
     sort_distinct(alloc, entries.as_mut_slice())
 }
 
-/// How many bytes the keys and the states of groups have, if all are as long as those of the first.
+/// How many bytes the keys and the states of groups take, if all are as long as those of the first.
 fn total_lengths(entries: &[AbbreviatedKey<'_>]) -> (usize, usize) {
     if entries.is_empty() {
         return (0, 0);

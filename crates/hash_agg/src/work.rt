@@ -3,8 +3,8 @@
 ghost use Rattle.std.specs.Prelude.{◌≡◌, ◌+◌, min, max};
 ghost use Rattle.hash_agg.specs.Counting.{no_work};
 
-/// What an aggregation took: how many passes it made, how many records these spilled (one record once for each pass that spills it), and
-/// the most bytes of blocks that its table of groups held at any time. The resulting run, the pages of tapes and what is kept beside the
+/// What an aggregation took: its passes, the records that these spilled, and the most bytes of blocks that its table of groups held at
+/// any time. A record counts once for each pass that spills it. The resulting run, the pages of tapes and what is kept beside the
 /// blocks, such as 24 bytes a group, are not counted.
 #[derive(Clone, Copy, Debug, PartialEq, Eq)]
 pub struct Work {
@@ -25,7 +25,7 @@ impl Work {
         }
     }
 
-    /// Adds the work of another aggregation. Counters stop at the greatest number that they can have.
+    /// Adds the work of another aggregation. Counters saturate: they stop at their greatest number.
     pub(crate) fn add(&mut self, more: Work)
         ensures passes { self.new.passes ≡ min (self.old.passes + more.passes) 18446744073709551615 }
         ensures spilled { self.new.spilled ≡ min (self.old.spilled + more.spilled) 340282366920938463463374607431768211455 }

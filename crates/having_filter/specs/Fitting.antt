@@ -31,7 +31,7 @@ abbrev pub TakesTwo : Binary_operator → Option Kind → Option Kind → Type 0
 TakesTwo (Comparing comparison) left right = OfOneKind left right
 TakesTwo operator left right = IsTruth left × IsTruth right
 
--- all that a condition reads may be read there, and each operator in it has operands that it takes
+-- all that a condition reads may be read there, and each operator in it takes its operands
 abbrev pub OperandsFit : (Form ℕ → Type 0) → List Kind → Form ℕ → Type 0
 OperandsFit IsRead kinds (Literal value) = Unit {0}
 OperandsFit IsRead kinds (Unary operator x) = OperandsFit IsRead kinds x × TakesOne operator (kind_of_form kinds x)

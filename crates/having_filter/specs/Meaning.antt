@@ -34,7 +34,7 @@ condition_by leaf (Unary operator x) = unary_of operator (condition_by leaf x)
 condition_by leaf (Binary operator x y) = binary_of operator (condition_by leaf x) (condition_by leaf y)
 condition_by leaf read = leaf read
 
--- what WHERE and FILTER read: columns, and no aggregates, which count for null there (PostgreSQL 17, 4.2.7)
+-- what WHERE and FILTER read: columns, and no aggregates, which are null there (PostgreSQL 17, 4.2.7)
 abbrev pub column_leaf : Form ℕ → Condition ℕ
 column_leaf (form.Column place) = model.At place
 column_leaf other = model.Literal Null

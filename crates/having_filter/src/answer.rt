@@ -19,7 +19,7 @@ use std::alloc::{AllocError, Global};
 use std::cmp::Ordering;
 use std::marker::Model;
 
-/// The rows of an answer in the order in which they are made, by rising key. Each has the values of the query's items.
+/// The rows of an answer in the order in which they are made, by increasing key. Each has the values of the query's items.
 ///
 /// The values of all rows lie in one run, so that a row takes no block of memory of its own.
 #[derive(Drop)]
@@ -96,7 +96,7 @@ impl AnswerRows {
         self.values.value(bound(&self.ends, row), item)
     }
 
-    /// The item at a place of a row, and null where there is none.
+    /// The item at a place of a row, and null if there is none.
     fn value_or_null(&self, row: usize, item: usize) -> ResultValue<'_>
         ensures { outcome_of result ≡ slice_index_or (slice_index_or self.now row []) item (Plain Null) }
     {
@@ -184,7 +184,7 @@ impl Model for Answer {
 }
 
 impl Answer {
-    /// The rows as the clauses behind HAVING arrange them: sorted by the terms of ORDER BY. Rows that no term tells apart keep their
+    /// The rows as the clauses after HAVING arrange them: sorted by the terms of ORDER BY. Rows that no term tells apart keep their
     /// order. Without terms it takes no memory. The only error is a failed allocation.
     pub fn arranged(
         alloc: Global,

@@ -9,7 +9,7 @@ use agg_protocol::ResultValue;
 use std::alloc::{AllocError, Global};
 use std::marker::Model;
 
-/// A value. Of a text it has where the text begins and ends in the run of all texts.
+/// A value. For a text it is where the text begins and ends among all texts.
 #[derive(Clone, Copy, Drop)]
 enum Cell {
     Null,
@@ -19,7 +19,7 @@ enum Cell {
     Text { from: usize, to: usize },
 }
 
-/// Values in their order: in a clause, the list of their outcomes.
+/// Values in their order. In a clause they are the list of their outcomes.
 ///
 /// The texts lie end to end, so a text takes no block of memory of its own.
 #[derive(Drop)]
@@ -124,14 +124,14 @@ impl Values {
         Ok(())
     }
 
-    /// Keeps the first `count` values. All texts stay, also those of the others.
+    /// Keeps the first `count` values. All texts stay, even those of the values that go.
     fn truncate(&mut self, count: usize)
         ensures { self.new ≡ take count self.old }
     {
         self.cells.truncate(count);
     }
 
-    /// Adds values at the end. After a failed allocation some of them may stand there.
+    /// Adds values at the end. After a failed allocation some of them may have been added.
     fn push_each(&mut self, row: &[ResultValue<'_>]) -> Result<(), AllocError>
         ensures pushed { OnOk result (self.new ≡ self.old ++ map outcome_of row.now) }
         ensures refused { OnErr result (take (length self.old) self.new ≡ self.old) }

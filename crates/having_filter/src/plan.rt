@@ -1,4 +1,4 @@
-//! What is computed from a query once, so that its evaluation looks nothing up.
+//! What is computed from a query once, so that its evaluation needs no look-up by name.
 
 ghost use Rattle.std.specs.Prelude.{◌≡◌, ◌==◌, map, option_map, position, slice_index_or, IfOk};
 ghost use Rattle.grouping_model.specs.Datum.{Null, Bigint_kind};
@@ -19,7 +19,7 @@ use packed_rows::{Schema, ValueKind};
 use query_checks::{AggCall, Cond, Item, Mapping, Parts, is_same_call, mapped_clause};
 use std::alloc::{AllocError, Global};
 
-/// Where a value of a group is found: its keys or the results of its aggregates, the first of either being 0.
+/// Where a value of a group is found: among its keys or the results of its aggregates, the first of either being 0.
 #[derive(Clone, Copy)]
 pub enum Source {
     /// A column of GROUP BY, by its place there.

@@ -138,13 +138,13 @@ fn shared(alloc: Global, kept: Kept) -> Result<Arc<Kept>, AllocError>
 }
 
 impl Query {
-    /// The query that a text says, over the columns of a schema. A repeated column of GROUP BY counts once. An alias that is the item's own
-    /// name is dropped, and so is a term of ORDER BY whose item an earlier term names.
+    /// Checks a query that was read, over the columns of a schema. A repeated column of GROUP BY counts once. An alias that is the item's
+    /// own name is dropped, and so is a term of ORDER BY whose item an earlier term names.
     ///
     /// # Errors
     ///
     /// The first of these that applies anywhere in the query: `TooMany` for over 64 items, 16 distinct columns of GROUP BY, 32 distinct
-    /// aggregates among the items and in HAVING, or a canonical text of over 16,384 bytes; `TooDeep` for a condition that is nested more
+    /// aggregate calls in the items and HAVING, or a canonical text of over 16,384 bytes; `TooDeep` for a condition that is nested more
     /// than 64 deep; `NoSuchColumn`, also for a name or a place in ORDER BY that no item has; `AggregateHere` for an aggregate in WHERE or
     /// in a FILTER; `TypeMismatch` for an argument, an operand or a condition of the wrong kind; `NotGrouped` for a column among the items
     /// or in HAVING that stands outside aggregates and isn't in GROUP BY; `AmbiguousOrder` for a name in ORDER BY that two items have, if
@@ -213,7 +213,7 @@ impl Query {
         &self.kept.parts.having
     }
 
-    /// The order of the answer: the terms of ORDER BY that are left, each by an item of its own.
+    /// The order of the answer: the terms of ORDER BY that remain, each by an item of its own.
     pub fn order(&self) -> &[OrderTerm]
         ensures order { result.now ≡ self.now.arrangement.order }
         ensures query { IsCheckedQuery self.now }
@@ -253,7 +253,7 @@ impl Query {
         self.kept.plan.calls[aggregate].column
     }
 
-    /// Where the values of the items are found in a group.
+    /// Where the values of the items lie in a group.
     pub fn sources(&self) -> &[Source]
         ensures { map source_of result.now ≡ (meaning self.now).items }
     {
@@ -276,7 +276,7 @@ impl Query {
         self.kept.texts.query.as_str()
     }
 
-    /// Whether WHERE is true of a row, and not false or unknown. No WHERE counts as true.
+    /// Whether WHERE is true for a row, and not false or unknown. No WHERE counts as true.
     #[tactic(auto, using(crate::proofs::ValueLaws::met_in_steps))]
     pub fn where_true(&self, row: &[Value<'_>]) -> bool
         ensures { result ≡ is_met (column_of (row_of row.now)) (meaning self.now).condition }
@@ -284,7 +284,7 @@ impl Query {
         is_met(&self.kept.parts.condition, &RowLeaves { row })
     }
 
-    /// Whether the FILTER of an aggregate is true of a row, and not false or unknown, the first aggregate being 0. No
+    /// Whether the FILTER of an aggregate is true for a row, and not false or unknown, the first aggregate being 0. No
     /// FILTER counts as true.
     pub fn filter_true(&self, aggregate: usize, row: &[Value<'_>]) -> bool
         requires { aggregate < length (meaning self.now).aggregates }
@@ -294,7 +294,7 @@ impl Query {
         is_met(&self.kept.plan.calls[aggregate].filter, &RowLeaves { row })
     }
 
-    /// Whether HAVING is true of a group, and not false or unknown, given the values of the columns of GROUP BY and the
+    /// Whether HAVING is true for a group, and not false or unknown, given the values of the columns of GROUP BY and the
     /// results of the aggregates. No HAVING counts as true.
     pub fn having_true(&self, key: &[ResultValue<'_>], results: &[ResultValue<'_>]) -> bool
         ensures { result ≡
@@ -304,7 +304,7 @@ impl Query {
         is_met(&self.kept.plan.having, &GroupLeaves { key, results })
     }
 
-    /// Whether two queries are the same: the canonical texts of their schemas are, and their own.
+    /// Whether two queries are the same: their canonical texts are, and those of their schemas.
     pub fn same_query(&self, other: &Query) -> bool
         ensures { IsTrue result ↔ ((printed self.now.columns ≡ printed other.now.columns)
             × (spelling (by_names self.now) ≡ spelling (by_names other.now))) }
@@ -313,8 +313,8 @@ impl Query {
         own.schema == theirs.schema && own.query == theirs.query
     }
 
-    /// The same query again. It takes no memory, since both share what is kept. The only error is that there are as
-    /// many copies as can be counted.
+    /// A copy of the query. It takes no memory, since both share what is kept. The only error is that there are already
+    /// as many copies as can be counted.
     pub fn try_clone(&self) -> Result<Query, AllocError>
         ensures { IfOk result (λ query. query ≡ self.now) }
     {

@@ -40,7 +40,7 @@ pub(crate) fn not(truth: Option<bool>) -> Option<bool>
     }
 }
 
-/// AND: false if a side is, else unknown if a side is, else true.
+/// AND: false if either side is false, else unknown if either is unknown, else true.
 pub(crate) fn and(a: Option<bool>, b: Option<bool>) -> Option<bool>
     ensures { truth_of result ≡ truth_and (truth_of a) (truth_of b) }
 {
@@ -52,7 +52,7 @@ pub(crate) fn and(a: Option<bool>, b: Option<bool>) -> Option<bool>
     }
 }
 
-/// OR: true if a side is, else unknown if a side is, else false.
+/// OR: true if either side is true, else unknown if either is unknown, else false.
 pub(crate) fn or(a: Option<bool>, b: Option<bool>) -> Option<bool>
     ensures { truth_of result ≡ truth_or (truth_of a) (truth_of b) }
 {
@@ -86,7 +86,7 @@ fn order(x: ResultValue<'_>, y: ResultValue<'_>) -> Option<Ordering>
     }
 }
 
-/// A comparison: unknown where a side is null.
+/// A comparison: unknown if either side is null.
 pub(crate) fn compare(
     comparison: Comparison,
     x: ResultValue<'_>,

@@ -25,7 +25,7 @@ pub(crate) trait Leaves<C> {
         ensures { outcome_of result ≡ outcome self.now (call_form call.now) };
 }
 
-/// The value of a condition, by three-valued logic. AND and OR look no further than a side that decides.
+/// The value of a condition, by three-valued logic. AND and OR evaluate no more once one side decides.
 pub(crate) fn value<'a, C, L: Leaves<C>>(condition: &'a Cond<C>, leaves: &'a L) -> ResultValue<'a>
     ensures { outcome_of result ≡
         value_of (L.outcome leaves.now) (condition_by At (form_of condition.now)) }

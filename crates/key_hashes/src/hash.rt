@@ -3,7 +3,7 @@
 ghost use Rattle.std.specs.Prelude.{◌≡◌, ◌*◌, ◌%◌, ℕ, List};
 ghost use Rattle.key_hashes.specs.Hashes.{fnv_1a};
 
-/// A hash function: from the bytes of a key to the number by which the key is looked up.
+/// A hash function: from the bytes of a key to a number of 32 bits, by which the key is looked up.
 ///
 /// Results are right with any function. If many keys have the same hash, a table of them is slow.
 pub trait KeyHash {

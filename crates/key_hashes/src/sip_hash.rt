@@ -19,7 +19,7 @@ pub struct Seed {
 /// The hash function SipHash-1-3 (J.-P. Aumasson, D. J. Bernstein: SipHash, a fast short-input PRF, 2012), of which the low 32 bits are
 /// used.
 ///
-/// It is made so that nobody finds keys of one hash without the seed; no contract says so.
+/// It is designed so that nobody finds keys of one hash without the seed. No contract says that this holds.
 #[derive(Clone, Copy)]
 pub struct SipHash {
     seed: Seed,

@@ -77,7 +77,7 @@ pub record BeginsWithColumn (lexemes : List Lexeme) (name : List ℕ) (kind : Ki
   pub begins : lexemes ≡ Name name ∷ Name word ∷ rest
   pub of_kind : kind_named word ≡ Some kind
 
--- a text is that of a schema with these columns
+-- a text is a schema with these columns
 pub record IsSchemaText (text : List ℕ) (columns : List Column) : Type 0 where
   pub tokens : List Placed
   pub read : tokens_in text ≡ Ok tokens

@@ -7,7 +7,7 @@ use Rattle.grouping_model.specs.Datum.{Datum, Kind, Row, IsText, null_field, Nul
 use Rattle.grouping_model.specs.Datum.{Text_kind}
 
 -- a bigint: a plus, a minus or neither, then one or more digits, in the range of 64 bits
--- (PostgreSQL 17, 8.1.1 Integer Types; no white space round it, no underscores, no other base)
+-- (PostgreSQL 17, 8.1.1 Integer Types; no white space around it, no underscores, no other base)
 abbrev pub IsBigintField : List ℕ → ℤ → Type 0
 IsBigintField field z = IsNumeral 10 (without_leading_sign field) × FitsSigned w64 z × (signed_digits_value 10 field ≡ z)
 
@@ -25,7 +25,7 @@ IsBooleanField field false = SpellsWord (codes "f") field ⊎ SpellsWord (codes 
 abbrev pub IsTextField : List ℕ → List ℕ → Type 0
 IsTextField field text = IsText field × (field ≡ text)
 
--- the field stands for this value in a column of this kind. A null is written alike in each
+-- the field is this value in a column of this kind. Null is written alike in all kinds
 abbrev pub Reads : Kind → List ℕ → Datum → Type 0
 Reads kind field Null = field ≡ null_field
 Reads Bigint_kind field (Bigint z) = IsBigintField field z
@@ -33,11 +33,11 @@ Reads Boolean_kind field (Boolean b) = IsBooleanField field b
 Reads Text_kind field (Text text) = IsTextField field text
 Reads kind field value = ⊥
 
--- the field stands for no value
+-- the field is not a value of this kind
 abbrev pub IsBadField : Kind → List ℕ → Type 0
 IsBadField kind field = (value : Datum) → ¬ (Reads kind field value)
 
--- field by field, the fields of a row stand for its values
+-- field by field, the fields of a row are its values
 abbrev pub ReadsRow : List Kind → List (List ℕ) → Row → Type 0
 ReadsRow [] [] [] = Unit {0}
 ReadsRow (kind ∷ kinds) (field ∷ fields) (value ∷ row) = Reads kind field value × ReadsRow kinds fields row

@@ -33,10 +33,10 @@ BeginsWithValue kind bytes = (value : Datum) × (rest : List ℕ) × HasKind kin
 abbrev pub LieAsValues : List ℕ → List ℕ → Type 0
 LieAsValues bytes ends = (row : Row) × LieAs bytes ends (map value_packing row)
 
--- the bytes of no row of these kinds
+-- the bytes are not a row of these kinds
 abbrev pub IsNoPacking : List Kind → List ℕ → Type 0
 IsNoPacking kinds bytes = (row : Row) → HasKinds kinds row → bytes ≢ packing row
 
--- a front of some bytes was appended to others
+-- a prefix of some bytes was appended to others
 abbrev pub AppendsFront : List ℕ → List ℕ → List ℕ → Type 0
 AppendsFront old new bytes = (front : List ℕ) × (back : List ℕ) × (bytes ≡ front ++ back) × (new ≡ old ++ front)

@@ -12,7 +12,7 @@ use Rattle.query_tokens.specs.Reserved.{is_reserved}
 use Rattle.packed_rows.specs.Field.{IsLeftmostBad}
 use Rattle.packed_rows.specs.Packing.{IsNoPacking}
 
--- the error of an unpacking, unless memory ran out: the bytes are no packing of a row of these kinds
+-- the error of an unpacking, unless memory ran out: the bytes are not the packing of a row of these kinds
 abbrev pub UnpackFault : List Kind → List ℕ → RowError → Type 0
 UnpackFault kinds bytes NoMemory = Unit {0}
 UnpackFault kinds bytes BadPacked = IsNoPacking kinds bytes
@@ -32,13 +32,13 @@ AddFault name columns BadSchema = (length columns ≡ MAX_COLUMNS) ⊎ IsTrue (l
     ⊎ IsTrue (is_reserved name)
 AddFault name columns error = ⊥
 
--- the error of a schema's text, unless memory ran out: it is the text of no schema
+-- the error of a schema's text, unless memory ran out: the text is not a schema
 abbrev pub ParseFault : List ℕ → RowError → Type 0
 ParseFault text NoMemory = Unit {0}
 ParseFault text BadSchema = (columns : List Column) → ¬ (IsSchemaText text columns)
 ParseFault text error = ⊥
 
--- the error of a schema's tokens, unless memory ran out: they describe no columns of a schema
+-- the error of a schema's tokens, unless memory ran out: they are not the columns of a schema
 abbrev pub ReadFault : List Lexeme → RowError → Type 0
 ReadFault lexemes NoMemory = Unit {0}
 ReadFault lexemes BadSchema = (columns : List Column) → Describes lexemes columns → ¬ (AreColumns columns)

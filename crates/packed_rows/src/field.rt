@@ -11,17 +11,17 @@ use crate::value::{Value, ValueKind};
 use grouping_model::limits::MAX_TEXT_LEN;
 use std::str;
 
-/// Whether a field is that of a null, in a column of whatever kind.
+/// Whether a field is null, in a column of any kind.
 pub(crate) fn is_null(field: &[u8]) -> bool
     ensures { IsTrue result ↔ (field.now ≡ null_field) }
 {
     matches!(field, [b'\\', b'N'])
 }
 
-/// As many digits stand for a number below 2^63, whichever they are.
+/// This many digits, whichever they are, make a number below 2^63.
 const SURE_DIGITS: usize = 18;
 
-/// The number that 1 to 18 digits stand for. What else there is may stand for one as well.
+/// The number of 1 to 18 digits. Other bytes give none here, and may still be a number.
 fn short_number(digits: &[u8]) -> Option<u64>
     ensures numeral { IfSome result (λ _. IsNumeral 10 digits.now) }
     ensures value { IfSome result (λ n. digits_value 10 digits.now ≡ n) }
@@ -40,7 +40,7 @@ fn short_number(digits: &[u8]) -> Option<u64>
     Some(value)
 }
 
-/// The number that a field of up to 18 digits stands for, with a sign or without. What else there is may stand for one as well.
+/// The number in a field of up to 18 digits, with or without a sign. Other fields give none here, and may still be a number.
 fn short_bigint(field: &[u8]) -> Option<i64>
     ensures { IfSome result (λ z. IsBigintField field.now z) }
 {
@@ -51,7 +51,7 @@ fn short_bigint(field: &[u8]) -> Option<i64>
     }
 }
 
-/// The number that a field of any length stands for.
+/// The number in a field of any length.
 fn long_bigint(field: &[u8]) -> Option<i64>
     ensures found { IfSome result (λ z. IsBigintField field.now z) }
     ensures none { IfNone result ((z : ℤ) → ¬ (IsBigintField field.now z)) }
@@ -112,7 +112,7 @@ pub(crate) fn read_text(field: &[u8]) -> Option<&str>
     str::from_utf8(field).ok()
 }
 
-/// A field stands for one value at most, which has its column's kind, and the fields of a row for one row at most.
+/// A field is one value at most, which has its column's kind, and the fields of a row are one row at most.
 #[tactic(auto, using(crate::specs::Lemmas::FieldLaws::one_value, crate::specs::FieldLaws::read_kind, crate::specs::Lemmas::FieldLaws::one_row, crate::specs::FieldLaws::read_kinds))]
 pub fn reading()
     ensures one_value { (kind : Kind) (field : List ℕ) (x y : Datum) → Reads kind field x →
@@ -125,7 +125,7 @@ pub fn reading()
         ReadsRow kinds fields x → HasKinds kinds x }
 {}
 
-/// The value that a field stands for in a column of this kind, or `None` for a bad field.
+/// The value of a field in a column of this kind, or `None` if the field is not a value of this kind.
 #[inline(always)]
 pub fn read_value(field: &[u8], kind: ValueKind) -> Option<Value<'_>>
     ensures found { IfSome result (λ v. Reads (kind_of kind) field.now (datum_of v)) }

@@ -7,7 +7,7 @@ ghost use Rattle.grouping_model.specs.Datum.{Kind, Row, HasKinds, row_cmp};
 ghost use Rattle.packed_rows.specs.Packing.{packing};
 ghost use Rattle.packed_rows.specs.Columns.{Column, AreColumns, IsSchemaText, printed};
 
-/// Packed keys of the same kinds compare by their bytes as the keys do. A packing tells where it ends, so what
+/// Packed keys of the same kinds compare by their bytes as the keys do. A packing shows where it ends. So what
 /// follows two packings doesn't matter, and equal packings are of equal keys.
 #[tactic(auto, using(crate::specs::Lemmas::PackingOrder::packed_order, crate::specs::Lemmas::PackingOrder::row_apart))]
 pub fn packing_order()

@@ -17,7 +17,7 @@ use crate::value::{Value, ValueKind};
 use grouping_model::limits::MAX_TEXT_LEN;
 use std::alloc::Global;
 
-/// How many bytes the packing of a field has at most, if it stands for a value.
+/// How many bytes the packing of a field has at most, if it is a value of its column.
 fn most_bytes(kind: ValueKind, field: &[u8]) -> usize
     ensures { result ≤ 257 }
 {
@@ -37,8 +37,8 @@ fn packed_len(kinds: &[ValueKind], fields: &[&[u8]]) -> usize {
     room
 }
 
-/// The packing of the row that the fields stand for, field by field. The errors are `WrongWidth` for more or fewer
-/// fields than columns, else `BadField` for the leftmost field that stands for no value, and `NoMemory`.
+/// The packing of the row of these fields. The errors are `WrongWidth` for more or fewer fields than columns, else
+/// `BadField` for the leftmost field that is not a value of its column, and `NoMemory`.
 pub fn pack_row(alloc: Global, schema: &Schema, fields: &[&[u8]]) -> Result<Vec<u8>, RowError>
     ensures packed { IfOk result (λ bytes. (row : Row)
         × ReadsRow (kinds schema.now) (texts_of fields.now) row × (bytes.items ≡ packing row)) }
@@ -57,7 +57,7 @@ pub fn pack_row(alloc: Global, schema: &Schema, fields: &[&[u8]]) -> Result<Vec<
     Ok(out)
 }
 
-/// The values of a row of this schema from its packing. The errors are `BadPacked`, and `NoMemory`.
+/// The values of a row of this schema from its packing. The errors are `BadPacked` if the bytes are no such packing, and `NoMemory`.
 pub fn unpack_row<'a>(
     alloc: Global,
     schema: &Schema,
@@ -66,7 +66,7 @@ pub fn unpack_row<'a>(
     // What is unpacked is a row of the schema, and the bytes are its packing.
     ensures found { IfOk result (λ row. HasKinds (kinds schema.now) (row_of row.items)
         × (bytes.now ≡ packing (row_of row.items))) }
-    // The bytes are refused only where they are no packing of such a row.
+    // The bytes are refused only if they are not the packing of such a row.
     ensures refused { IfErr result (UnpackFault (kinds schema.now) bytes.now) }
 {
     unpack_key(alloc, schema.kinds(), bytes)

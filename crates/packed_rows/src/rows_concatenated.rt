@@ -6,7 +6,7 @@ ghost use Rattle.std.specs.Prelude.{IfOk, OnOk, OnErr};
 use std::alloc::{AllocError, Global};
 use std::marker::Model;
 
-/// Rows in order, each the bytes of its packing: in a clause, the list of them.
+/// Rows in order, each as the bytes of its packing. In a clause they are a list.
 ///
 /// The rows lie end to end, so a row takes no block of memory of its own.
 #[derive(Drop)]

@@ -105,9 +105,9 @@ fn unpack_value(kind: ValueKind, bytes: &[u8]) -> Option<(Value<'_>, &[u8])>
     }
 }
 
-/// Reads the values of a key of these kinds from its packing into `key`, in place of what it held, so one vector can
-/// serve for many keys. The errors are `BadPacked`, and `NoMemory`; after one, `key` holds values that the bytes begin
-/// with.
+/// Reads the values of a key of these kinds from its packing into `key`, replacing what it held, so one vector can serve
+/// for many keys. The errors are `BadPacked` if the bytes are no such packing, and `NoMemory`. After an error, `key` holds
+/// values that the bytes begin with.
 pub fn unpack_into<'a>(
     kinds: &[ValueKind],
     bytes: &'a [u8],
@@ -116,7 +116,7 @@ pub fn unpack_into<'a>(
     // What is unpacked is a key of these kinds, and the bytes are its packing.
     ensures found { OnOk result (HasKinds (kinds_of kinds.now) (row_of key.new.items)
         × (bytes.now ≡ packing (row_of key.new.items))) }
-    // The bytes are refused only where they are no packing of such a key.
+    // The bytes are refused only if they are not the packing of such a key.
     ensures refused { IfErr result (UnpackFault (kinds_of kinds.now) bytes.now) }
     // After an error, the vector holds values that the bytes begin with.
     ensures begun { OnErr result ((rest : List ℕ)
@@ -169,8 +169,8 @@ fn known_value(kind: ValueKind, bytes: &[u8]) -> (Value<'_>, &[u8])
     }
 }
 
-/// Reads the values of a key of these kinds from its packing into `key`, and where the packing of each ends into `ends`, in place of what
-/// they held. It is `unpack_into` for bytes that are known to be a packing: no text is checked again. The only error is a failed allocation.
+/// Reads the values of a key of these kinds from its packing into `key`, and where the packing of each ends into `ends`, replacing what
+/// they held. It is `unpack_into` for bytes known to be a packing: no text is checked again. The only error is a failed allocation.
 pub fn unpack_known<'a>(
     kinds: &[ValueKind],
     bytes: &'a [u8],
@@ -195,7 +195,7 @@ pub fn unpack_known<'a>(
     Ok(())
 }
 
-/// The packing of the values of a key from one place up to another, which lies in the key's own. `ends` tells where each value's ends.
+/// The packing of the values of a key from one place up to another, as a slice of the key's packing. `ends` tells where each value's ends.
 fn part_between<'a>(packed: &'a [u8], ends: &[usize], from: usize, to: usize) -> &'a [u8]
     requires lie { LieAsValues packed.now ends.now }
     requires rises { from ≤ to }
@@ -208,7 +208,7 @@ fn part_between<'a>(packed: &'a [u8], ends: &[usize], from: usize, to: usize) ->
     part(packed, start, end)
 }
 
-/// The packing of the values at these places of a key, where it lies in the key's own: `None` if a place is not the next to the one before.
+/// The packing of the values at these places of a key, as a slice of the key's packing, or `None` if the places are not consecutive.
 /// `ends` tells where the packing of each value ends, as `unpack_known` does.
 pub fn part_at<'a>(packed: &'a [u8], ends: &[usize], places: &[usize]) -> Option<&'a [u8]>
     requires lie { LieAsValues packed.now ends.now }
@@ -230,7 +230,7 @@ pub fn part_at<'a>(packed: &'a [u8], ends: &[usize], places: &[usize]) -> Option
     Some(part_between(packed, ends, from, behind))
 }
 
-/// The values of a key of these kinds from its packing. The errors are `BadPacked`, and `NoMemory`.
+/// The values of a key of these kinds from its packing. The errors are `BadPacked` if the bytes are no such packing, and `NoMemory`.
 pub fn unpack_key<'a>(
     alloc: Global,
     kinds: &[ValueKind],
@@ -239,7 +239,7 @@ pub fn unpack_key<'a>(
     // What is unpacked is a key of these kinds, and the bytes are its packing.
     ensures found { IfOk result (λ key. HasKinds (kinds_of kinds.now) (row_of key.items)
         × (bytes.now ≡ packing (row_of key.items))) }
-    // The bytes are refused only where they are no packing of such a key.
+    // The bytes are refused only if they are not the packing of such a key.
     ensures refused { IfErr result (UnpackFault (kinds_of kinds.now) bytes.now) }
 {
     let mut key = Vec::with_capacity(alloc, kinds.len())?;

@@ -28,14 +28,14 @@ pub record IsPlain (columns : List Column) (layout : Layout) (csv : List ℕ) (p
 abbrev pub batch_records : Layout → Plain → List Record
 batch_records layout plain = map (arranged layout.null.now plain.places) plain.rows
 
--- the head of a batch file
+-- the header of a batch file
 abbrev pub head_of : ℕ → ℕ → ℕ → FileHead
 head_of origin number rows = record { origin = decimal origin; number = decimal number; told = rows }
 
 abbrev pub head_fields : FileHead → Record
 head_fields head = codes "batch" ∷ head.origin ∷ head.number ∷ decimal head.told ∷ []
 
--- a batch file as text: csv's default line for its head and for each record
+-- a batch file as text: csv's default line for its header and for each record
 abbrev pub file_text : BatchFile → List ℕ
 file_text file = row_text default_writer (head_fields file.head) ++ flat_map (row_text default_writer) file.records
 

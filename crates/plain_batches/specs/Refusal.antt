@@ -1,4 +1,4 @@
--- When a plain CSV is refused, and by which refusal. All of this is our own.
+-- When a plain CSV is refused, and with which error. All of this is our own.
 use Rattle.std.specs.Prelude.{◌≡◌, ◌≢◌, ℕ, ◌<◌, ◌≤◌, Bool, true, false, List, [], take, length, slice_index_or, Some, All}
 use Rattle.grouping_model.specs.declared.limits.TheConstants.{MAX_INPUT_LEN, MAX_ROWS}
 use Rattle.packed_rows.specs.Columns.{Column, kinds, names}
@@ -66,7 +66,7 @@ pub record IsRightHeader (skips : Bool) (names header : Record) : Type 0 where
   pub at : ArePlaces header names places
 
 -- the error of rows by their number and widths, unless memory ran out: that of the first row, of those that a batch may have, which is
--- wider or narrower than told, or else that there are more
+-- wider or narrower than the width given, or else that there are more
 abbrev pub WidthFault : ℕ → List Record → PackError → Type 0
 WidthFault width rows NoMemory = Unit {0}
 WidthFault width rows (WrongWidth row) = (row < MAX_ROWS) × (row < length rows) × (length (slice_index_or rows row []) ≢ width)
@@ -106,7 +106,7 @@ PlainFault columns layout csv TooManyRows = RefusesWidths columns layout csv Too
 PlainFault columns layout csv error = ⊥
 
 -- the error of a plain CSV, unless memory ran out, in this order. Of one that was made a batch file: this is longer than what is read, or
--- else that of its first field that stands for no value of its column
+-- else that of its first field that is not a value of its column
 abbrev pub PackFault : List Column → Layout → ℕ → ℕ → List ℕ → PackError → Type 0
 PackFault columns layout origin number csv TooLong = (file : List ℕ) × MakesFile columns layout origin number csv file
     × (MAX_INPUT_LEN < length file)

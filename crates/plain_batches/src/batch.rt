@@ -40,7 +40,7 @@ fn header_of(
     Ok(header)
 }
 
-/// The batch file of the rows of a plain CSV, whose values are not looked at.
+/// The batch file of the rows of a plain CSV, whose values are not checked.
 fn make_file(
     alloc: Global,
     schema: &Schema,
@@ -66,7 +66,7 @@ fn make_file(
 }
 
 /// The batch file of a plain CSV, by a schema, with this origin and number. Its records are the rows, each with a field for each
-/// column of the schema, in the schema's order, or in that of a header. Fields are those of batch files. The file is handed out only
+/// column of the schema, in the schema's order, or in that of a header. Fields are those of batch files. The file is returned only
 /// after `read_batch` has read it again.
 pub fn pack_batch(
     alloc: Global,

@@ -41,7 +41,7 @@ fn first_named(header: &ByteRecord, name: &[u8], from: usize) -> usize
     header.len()
 }
 
-/// The place of a header that has this name alone. The error tells this column.
+/// The only place of a header that has this name. The error names this column.
 fn place_of(header: &ByteRecord, name: &[u8], column: usize) -> Result<usize, PackError>
     ensures found { IfOk result (IsAlone (fields_of header.now) name.now) }
     ensures refused { IfErr result (PlaceFault (fields_of header.now) name.now column) }
@@ -56,7 +56,7 @@ fn place_of(header: &ByteRecord, name: &[u8], column: usize) -> Result<usize, Pa
     Ok(place)
 }
 
-/// The place of each of these names in a header, which has it there alone.
+/// The place of each of these names in a header, which has each once.
 fn places_of(
     alloc: Global,
     names: &ByteRecord,

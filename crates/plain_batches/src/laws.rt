@@ -12,8 +12,8 @@ ghost use Rattle.plain_batches.specs.declared.layout.Layout.{Layout};
 
 use batch_reader::BatchError;
 
-/// The batch file of a plain CSV is read by `read_batch` as the batch of its origin, number and rows, and refused only if memory runs
-/// out.
+/// `read_batch` reads the batch file of a plain CSV as the batch of its origin, number and rows. It refuses the file only if memory
+/// runs out.
 #[tactic(auto, using(crate::proofs::PackedLaws::reads_origin, crate::proofs::PackedLaws::reads_number))]
 pub fn packed_batches_are_read()
     ensures refused { (columns : List Column) (layout : Layout) (origin number : ℕ) (csv file : List ℕ) (error : BatchError)

@@ -1,4 +1,4 @@
-//! Batch files from plain CSV, which has no batch head, and may have a header that names the columns in any order.
+//! Batch files from plain CSV. Its first record may be a header that names the columns in any order.
 #![tactic(auto)]
 
 mod batch;

@@ -51,7 +51,7 @@ pub(crate) fn put_line(writer: &mut Writer<Vec<u8>>, line: &ByteRecord) -> Resul
     }
 }
 
-/// The line of a batch's head.
+/// The line of a batch's header.
 pub(crate) fn head_line(
     alloc: Global,
     origin: u16,

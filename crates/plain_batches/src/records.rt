@@ -47,8 +47,8 @@ impl<'a> PlainRecords<'a> {
         }
     }
 
-    /// Reads the next record, in place of what `into` held, and tells whether there was one. The only error is that
-    /// memory ran out, and after it no more records come. Where there was none, what `into` holds then is not told.
+    /// Reads the next record into `into`, replacing what it held, and tells whether there was one. The only error is that
+    /// memory ran out, and after it no more records come. If there was none, the content of `into` is unspecified.
     pub(crate) fn read(&mut self, into: &mut ByteRecord) -> Result<bool, AllocError>
         ensures { MatchResult result (λ found. MatchBool found
             (self.old ≡ fields_of into.new ∷ self.new)

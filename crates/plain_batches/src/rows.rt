@@ -14,7 +14,7 @@ use csv::{ByteRecord, Writer};
 use grouping_model::limits::MAX_ROWS;
 use std::alloc::Global;
 
-/// Writes the lines of all records that are left, each as wide as told, and tells how many there are.
+/// Writes the lines of all records that are left, each of the width given, and tells how many there are.
 fn put_rows(
     alloc: Global,
     writer: &mut Writer<Vec<u8>>,
@@ -50,7 +50,7 @@ fn put_rows(
     Ok(MAX_ROWS)
 }
 
-/// The lines of all records that are left, each as wide as told, and how many there are.
+/// The lines of all records that are left, each of the width given, and how many there are.
 pub(crate) fn row_lines(
     alloc: Global,
     null: &[u8],

@@ -1,5 +1,5 @@
--- The clauses behind HAVING, which arrange the rows of the answer: ORDER BY (PostgreSQL 17, SELECT). What a query over names and one over
--- places has of them, their check and their text stand here; all else hands them on whole.
+-- The clauses after HAVING, which arrange the rows of the answer: ORDER BY (PostgreSQL 17, SELECT). What a query over names and one over
+-- places has of them, their check and their text stand here. All other definitions pass them on whole.
 use Rattle.std.specs.Prelude.{ℕ, List, map, Result, Ok, Err, if◌then◌else◌}
 use Rattle.std.specs.List.{AllByRecursion}
 use Rattle.grouping_model.specs.Order.{Arrangement, map_arrangement}
@@ -33,6 +33,6 @@ canonical_arrangement arrangement = map_arrangement canonical_term arrangement
 abbrev pub arrangement_text : Arrangement OrderTerm → List ℕ
 arrangement_text arrangement = order_text arrangement.order
 
--- clauses that a text can say
+-- clauses that a text can have
 pub record CanBeArranged (arrangement : Arrangement Term) : Type 0 where
   pub terms : AllByRecursion IsTerm arrangement.order

@@ -37,7 +37,7 @@ abbrev pub all_of : {C : Type 0} → (Form C → Bool) → (Form C → Bool) →
 all_of item_passes passes q = list_all (λ item. item_passes item.0) q.items
     && (option_map_or passes q.condition true && option_map_or passes q.having true)
 
--- more items, keys, aggregates or bytes than there may be
+-- more items, keys, aggregate calls or bytes than a query may have
 abbrev pub has_too_many : Asked → Bool
 has_too_many q =
     nat_lt MAX_ITEMS (length q.written.items) || (nat_lt MAX_KEYS (length (first_of_each bytes_eq q.written.keys))
@@ -89,7 +89,7 @@ kind_number Bigint_kind = 0
 kind_number Boolean_kind = 1
 kind_number Text_kind = 2
 
--- whether two kinds are one, null being of every kind
+-- whether two kinds are the same, null being of every kind
 abbrev pub kinds_agree : Option Kind → Option Kind → Bool
 kinds_agree None other = true
 kinds_agree other None = true
@@ -98,7 +98,7 @@ kinds_agree (Some a) (Some b) = kind_number a == kind_number b
 abbrev pub is_boolean : Option Kind → Bool
 is_boolean kind = kinds_agree kind (Some Boolean_kind)
 
--- the kind that an argument must have, if it may not have any (PostgreSQL 17, 9.21)
+-- the kind that an argument must have, or none if any kind will do (PostgreSQL 17, 9.21)
 abbrev pub kind_asked : Argument → Option Kind
 kind_asked (Values_of kind) = Some kind
 kind_asked other = None
@@ -161,7 +161,7 @@ checked_places columns q =
     if not (is_grouped q) then Err NotGrouped else
     Ok q
 
--- and the check of what stands behind HAVING, which comes last
+-- and the check of the clauses after HAVING, which comes last
 abbrev pub with_arrangement : List packed.Column → Result (Written ℕ) QueryError → Result (Arrangement OrderTerm) QueryError → Result Checked QueryError
 with_arrangement columns (Err error) arrangement = Err error
 with_arrangement columns (Ok written) (Err error) = Err error
@@ -175,7 +175,7 @@ checked columns q =
     if not (has_columns columns q.written && names_items q) then Err NoSuchColumn else
     with_arrangement columns (checked_places columns (placed columns q.written)) (checked_arrangement q)
 
--- a query that passes the first three, which the others follow
+-- a query that passes the first three checks, before the others
 pub record PassesFirst (columns : List packed.Column) (q : Asked) : Type 0 where
   pub few : has_too_many q ≡ false
   pub shallow : all_of (filters_pass is_shallow) are_shallow q.written ≡ true

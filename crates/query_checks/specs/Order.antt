@@ -23,13 +23,13 @@ pub data Target : Type 0 where
   By_name : List ℕ → Target
   By_place : ℤ → Target
 
--- a term: what it names, whether it is descending, and whether nulls come first, if that is said
+-- a term: what it names, whether it is descending, and whether nulls come first, if it has NULLS
 pub record Term : Type 0 where
   pub target : Target
   pub descending : Bool
   pub nulls_first : Option Bool
 
--- a query with what stands behind its HAVING
+-- a query with the clauses after its HAVING
 pub record Asked : Type 0 where
   pub written : Written (List ℕ)
   pub arrangement : Arrangement Term
@@ -46,7 +46,7 @@ term_of term = record { target = target_of term.target; descending = term.descen
 abbrev pub has_name : List ℕ → Form (List ℕ) × Option (List ℕ) → Bool
 has_name name item = bytes_eq name (label_of item)
 
--- the item at a place of so many, the first item being 0 and the first place 1
+-- the item at a place of this many, the first item being 0 and the first place 1
 abbrev pub item_at : ℕ → ℤ → Option ℕ
 item_at many (pos place) = if nat_le 1 place && nat_le place many then Some (place - 1) else None
 item_at many other = None
@@ -65,12 +65,12 @@ abbrev pub is_ambiguous : List (Form (List ℕ) × Option (List ℕ)) → Target
 is_ambiguous items (By_name name) = differ (filter (has_name name) items)
 is_ambiguous items (By_place place) = false
 
--- a term that orders by an item. Nulls count as greater than all else, unless it says otherwise: they come first where it is
+-- a term that orders by an item. Unless it says otherwise, nulls count as greater than all else: they come first if it is
 -- descending, and else last (PostgreSQL 17, 7.5)
 abbrev pub ordered_by : Term → ℕ → OrderTerm
 ordered_by term item = record { item = item; descending = term.descending; nulls_first = unwrap_or term.nulls_first term.descending }
 
--- the same of the item that it means, if it means just one
+-- the same of the item that it means, if it means exactly one
 abbrev pub term_meant : List (Form (List ℕ) × Option (List ℕ)) → Term → Option OrderTerm
 term_meant items term = if is_ambiguous items term.target then None else option_map (ordered_by term) (item_meant items term.target)
 
@@ -78,8 +78,8 @@ term_meant items term = if is_ambiguous items term.target then None else option_
 abbrev pub same_item : OrderTerm → OrderTerm → Bool
 same_item a b = a.item == b.item
 
--- the order of the answer: the terms that mean an item, each unless one before it orders by this item (own: what is equal by
--- the earlier term is by the later one)
+-- the order of the answer: the terms that mean an item, each unless one before it orders by this item (own: rows that the
+-- earlier term does not tell apart, the later one does not either)
 abbrev pub order_of : Asked → List OrderTerm
 order_of q = first_of_each same_item (filter_map (term_meant q.written.items) q.arrangement.order)
 

@@ -1,7 +1,7 @@
 -- Lists as texts (own).
 use Rattle.std.specs.Prelude.{ℕ, List, [], ◌∷◌, ◌++◌, codes}
 
--- texts, parted by commas
+-- texts, separated by commas
 abbrev pub parted : List (List ℕ) → List ℕ
 parted [] = []
 parted (text ∷ []) = text

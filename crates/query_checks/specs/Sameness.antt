@@ -47,7 +47,7 @@ form_eq same (Unary a x) (Unary b y) = unary_eq a b && form_eq same x y
 form_eq same (Binary a x y) (Binary b z w) = binary_eq a b && (form_eq same x z && form_eq same y w)
 form_eq same x y = false
 
--- a member more, unless one that is the same is there
+-- one more member, unless one that is the same is there
 abbrev pub with_one : {A : Type 0} → (A → A → Bool) → List A → A → List A
 with_one same members x = if list_any (same x) members then members else members ++ x ∷ []
 

@@ -18,7 +18,7 @@ use Rattle.query_checks.specs.Order.{Asked}
 use Rattle.query_checks.specs.Arrangement.{arrangement_of, canonical_arrangement, arrangement_text}
 use Rattle.query_checks.specs.Sameness.{first_of_each}
 
--- an operator between its operands, and IS behind its operand
+-- an operator between its operands, and IS after its operand
 abbrev pub operator_text : Binary_operator → List ℕ
 operator_text Conjunction = codes " AND "
 operator_text Disjunction = codes " OR "
@@ -40,7 +40,7 @@ abbrev pub call_text : Function → Option (List ℕ) → List ℕ
 call_text function None = function_name function ++ codes "(*)"
 call_text function (Some name) = function_name function ++ codes "(" ++ name ++ codes ")"
 
--- how tightly a condition binds: OR the least, and what no operator makes the most (PostgreSQL 17, 4.1.6; that IS and
+-- how tightly a condition binds: OR least tightly, and an operand most tightly (PostgreSQL 17, 4.1.6; that IS and
 -- comparisons differ is our own)
 abbrev pub binary_level : Binary_operator → ℕ
 binary_level Disjunction = levels.OR
@@ -84,8 +84,8 @@ spelled (Unary operator x) = unary_text operator (operand (unary_level operator)
 spelled (Binary operator x y) = operand (left_level operator) x (spelled x) ++ operator_text operator
     ++ operand (right_level operator) y (spelled y)
 
--- the query that its canonical text says: each column of GROUP BY once, no alias that is the item's own name, and what is left of the
--- clauses behind HAVING (own)
+-- the query that its canonical text says: each column of GROUP BY once, no alias that is the item's own name, and what remains of the
+-- clauses after HAVING (own)
 abbrev pub canonical_item : Form (List ℕ) × Option (List ℕ) → Form (List ℕ) × Option (List ℕ)
 canonical_item item = (item.0, kept_alias (own_name item.0) item.1)
 
@@ -108,7 +108,7 @@ alias_text (Some alias) = codes " AS " ++ alias
 abbrev pub item_text : Form (List ℕ) × Option (List ℕ) → List ℕ
 item_text item = spelled item.0 ++ alias_text (kept_alias (own_name item.0) item.1)
 
--- a condition behind a word
+-- a condition after a key word
 abbrev pub clause_text : List ℕ → Option (Form (List ℕ)) → List ℕ
 clause_text word None = []
 clause_text word (Some c) = word ++ spelled c
@@ -117,12 +117,12 @@ abbrev pub keys_text : List (List ℕ) → List ℕ
 keys_text [] = []
 keys_text (name ∷ names) = codes " GROUP BY " ++ parted (name ∷ names)
 
--- a query to its HAVING
+-- a query up to its HAVING
 abbrev pub written_text : Written (List ℕ) → List ℕ
 written_text q =
     codes "SELECT " ++ parted (map item_text q.items) ++ codes " FROM batches" ++ clause_text (codes " WHERE ") q.condition
     ++ keys_text (first_of_each bytes_eq q.keys) ++ clause_text (codes " HAVING ") q.having
 
--- a query. A term of ORDER BY that is refused or orders by nothing more is as none
+-- a query. A term of ORDER BY that is refused, or orders by nothing more, is dropped
 abbrev pub spelling : Asked → List ℕ
 spelling q = written_text q.written ++ arrangement_text (arrangement_of q)

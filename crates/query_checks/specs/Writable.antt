@@ -51,7 +51,7 @@ pub record IsItem (item : Form (List ℕ) × Option (List ℕ)) : Type 0 where
   pub form : IsForm IsColumnName item.0
   pub alias : ForSome item.1 IsColumnName
 
--- a query to its HAVING that a text can say, once it is read: some items, and each column and alias has a name that a column can have
+-- a query up to its HAVING that a text can have, once it is read: some items, and each column and alias has a name that a column can have
 -- (PostgreSQL 17, SELECT, 4.1.1 Identifiers and Key Words)
 pub record IsWritable (q : Written (List ℕ)) : Type 0 where
   pub some : q.items ≢ []
@@ -60,7 +60,7 @@ pub record IsWritable (q : Written (List ℕ)) : Type 0 where
   pub keys : AllByRecursion IsColumnName q.keys
   pub having : ForSome q.having (IsForm IsColumnName)
 
--- and the same with what stands behind its HAVING
+-- and the same with the clauses after its HAVING
 pub record CanBeAsked (q : Asked) : Type 0 where
   pub written : IsWritable q.written
   pub arrangement : CanBeArranged q.arrangement

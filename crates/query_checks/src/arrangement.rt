@@ -1,4 +1,4 @@
-//! The clauses behind HAVING, which arrange the rows of the answer.
+//! The clauses after HAVING, which arrange the rows of the answer.
 
 ghost use Rattle.std.specs.Prelude.{◌≡◌, ◌++◌, Ok, Err, OnOk, IfOk, IfErr, string_bytes};
 ghost use Rattle.query_checks.specs.Arrangement.{asked_of, arrangement_held, arrangement_of, checked_arrangement, arrangement_text};
@@ -12,11 +12,11 @@ use std::alloc::{AllocError, Global};
 /// How the rows of a query's answer are arranged.
 #[derive(Drop)]
 pub struct Arrangement {
-    /// The terms of ORDER BY that are left, each by an item of its own.
+    /// The terms of ORDER BY that remain, each by an item of its own.
     pub order: Vec<OrderTerm>,
 }
 
-/// How the rows of a query's answer are arranged, by the terms of ORDER BY that mean just one item.
+/// How the rows of a query's answer are arranged, by the terms of ORDER BY that mean exactly one item.
 pub(crate) fn arrangement_of(alloc: Global, raw: &RawQuery) -> Result<Arrangement, AllocError>
     ensures { IfOk result (λ held. arrangement_held held ≡ arrangement_of (asked_of raw.now)) }
 {
@@ -24,7 +24,7 @@ pub(crate) fn arrangement_of(alloc: Global, raw: &RawQuery) -> Result<Arrangemen
     Ok(Arrangement { order })
 }
 
-/// Appends the clauses that arrange an answer, if there are some.
+/// Appends the clauses that arrange an answer, if there are any.
 pub(crate) fn push_arrangement(
     text: &mut String,
     arrangement: &Arrangement,
@@ -35,11 +35,11 @@ pub(crate) fn push_arrangement(
     push_order(text, &arrangement.order)
 }
 
-/// Whether each term of ORDER BY that names an item by its name means just one.
+/// Whether each term of ORDER BY that names an item by its name means exactly one.
 ///
 /// # Errors
 ///
-/// `AmbiguousOrder` for a name that two items have that aren't the same column or call.
+/// `AmbiguousOrder` for a name of two items that are not the same column or call.
 #[tactic(auto, unfolding(crate::specs::Arrangement::checked_arrangement))]
 pub fn check_arrangement(raw: &RawQuery) -> Result<(), QueryError>
     ensures passed { OnOk result (checked_arrangement (asked_of raw.now)

@@ -15,7 +15,7 @@ use crate::parts::Parts;
 use grouping_model::limits::MAX_CALLS;
 use std::alloc::{AllocError, Global};
 
-/// Adds the calls in a condition behind others, from the left.
+/// Adds the calls in a condition after others, from the left.
 #[tactic(auto, using(crate::proofs::ReadLaws::calls_in_call, crate::specs::ReadLaws::calls_in_two))]
 fn push_calls<'a, C>(
     calls: &mut Vec<&'a AggCall<C>>,
@@ -38,7 +38,7 @@ fn push_calls<'a, C>(
     }
 }
 
-/// Adds the call of an item behind others, if it is one.
+/// Adds the call of an item after others, if it is one.
 #[tactic(auto, using(crate::proofs::ReadLaws::calls_in_call))]
 fn push_item_call<'a, C>(
     calls: &mut Vec<&'a AggCall<C>>,
@@ -71,7 +71,7 @@ fn calls_of_items<'a, C>(
     Ok(calls)
 }
 
-/// Adds the calls of a clause behind others, if there is one.
+/// Adds the calls of a clause after others, if there is one.
 fn push_clause_calls<'a, C>(
     calls: &mut Vec<&'a AggCall<C>>,
     clause: &'a Option<Cond<C>>,
@@ -100,7 +100,7 @@ fn all_calls<'a, C>(
     Ok(calls)
 }
 
-/// Whether the items and HAVING have more distinct calls than they may have.
+/// Whether the items and HAVING have more distinct calls than a query may have.
 pub(crate) fn has_too_many_calls(alloc: Global, raw: &RawQuery) -> Result<bool, AllocError>
     ensures { IfOk result (λ many.
         many ≡ nat_lt MAX_CALLS (length (distinct_calls bytes_eq (written_of raw.now)))) }
@@ -111,7 +111,7 @@ pub(crate) fn has_too_many_calls(alloc: Global, raw: &RawQuery) -> Result<bool, 
 }
 
 impl Parts {
-    /// The distinct calls of the items and of HAVING, by the first of each.
+    /// The distinct calls of the items and of HAVING, by the first of each. The only error is a failed allocation.
     pub fn calls(&self, alloc: Global) -> Result<Vec<&AggCall<usize>>, AllocError>
         ensures { IfOk result (λ calls.
             call_forms calls.items ≡ distinct_calls ◌==◌ (written_of_parts self.now)) }

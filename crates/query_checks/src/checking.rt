@@ -16,12 +16,12 @@ use crate::whole::{are_plain, has_names, is_grouped, is_shallow_query, kinds_fit
 use packed_rows::Schema;
 use std::alloc::Global;
 
-/// The canonical text of a query that keeps within the limits, whose columns are a schema's, and whose terms of ORDER BY name items.
+/// The canonical text of a query that keeps within the limits, whose columns are in the schema, and whose terms of ORDER BY name items.
 ///
 /// # Errors
 ///
 /// The first of these that is found anywhere in the query: `TooMany` for over 64 items, 16 distinct columns of GROUP BY, 32
-/// distinct aggregates among the items and in HAVING, or a canonical text of over 16,384 bytes; `TooDeep` for a condition
+/// distinct aggregate calls among the items and in HAVING, or a canonical text of over 16,384 bytes; `TooDeep` for a condition
 /// that is nested more than 64 deep; `NoSuchColumn`, also for a term of ORDER BY that names no item. `NoMemory` may come at any time.
 #[tactic(auto, using(crate::specs::CheckedLaws::gives_too_deep, crate::specs::CheckedLaws::gives_no_column))]
 pub fn text_of_known(alloc: Global, schema: &Schema, raw: &RawQuery) -> Result<String, QueryError>

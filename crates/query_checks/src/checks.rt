@@ -17,7 +17,7 @@ use agg_protocol::{AggKind, Argument};
 use grouping_model::limits::DEEPEST_CONDITION;
 use packed_rows::ValueKind;
 
-/// How deep a condition is, or the greatest number there is where it is deeper.
+/// How deep a condition is, or 2^64 - 1 if it is deeper.
 fn depth<C>(condition: &Cond<C>) -> u64
     ensures { result ≡ min (depth (form_of condition.now)) (2 ^ 64 - 1) }
 {
@@ -132,7 +132,7 @@ fn kind_of_operand(kinds: &[ValueKind], operand: &Cond<usize>) -> Option<ValueKi
     }
 }
 
-/// Whether two kinds are one, null being of every kind.
+/// Whether two kinds are the same, null being of every kind.
 fn kinds_agree(a: Option<ValueKind>, b: Option<ValueKind>) -> bool
     ensures { result ≡ kinds_agree (option_map kind_of a) (option_map kind_of b) }
 {
@@ -149,7 +149,7 @@ fn is_boolean(kinds: &[ValueKind], operand: &Cond<usize>) -> bool
     kinds_agree(kind_of_operand(kinds, operand), Some(ValueKind::Boolean))
 }
 
-/// The kind that a function's argument must have, if it may not have any.
+/// The kind that a function's argument must have, or `None` if any kind will do.
 fn kind_asked(function: AggKind) -> Option<ValueKind>
     ensures { option_map kind_of result ≡ kind_asked (signature (function_of function)).argument }
 {

@@ -4,7 +4,7 @@ use crate::operators::{Comparison, IsTest};
 use crate::order::RawTerm;
 use agg_protocol::AggKind;
 
-/// A condition, or an operand of one. A column is known by its name before a query is checked, by its place after.
+/// A condition, or an operand of one. A column is known by its name before a query is checked, and by its place afterwards.
 #[cycle(condition)]
 #[derive(Drop)]
 pub enum Cond<C> {
@@ -36,7 +36,7 @@ pub enum Cond<C> {
     },
 }
 
-/// A call of an aggregate function. `count(*)` has no column. Only rows of which the filter is true reach it.
+/// A call of an aggregate function. `count(*)` has no column. Only rows for which the filter is true reach it.
 #[cycle(condition)]
 #[derive(Drop)]
 pub struct AggCall<C> {

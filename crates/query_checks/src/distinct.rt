@@ -70,7 +70,7 @@ pub(crate) fn push_once<T: Same + Copy>(members: &mut Vec<T>, member: T) -> Resu
     Ok(())
 }
 
-/// The distinct ones of some, by the first of each. Where they are more than so many, only one more than that are looked for.
+/// The distinct ones of some, by the first of each. The search stops once there are more than `most`.
 pub(crate) fn distinct<T: Same + Copy>(
     alloc: Global,
     members: &[T],

@@ -13,10 +13,10 @@ pub enum QueryError {
     /// An allocation failed.
     #[error("out of memory")]
     NoMemory,
-    /// It names a column that the schema doesn't have, or in ORDER BY an item that it doesn't have.
+    /// It names a column that the schema doesn't have, or in ORDER BY an item that the query doesn't have.
     #[error("the column does not exist")]
     NoSuchColumn,
-    /// The select list or HAVING uses a column outside of an aggregate that GROUP BY does not name.
+    /// Outside of aggregates, the select list or HAVING uses a column that GROUP BY does not name.
     #[error("a column must be in GROUP BY or be used in an aggregate function")]
     NotGrouped,
     /// An argument, an operand or a condition has the wrong type.
@@ -25,7 +25,7 @@ pub enum QueryError {
     /// An aggregate is called in WHERE or FILTER.
     #[error("aggregate functions are not allowed in WHERE or FILTER")]
     AggregateHere,
-    /// There are more items, keys or aggregates than there may be, or the canonical text is too long.
+    /// There are more items, keys or aggregate calls than a query may have, or the canonical text is too long.
     #[error("too many items, keys or aggregate calls, or the query is too long")]
     TooMany,
     /// A condition is nested too deeply.
@@ -37,7 +37,7 @@ pub enum QueryError {
 }
 
 impl QueryError {
-    /// The name of what a check of a query refuses, as replies show it.
+    /// The name of the error, as replies show it.
     pub fn name(self) -> &'static str
         ensures { result.now ≡ query_name self }
     {

@@ -1,4 +1,4 @@
-//! How tightly conditions bind: OR the least, and what no operator makes the most (PostgreSQL 17, 4.1.6 Operator Precedence; that
+//! How tightly conditions bind: OR least tightly, and an operand most tightly (PostgreSQL 17, 4.1.6 Operator Precedence; that
 //! IS binds less tightly than a comparison is our own).
 
 ghost use Rattle.std.specs.Prelude.{◌<◌, ℕ, Bool, List};

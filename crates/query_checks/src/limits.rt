@@ -18,7 +18,7 @@ use crate::spelling::spelled;
 use grouping_model::limits::{MAX_ITEMS, MAX_KEYS, MAX_QUERY_LEN};
 use std::alloc::{AllocError, Global};
 
-/// Names, without what holds them.
+/// Names, borrowed from their owners.
 fn borrowed_names(alloc: Global, names: &[String]) -> Result<Vec<&str>, AllocError>
     ensures { IfOk result (λ borrowed. texts_of borrowed.items ≡ map string_bytes names.now) }
 {
@@ -29,7 +29,7 @@ fn borrowed_names(alloc: Global, names: &[String]) -> Result<Vec<&str>, AllocErr
     Ok(borrowed)
 }
 
-/// The distinct names of some, by the first of each. Where they are more than keys may be, one more than that is found.
+/// The distinct names of some, by the first of each. The search stops once there are more than a query may have keys.
 fn distinct_names(alloc: Global, names: &[String]) -> Result<Vec<&str>, AllocError>
     ensures all { IfOk result (λ found. length found.items ≤ MAX_KEYS →
         texts_of found.items ≡ first_of_each bytes_eq (map string_bytes names.now)) }

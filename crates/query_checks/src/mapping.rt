@@ -6,7 +6,7 @@ ghost use Rattle.query_checks.specs.Forms.{Form, form_of, call_form, item_form, 
 use crate::condition::{AggCall, Cond, Item};
 use std::alloc::{AllocError, Global};
 
-/// What becomes of the columns and calls of a condition: a column becomes another, and a call becomes a column, or a call
+/// What becomes of the columns and calls of a condition: a column becomes another one. A call becomes a column, or a call
 /// over other columns.
 pub trait Mapping<C, D> {
     // What a column becomes.
@@ -41,7 +41,7 @@ fn in_box<T: Drop>(alloc: Global, value: T) -> Result<Box<T>, AllocError>
     Ok(Box::new(alloc, value)?)
 }
 
-/// A call over other columns. It stays a call, whatever the mapping makes of it; the calls in its FILTER do as the mapping says.
+/// A call over other columns. It stays a call; the calls in its FILTER become what the mapping says. The only error is a failed allocation.
 #[cycle(mapped)]
 pub fn mapped_call<C, D: Drop, M: Mapping<C, D>>(
     alloc: Global,
@@ -159,7 +159,7 @@ pub(crate) fn mapped_item<C, D: Drop, M: Mapping<C, D>>(
     }
 }
 
-/// A clause over other columns, if there is one: its columns and calls, those in FILTERs too, become what the mapping says.
+/// A clause, if there is one, with its columns and calls as the mapping says, those in FILTERs too. The only error is a failed allocation.
 pub fn mapped_clause<C, D: Drop, M: Mapping<C, D>>(
     alloc: Global,
     mapping: &M,

@@ -84,7 +84,7 @@ pub enum IsTest {
 }
 
 impl IsTest {
-    /// What stands behind IS.
+    /// What stands after IS.
     pub(crate) fn text(self) -> &'static str
         ensures { result.now ≡ test_text (test_of self) }
     {

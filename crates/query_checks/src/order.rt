@@ -31,7 +31,7 @@ pub enum OrderBy {
 pub struct RawTerm {
     pub target: OrderBy,
     pub descending: bool,
-    /// Whether nulls come first, if that is said.
+    /// Whether nulls come first, if the term has NULLS.
     pub nulls_first: Option<bool>,
 }
 
@@ -76,7 +76,7 @@ fn place_of_name(items: &[(Item<String>, Option<String>)], name: &str) -> Option
     items.iter().position(|item| has_name(name, item))
 }
 
-/// The item at a place of so many, the first place being 1.
+/// The item at a place of this many, the first place being 1.
 fn item_at(many: usize, place: i64) -> Option<usize>
     ensures { result ≡ item_at many place }
 {
@@ -128,7 +128,7 @@ fn item_of_name<'a>(
     items.iter().find(|item| has_name(name, *item))
 }
 
-/// Whether two items have a name and aren't the same column or call. Then one of them isn't the same as the leftmost that has it.
+/// Whether two items of one name aren't the same column or call. Then one of them differs from the leftmost item of that name.
 fn is_ambiguous_name(items: &[(Item<String>, Option<String>)], name: &str) -> bool
     ensures { result ≡ is_ambiguous (items_of items.now) (By_name name.now) }
 {
@@ -148,7 +148,7 @@ fn is_ambiguous(items: &[(Item<String>, Option<String>)], target: &OrderBy) -> b
     }
 }
 
-/// A term over the items, if it means just one. Nulls come first where it is descending, and else last, unless it says otherwise.
+/// A term over the items, if it means exactly one. Unless it says otherwise, nulls come first if it is descending, and else last.
 fn term_meant(items: &[(Item<String>, Option<String>)], term: &RawTerm) -> Option<OrderTerm>
     ensures { result ≡ term_meant (items_of items.now) (term_of term.now) }
 {
@@ -165,7 +165,7 @@ fn term_meant(items: &[(Item<String>, Option<String>)], term: &RawTerm) -> Optio
     }
 }
 
-/// The order of a query's answer: its terms that mean just one item, each unless one before it orders by this item.
+/// The order of a query's answer: its terms that mean exactly one item, each unless one before it orders by this item.
 pub(crate) fn order_of(alloc: Global, raw: &RawQuery) -> Result<Vec<OrderTerm>, AllocError>
     ensures { IfOk result (λ order. order.items ≡ order_of (asked_of raw.now)) }
 {

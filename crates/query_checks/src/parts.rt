@@ -105,9 +105,9 @@ fn placed_keys(alloc: Global, schema: &Schema, names: &[String]) -> Result<Vec<u
 }
 
 impl Parts {
-    /// The parts of a query over the columns of a schema. A repeated column of GROUP BY counts once, by its first place, and an
-    /// alias that is the item's own name is as none; so is a term of ORDER BY that doesn't mean just one item, or the item of an
-    /// earlier one. It is meant for a query whose columns are the schema's: any other name is taken for column 0.
+    /// The parts of a query over the columns of a schema. A repeated column of GROUP BY counts once, by its first place. An alias that is
+    /// the item's own name is dropped. So is a term of ORDER BY that doesn't mean exactly one item, or means that of an earlier term. The
+    /// schema should have all columns of the query: any other name is taken for column 0. The only error is a failed allocation.
     #[tactic(auto, using(crate::proofs::FormLaws::clause_placed))]
     pub fn placed(alloc: Global, schema: &Schema, raw: &RawQuery) -> Result<Parts, AllocError>
         ensures written { IfOk result (λ p.

@@ -22,7 +22,7 @@ pub(crate) trait Test<C> {
         ensures { result ≡ passes self.now (call_form call.now) };
 }
 
-/// Whether all that a condition reads passes, what its FILTERs read aside.
+/// Whether all that a condition reads passes, except for what its FILTERs read.
 #[tactic(auto, using(crate::proofs::ReadLaws::reads_column, crate::proofs::ReadLaws::reads_call, crate::specs::ReadLaws::both_pass))]
 pub(crate) fn all_read<C, T: Test<C>>(condition: &Cond<C>, test: &T) -> bool
     ensures { result ≡ list_all (T.passes test.now) (reads (form_of condition.now)) }

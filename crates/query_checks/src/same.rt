@@ -29,8 +29,8 @@ fn is_same_column<C: PartialEq>(a: &Option<C>, b: &Option<C>) -> bool
     }
 }
 
-/// Whether two calls are the same: their functions and columns, and their FILTERs part by part. Conditions that mean the same are
-/// not the same where they are written in other ways.
+/// Whether two calls are the same: their functions and columns, and their FILTERs part by part. Conditions that mean the same but
+/// are written differently are not the same.
 #[cycle(same)]
 pub fn is_same_call<C: PartialEq>(a: &AggCall<C>, b: &AggCall<C>) -> bool
     ensures { result ≡ form_eq C.eq (call_form a.now) (call_form b.now) }

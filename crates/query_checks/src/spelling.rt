@@ -121,7 +121,7 @@ fn push_operand(text: &mut String, asked: u64, condition: &Cond<String>) -> Resu
     text.push_str(")")
 }
 
-/// Appends an operator and the operand behind it.
+/// Appends an operator and the operand after it.
 #[cycle(push)]
 fn push_behind(
     text: &mut String,
@@ -221,7 +221,7 @@ fn push_item(text: &mut String, item: &(Item<String>, Option<String>)) -> Result
     Ok(())
 }
 
-/// Appends items, parted by commas.
+/// Appends items, separated by commas.
 fn push_items(text: &mut String, items: &[(Item<String>, Option<String>)]) -> Result<(), AllocError>
     ensures { OnOk result (string_bytes text.new
         ≡ string_bytes text.old ++ parted (map item_text (items_of items.now))) }
@@ -237,7 +237,7 @@ fn push_items(text: &mut String, items: &[(Item<String>, Option<String>)]) -> Re
     Ok(())
 }
 
-/// Appends a condition behind a word, if there is one.
+/// Appends a condition after a key word, if there is one.
 fn push_clause(
     text: &mut String,
     word: &str,
@@ -253,7 +253,7 @@ fn push_clause(
     Ok(())
 }
 
-/// Appends names, parted by commas.
+/// Appends names, separated by commas.
 fn push_names(text: &mut String, names: &[&str]) -> Result<(), AllocError>
     ensures { OnOk result (string_bytes text.new
         ≡ string_bytes text.old ++ parted (texts_of names.now)) }
@@ -269,7 +269,7 @@ fn push_names(text: &mut String, names: &[&str]) -> Result<(), AllocError>
     Ok(())
 }
 
-/// Appends GROUP BY and the names of its columns, if there are some.
+/// Appends GROUP BY and the names of its columns, if there are any.
 fn push_keys(text: &mut String, keys: &[&str]) -> Result<(), AllocError>
     ensures { OnOk result (string_bytes text.new
         ≡ string_bytes text.old ++ keys_text (texts_of keys.now)) }
@@ -301,7 +301,7 @@ fn push_term(text: &mut String, term: OrderTerm) -> Result<(), AllocError>
     text.push_str(direction_text(term.descending, term.nulls_first))
 }
 
-/// Appends terms of ORDER BY, parted by commas.
+/// Appends terms of ORDER BY, separated by commas.
 fn push_terms(text: &mut String, order: &[OrderTerm]) -> Result<(), AllocError>
     ensures { OnOk result (string_bytes text.new
         ≡ string_bytes text.old ++ parted (map term_text order.now)) }
@@ -317,7 +317,7 @@ fn push_terms(text: &mut String, order: &[OrderTerm]) -> Result<(), AllocError>
     Ok(())
 }
 
-/// Appends ORDER BY and its terms, if there are some.
+/// Appends ORDER BY and its terms, if there are any.
 pub(crate) fn push_order(text: &mut String, order: &[OrderTerm]) -> Result<(), AllocError>
     ensures { OnOk result (string_bytes text.new
         ≡ string_bytes text.old ++ order_text order.now) }
@@ -329,7 +329,7 @@ pub(crate) fn push_order(text: &mut String, order: &[OrderTerm]) -> Result<(), A
     push_terms(text, order)
 }
 
-/// The text of a query to its HAVING, the distinct names of its columns of GROUP BY being given.
+/// The text of a query up to its HAVING, given the distinct names of its columns of GROUP BY.
 fn written(alloc: Global, raw: &RawQuery, keys: &[&str]) -> Result<String, AllocError>
     requires { texts_of keys.now ≡ first_of_each bytes_eq (written_of raw.now).keys }
     ensures { IfOk result (λ text. string_bytes text ≡ written_text (written_of raw.now)) }
@@ -343,7 +343,7 @@ fn written(alloc: Global, raw: &RawQuery, keys: &[&str]) -> Result<String, Alloc
     Ok(text)
 }
 
-/// The canonical text of a query, the distinct names of its columns of GROUP BY and how its answer is arranged being given.
+/// The canonical text of a query, given the distinct names of its columns of GROUP BY and how its answer is arranged.
 pub(crate) fn spelled(
     alloc: Global,
     raw: &RawQuery,

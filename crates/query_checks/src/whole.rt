@@ -50,14 +50,14 @@ pub(crate) fn is_shallow_query(raw: &RawQuery) -> bool
         && clause_is_shallow(&raw.having)
 }
 
-/// Whether a name is a column's of a schema.
+/// Whether a schema has a column of this name.
 fn is_column(schema: &Schema, name: &str) -> bool
     ensures { result ≡ is_column schema.now name.now }
 {
     schema.place(name).is_some()
 }
 
-/// The test that columns are a schema's.
+/// The test that a schema has the columns.
 #[derive(Drop)]
 struct Known<'a> {
     schema: &'a Schema,
@@ -85,14 +85,14 @@ impl<'a> Test<String> for Known<'a> {
     }
 }
 
-/// Whether all columns that items name are a schema's.
+/// Whether a schema has all columns that items name.
 fn items_are_known(schema: &Schema, items: &[(Item<String>, Option<String>)]) -> bool
     ensures { result ≡ list_all (λ item. columns_pass (is_column schema.now) item.0) (items_of items.now) }
 {
     items_everywhere(items, &Known { schema })
 }
 
-/// Whether all columns that a clause names, if there is one, are a schema's.
+/// Whether a schema has all columns that a clause names, if there is one.
 #[tactic(auto, using(crate::proofs::WholeLaws::clause_known))]
 fn clause_is_known(schema: &Schema, clause: &Option<Cond<String>>) -> bool
     ensures { result ≡ option_map_or (columns_pass (is_column schema.now))
@@ -101,14 +101,14 @@ fn clause_is_known(schema: &Schema, clause: &Option<Cond<String>>) -> bool
     clause_everywhere(clause, &Known { schema })
 }
 
-/// Whether all columns of GROUP BY are a schema's.
+/// Whether a schema has all columns of GROUP BY.
 fn keys_are_known(schema: &Schema, names: &[String]) -> bool
     ensures { result ≡ list_all (is_column schema.now) (map string_bytes names.now) }
 {
     names.iter().all(|name| is_column(schema, name.as_str()))
 }
 
-/// Whether all columns that a query names are a schema's.
+/// Whether a schema has all columns that a query names.
 fn has_columns(schema: &Schema, raw: &RawQuery) -> bool
     ensures { result ≡ has_columns schema.now (written_of raw.now) }
 {
@@ -118,7 +118,7 @@ fn has_columns(schema: &Schema, raw: &RawQuery) -> bool
         && keys_are_known(schema, &raw.keys)
 }
 
-/// Whether all columns that a query names are a schema's, and all terms of its ORDER BY name items.
+/// Whether a schema has all columns that a query names, and all terms of its ORDER BY name items.
 pub(crate) fn has_names(schema: &Schema, raw: &RawQuery) -> bool
     ensures { result ≡
         (has_columns schema.now (written_of raw.now) && names_items (asked_of raw.now)) }

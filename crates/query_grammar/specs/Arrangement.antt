@@ -1,4 +1,4 @@
--- The clauses behind HAVING, which arrange the rows of the answer: their grammar, one constructor a rule (after PostgreSQL 17, SELECT), and
+-- The clauses after HAVING, which arrange the rows of the answer: their grammar, one constructor a rule (after PostgreSQL 17, SELECT), and
 -- how they are read from the left (own).
 use Rattle.std.specs.Prelude.{ℕ, ℤ, ◌≡◌, Bool, true, false, List, [], ◌∷◌, ◌++◌, length, Option, Some, None, Ok, codes, if◌then◌else◌}
 use Rattle.grouping_model.specs.Order.{Arrangement}
@@ -15,7 +15,7 @@ pub data IsTarget : List Lexeme → Target → Type 0 where
   by_name : {w : List ℕ} → is_reserved w ≡ false → IsTarget (Name w ∷ []) (By_name w)
   by_place : {z : ℤ} → IsTarget (Integer z ∷ []) (By_place z)
 
--- [ASC | DESC]: ascending, unless DESC is said
+-- [ASC | DESC]: ascending, unless DESC stands there
 pub data IsDirection : List Lexeme → Bool → Type 0 where
   no_direction : IsDirection [] false
   ascending : IsDirection (word (codes "asc") ∷ []) false
@@ -57,7 +57,7 @@ direction_at ts =
     choose (after (is_word (codes "desc")) ts) (λ rest. Ok (true, rest)) (
     choose (after (is_word (codes "asc")) ts) (λ rest. Ok (false, rest)) (Ok (false, ts)))
 
--- what stands behind NULLS: whether they come first
+-- what stands after NULLS: whether they come first
 unfoldable pub first_or_last : List Lexeme → Read (Option Bool)
 first_or_last ts =
     choose (after (is_word (codes "first")) ts) (λ rest. Ok (Some true, rest)) (

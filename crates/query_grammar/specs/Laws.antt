@@ -29,7 +29,7 @@ MeansThat P ts (Err (Too_deep left)) =
 pub record Means {A : Type 0} (P : Part A) (ts : List Lexeme) (read : Read A) : Type 0 where
   pub that : MeansThat P ts read
 
--- no query goes on behind the front as these tokens do: with the first of them, or by ending where there are none
+-- no query goes on after the front as these tokens do: with the first of them, or by ending where there are none
 abbrev pub NoneGoesOn : ℕ → List Lexeme → List Lexeme → Type 0
 NoneGoesOn limit front [] = (q : Asked) → ¬ (IsQuery limit front q)
 NoneGoesOn limit front (t ∷ rest) = ¬ (Begins limit (front ++ t ∷ []))

@@ -15,8 +15,8 @@ use Rattle.query_checks.specs.Operators.{comparison_named, all_tests, test_word}
 use Rattle.query_grammar.specs.Terminals.{function_named, is_word, is_sign}
 use Rattle.query_grammar.specs.Grammar.{Named, opening}
 
--- the first fault, by how many tokens are left from it on: a token that nothing can stand before, or a parenthesis too
--- many
+-- the first fault, by how many tokens are left from it on: a token that can't stand there or the end of the tokens, or a
+-- parenthesis too many
 pub data Fault : Type 0 where
   Unexpected : ℕ → Fault
   Too_deep : ℕ → Fault
@@ -25,7 +25,7 @@ pub data Fault : Type 0 where
 abbrev pub Read : Type 0 → Type 0
 Read A = Result (A × List Lexeme) Fault
 
--- two steps, of which the second reads on behind the first; the first fault ends both
+-- two steps, of which the second reads on after the first; the first fault ends both
 infixl 10 ◌>>=◌
 abbrev pub ◌>>=◌ : {A B : Type 0} → Read A → (A × List Lexeme → Read B) → Read B
 (Ok x) >>= f = f x
@@ -43,7 +43,7 @@ abbrev pub after : (Lexeme → Bool) → List Lexeme → Option (List Lexeme)
 after test [] = None
 after test (t ∷ ts) = if test t then Some ts else None
 
--- reading on behind an optional token, or without it
+-- reading on after an optional token, or without it
 abbrev pub choose : {A : Type 0} → Option (List Lexeme) → (List Lexeme → A) → A → A
 choose None there otherwise = otherwise
 choose (Some ts) there otherwise = there ts
@@ -86,7 +86,7 @@ argument_at f ts = choose (if is_count f then after (is_sign symbols.Star) ts el
       name ← name_at ts
       Ok ((f, Some name.0), name.1))
 
--- a call, from behind its parenthesis on
+-- a call, from after its parenthesis on
 unfoldable pub call_at : Inner → Function → List Lexeme → Read Named
 call_at inner f ts = do
   argument ← argument_at f ts
@@ -106,7 +106,7 @@ word_at inner w ts =
     if bytes_eq w (codes "null") then Ok (form.Literal datum.Null, ts) else
     if is_reserved w then unexpected (Name w ∷ ts) else function_or_column inner w (function_named w) ts
 
--- a condition in parentheses, from behind the first on
+-- a condition in parentheses, from after the first on
 unfoldable pub enclosed_at : Inner → ℕ → List Lexeme → Read Named
 enclosed_at inner zero ts = too_deep (opening ∷ ts)
 enclosed_at inner (suc room) ts = do

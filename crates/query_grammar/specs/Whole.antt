@@ -43,7 +43,7 @@ item_at limit ts = do
   alias ← alias_at x.1
   Ok ((x.0, alias.0), alias.1)
 
--- a condition behind a word, or nothing
+-- a condition after a key word, or nothing
 unfoldable pub clause_at : ℕ → List ℕ → List Lexeme → Read (Option Named)
 clause_at limit w ts = choose (after (is_word w) ts)
     (λ rest. do

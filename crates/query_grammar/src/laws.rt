@@ -18,30 +18,30 @@ ghost use Rattle.query_grammar.specs.Whole.{query_at};
 ghost use Rattle.query_grammar.specs.Laws.{IsUnexpected, IsTooDeep, IsSpelled};
 ghost use Rattle.query_grammar.specs.Canonical.{canonical};
 
-/// What is read is in the grammar, all of it.
+/// Tokens that are read as a query are one in the grammar, all of them.
 #[tactic(auto, using(crate::specs::Lemmas::Faults::is_query))]
 pub fn what_is_read_is_a_query()
     ensures { (limit : ℕ) (ts : List Lexeme) (q : Asked) (rest : List Lexeme) →
         query_at limit ts ≡ Ok (q, rest) → IsQuery limit ts q }
 {}
 
-/// What is in the grammar is read.
+/// Tokens that are a query in the grammar are read as it.
 #[tactic(auto, using(crate::specs::Lemmas::Whole_complete::query_reads))]
 pub fn what_is_a_query_is_read()
     ensures { (limit : ℕ) (ts : List Lexeme) (q : Asked) → IsQuery limit ts q →
         query_at limit ts ≡ Ok (q, []) }
 {}
 
-/// Tokens say one query at most.
+/// Tokens are one query at most.
 #[tactic(auto, using(crate::specs::Lemmas::Whole_complete::one_query))]
 pub fn one_query()
     ensures { (limit : ℕ) (ts : List Lexeme) (q r : Asked) → IsQuery limit ts q →
         IsQuery limit ts r → q ≡ r }
 {}
 
-/// Where tokens are refused, it is at the first one after which no query can follow, or at their end if none is. It is
-/// for the number of parentheses if a query can follow with one more of them allowed, and else for the token itself. And
-/// where there is such a token, it is the one that is refused, so tokens have one first fault.
+/// Tokens are refused at the first one that no query can go on with, or at their end if there is none. The fault is the
+/// number of parentheses if a query can go on with one more of them allowed, and else the token itself. And if there is
+/// such a token, it is the one that is refused. So tokens have one first fault.
 #[tactic(auto, using(crate::specs::Lemmas::Faults::is_unexpected, crate::specs::Lemmas::Faults::is_too_deep))]
 pub fn refused_tokens()
     ensures unexpected { (limit : ℕ) (ts : List Lexeme) (left : ℕ) →
@@ -54,16 +54,16 @@ pub fn refused_tokens()
         IsTooDeep limit ts left → query_at limit ts ≡ Err (Too_deep left) }
 {}
 
-/// What legal tokens say can be written: all names are legal and not reserved, numbers have 64 bits, no text has the
-/// character 0, and only a count of rows has no column.
+/// A query that is read from legal tokens can be written: all names are legal and not reserved, numbers have 64 bits, no
+/// text has the character 0, and only a count of rows has no column.
 #[tactic(auto, using(crate::specs::Lemmas::Writables::query_writable))]
 pub fn what_is_a_query_can_be_written()
     ensures { (limit : ℕ) (ts : List Lexeme) (q : Asked) → IsQuery limit ts q →
         AllByRecursion IsLexeme ts → CanBeAsked q }
 {}
 
-/// The canonical text of a query says the query, each column of GROUP BY once, no alias that is the item's own name, and of
-/// ORDER BY the terms that order, by their places, if its conditions are nested at most 64 deep and these places have 64 bits.
+/// The canonical text of a query says the query, if its conditions are nested at most 64 deep and places have 64 bits. It has
+/// each column of GROUP BY once, no alias that is the item's own name, and of ORDER BY the terms that order, by places.
 #[tactic(auto, using(crate::specs::Lemmas::PrintedQuery::text_says))]
 pub fn canonical_text_is_read()
     ensures { (q : Asked) → IsWritable q.written →

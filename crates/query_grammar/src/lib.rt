@@ -1,8 +1,8 @@
 //! The grammar of queries, how it is read, and its laws.
 //!
-//! `specs/Grammar.antt`, `specs/Arrangement.antt` and `specs/Queries.antt` have the grammar as a relation between tokens and what they say,
-//! `specs/Reading.antt` and `specs/Whole.antt` the way that tokens are read from the left. The functions here have no
-//! code: each contract is a law.
+//! `specs/Grammar.antt`, `specs/Arrangement.antt` and `specs/Queries.antt` have the grammar, as a relation between tokens and what they
+//! say. `specs/Reading.antt` and `specs/Whole.antt` have the way that tokens are read from the left. The functions here
+//! have no code: each contract is a law.
 #![tactic(auto)]
 
 mod laws;

@@ -54,7 +54,7 @@ spell (Integer z) = signed_decimal z
 spell (Text text) = 39 ∷ flat_map spell_byte text ++ 39 ∷ []
 spell (Sign symbol) = spell_symbol symbol
 
--- whether a byte directly after a lexeme's spelling would belong to its token, or make a fault of it
+-- whether a byte directly after a lexeme's spelling would belong to its token, or make it malformed
 abbrev pub runs_into : Lexeme → ℕ → Bool
 runs_into (Name name) b = is_in_name b
 runs_into (Integer z) b = is_in_name b

@@ -46,7 +46,7 @@ abbrev pub number_after : ℕ → List ℕ → ℕ
 number_after so_far [] = so_far
 number_after so_far (d ∷ ds) = number_after (10 * so_far + (d - 48)) ds
 
--- the integer after a minus sign or none, if it is in the range of 64 bits (8.1.1 Integer Types)
+-- the integer, with or without a minus sign before it, if it is in the range of 64 bits (8.1.1 Integer Types)
 abbrev pub integer_of : Bool → ℕ → Option ℤ
 integer_of true n = if nat_le n (2 ^ 63) then Some (neg_ℤ (pos n)) else None
 integer_of false n = if nat_lt n (2 ^ 63) then Some (pos n) else None
@@ -70,15 +70,15 @@ and_before b None = None
 and_before b (Some x) = Some (b ∷ x.0, x.1)
 
 -- what stands within the quotes, two quotes being one, and what stands after the closing one; none if the string is
--- open. `string_content false` reads within, and `string_content true` after a quote, which closes if no second one
--- follows. A backslash is an ordinary byte (4.1.2.1 String Constants)
+-- unterminated. `string_content false` reads within, and `string_content true` after a quote, which closes if no second
+-- one follows. A backslash is an ordinary byte (4.1.2.1 String Constants)
 unfoldable pub string_content : Bool → List ℕ → Option (List ℕ × List ℕ)
 string_content false [] = None
 string_content true [] = Some ([], [])
 string_content false (b ∷ bs) = if b == 39 then string_content true bs else and_before b (string_content false bs)
 string_content true (b ∷ bs) = if b == 39 then and_before 39 (string_content false bs) else Some ([], b ∷ bs)
 
--- a string, if it is closed and the character 0 is not in it (4.1.2.1; 8.3 Character Types)
+-- a string, if it is terminated and the character 0 is not in it (4.1.2.1; 8.3 Character Types)
 abbrev pub text_or_fault : ℕ → Option (List ℕ × List ℕ) → Result (Lexeme × List ℕ) Fault
 text_or_fault at None = Err (Syntax at)
 text_or_fault at (Some x) = if list_any (λ b. b == 0) x.0 then Err (Syntax at) else Ok (Text x.0, x.1)

@@ -1,4 +1,4 @@
-//! Laws of tokens: what is spelled is read again, and what is read can be spelled.
+//! Laws of tokens: reading undoes spelling, and all tokens that are read can be spelled.
 
 ghost use Rattle.std.specs.Prelude.{◌≡◌, ◌++◌, ◌∷◌, [], ◌<◌, ◌≢◌, List, ℕ, ℤ, true, false, length, Ok, Err, Contains};
 ghost use Rattle.query_tokens.specs.declared.word.Symbol.{Symbol};
@@ -11,8 +11,8 @@ ghost use Rattle.query_tokens.specs.Tokens.{word_at, tokens_at, tokens_in};
 ghost use Rattle.query_tokens.specs.Wholes.{MakeUp};
 ghost use Rattle.query_tokens.specs.Words.{Lexeme, Name, Integer, Text, Sign, Placed, RiseWithin};
 
-/// What is spelled is read again: a lexeme before anything that doesn't run into it, and a text of lexemes and spaces
-/// at any place. So no two lexemes share a spelling, and no two lists of lexemes share a text.
+/// Reading undoes spelling: of a lexeme before bytes that don't continue it, and of a text of lexemes and spaces at
+/// any place. So no two lexemes share a spelling, and no two lists of lexemes share a text.
 #[tactic(auto, using(crate::specs::Lemmas::Respelled::word_again, crate::specs::Lemmas::Pieces::pieces_again, crate::proofs::Pieces::tokens_again, crate::proofs::Pieces::no_fault, crate::specs::Lemmas::Pieces::spaced_again, crate::proofs::Pieces::one_spelling, crate::proofs::Pieces::one_text))]
 pub fn spelling_is_read()
     ensures word { (at : ℕ) (w : Lexeme) (rest : List ℕ) → IsLexeme w → EndsBefore w rest →
@@ -32,8 +32,8 @@ pub fn spelling_is_read()
         text_of these ≡ text_of those → lexemes_in these ≡ lexemes_in those }
 {}
 
-/// What is read is a lexeme that a text can have: each name is one of 1 to 63 bytes in lower case, each integer has
-/// 64 bits, and no string has the character 0. So it can be spelled, and is then read again.
+/// Each lexeme that is read can be spelled, and is then read again. A name has 1 to 63 bytes in lower case, an integer
+/// has 64 bits, and no string has the character 0.
 #[tactic(auto, using(crate::specs::Lemmas::Legal::word_legal, crate::specs::Lemmas::Legal::read_legal, crate::specs::Lemmas::Legal::respelled))]
 pub fn what_is_read()
     ensures word { (at : ℕ) (bytes : List ℕ) (w : Lexeme) (rest : List ℕ) →
@@ -46,8 +46,8 @@ pub fn what_is_read()
         lexemes_read (tokens_in (text_of (with_spaces (lexemes_of ts)))) ≡ Ok (lexemes_of ts) }
 {}
 
-/// Which lexemes end before what follows them: any lexeme at the end of a text, before a space and before bytes that
-/// run into none; a name, an integer or a string before a symbol; and all symbols but `<` and `>` before anything.
+/// Where a lexeme ends: any lexeme at the end of a text, before a space and before bytes that continue none; a name,
+/// an integer or a string before a symbol; and all symbols but `<` and `>` before anything.
 #[tactic(auto, using(crate::specs::EndLaws::before_others, crate::proofs::Ends::before_lexeme))]
 pub fn ends_of_lexemes()
     ensures at_end { (w : Lexeme) → EndsBefore w [] }
@@ -66,8 +66,8 @@ pub fn ends_of_lexemes()
         EndsBefore (Sign symbol) rest }
 {}
 
-/// Joining pieces joins their texts and their lexemes. The lexemes stay apart if the last one in front ends before the
-/// text after it.
+/// Joining two lists of pieces joins their texts and their lexemes. The lexemes stay apart if the last one of the first
+/// list ends before the text of the second.
 #[tactic(auto, using(crate::proofs::Ends::joined_text, crate::proofs::Ends::joined_lexemes, crate::proofs::Ends::joined_apart, crate::proofs::Ends::last_before_others))]
 pub fn joined_pieces()
     ensures text { (front back : List Piece) →

@@ -108,7 +108,7 @@ fn begins_name_at(bytes: &[u8]) -> bool
     }
 }
 
-/// A number after a minus sign or none, if it is in range.
+/// A number with or without a minus sign before it, if it is in range.
 fn signed_integer(negative: bool, magnitude: u64) -> Option<i64>
     ensures { result ≡ integer_of negative magnitude }
 {
@@ -119,7 +119,7 @@ fn signed_integer(negative: bool, magnitude: u64) -> Option<i64>
     }
 }
 
-/// The integer that digits stand for after a minus sign or none, if it is in range.
+/// The integer of some digits, with or without a minus sign before them, if it is in range.
 fn integer_of(negative: bool, digits: &str) -> Option<i64>
     requires digits { all_ascii_digits digits.now ≡ true }
     requires some { 0 < length digits.now }
@@ -172,10 +172,10 @@ fn word_at(alloc: Global, at: usize, text: &str) -> Result<(Word, &str), TokenEr
 ///
 /// # Errors
 ///
-/// The first fault from the left: [`Fault::Syntax`] at the first byte, counted from 0, of what begins no token, or of
-/// an open string, a string with the character 0, a name of more than 63 bytes, or digits with a letter or `_`
-/// directly after them, even if their number is too large; [`Fault::NumberTooLarge`] for an integer that is out of
-/// range. And [`TokenError::NoMemory`] if memory ran out.
+/// The first fault from the left. [`Fault::Syntax`] has the first byte, counted from 0, of what begins no token or of a
+/// malformed token. These are unterminated strings, strings with the character 0, names of more than 63 bytes, and digits
+/// with a letter or `_` directly after them, even if their number is too large. [`Fault::NumberTooLarge`] is for an
+/// integer that is out of range. [`TokenError::NoMemory`] comes if memory ran out.
 pub fn tokens(alloc: Global, text: &str) -> Result<Vec<Token>, TokenError>
     ensures exact { Gives (λ v. all_placed v.items) result (tokens_in text.now) }
     ensures legal { IfOk result (λ v. All (λ t. IsLexeme (lexeme_of t.word)) v.items) }
@@ -186,8 +186,8 @@ pub fn tokens(alloc: Global, text: &str) -> Result<Vec<Token>, TokenError>
     }
 }
 
-/// The tokens of a text as [`tokens`] gives them, or `None` if it has more than `most` of them. In that case the first `most` were read
-/// without a fault and nothing after them, so memory is taken for these alone.
+/// The tokens of a text as [`tokens`] gives them, or `None` if it has more than `most`. Then the first `most` were read without a
+/// fault, and nothing after them. So memory is taken for these alone.
 ///
 /// # Errors
 ///

@@ -1,4 +1,4 @@
--- Numbers that are digits alone: how many records a head says follow it, and how many bytes a limit is. All of this is our own.
+-- Numbers that are digits alone: how many records a header says follow it, and how many bytes a limit is. All of this is our own.
 use Rattle.std.specs.Prelude.{ℕ, Bool, ◌&&◌, List, length, nat_lt, nat_le, Option, Some, None, if◌then◌else◌}
 use Rattle.std.specs.List.{list_all}
 use Rattle.std.specs.Char.{is_ascii_digit}

@@ -15,11 +15,11 @@ behind fused = fused.stream
 abbrev pub has_failed : {S : Type 0} → Fused S → Bool
 has_failed fused = is_some (fault_of fused)
 
--- the bytes that a reader has left, where those of the reader behind are known
+-- the bytes that a reader has left, if those of the underlying reader are known
 abbrev pub unread : {R : Type 0} → (R → Option (List ℕ)) → Fused R → Option (List ℕ)
 unread remaining fused = remaining (behind fused)
 
--- the bytes that a writer holds, where those of the writer behind are known
+-- the bytes that a writer holds, if those of the underlying writer are known
 abbrev pub written : {W : Type 0} → (W → Option (List ℕ)) → Fused W → Option (List ℕ)
 written contents fused = contents (behind fused)
 

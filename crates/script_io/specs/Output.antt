@@ -5,7 +5,7 @@ use Rattle.std.specs.Result.{is_err}
 use Rattle.script_io.specs.declared.fused.Fused.{Fused}
 use Rattle.script_io.specs.Fused.{FailsAsTold, written}
 
--- own: a writer took the front of these bytes, and nothing else
+-- own: a writer took a prefix of these bytes, and nothing else
 abbrev pub TakesFront : Option (List ℕ) → Option (List ℕ) → List ℕ → Type 0
 TakesFront old new bytes = (front rest : List ℕ) × (bytes ≡ front ++ rest) × Appends old new front
 

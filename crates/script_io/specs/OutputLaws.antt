@@ -7,11 +7,11 @@ use Rattle.script_io.specs.declared.fused.Fused.{Fused}
 use Rattle.script_io.specs.Fused.{FailsAsTold}
 use Rattle.script_io.specs.Output.{TakesFront, StopsShort}
 
--- the front of the first bytes is the front of both
+-- a prefix of the first bytes is a prefix of both
 pub front-first : (a b : Option (List ℕ)) (xs ys : List ℕ) → TakesFront a b xs → TakesFront a b (xs ++ ys)
 front-first a b xs ys p = (p.0, p.1 ++ ys, ap (λ l. l ++ ys) p.2 ∙ append_assoc p.0 p.1 ys, p.3)
 
--- the first bytes and the front of the second are the front of both
+-- the first bytes and a prefix of the second are a prefix of both
 pub front-second : (a b c : Option (List ℕ)) (xs ys : List ℕ) → Appends a b xs → TakesFront b c ys → TakesFront a c (xs ++ ys)
 front-second a b c xs ys p q = (xs ++ q.0, q.1, ap (λ l. xs ++ l) q.2 ∙ sym (append_assoc xs q.0 q.1), Appends-trans a b c _ _ p q.3)
 

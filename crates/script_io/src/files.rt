@@ -13,13 +13,13 @@ use std::{fs, io};
 pub enum Unread {
     /// Memory ran out for its bytes.
     NoMemory,
-    /// It has more bytes than the limit: so many, where that is known.
+    /// It has more bytes than the limit: this many, if that is known.
     TooLong(Option<u64>),
     /// The system could not open or read it.
     Failed(io::Error),
 }
 
-/// How long a file is, where that is known.
+/// How long a file is, if that is known.
 fn length_of<R: Files>(rt: &R, path: &str) -> Option<u64> {
     match fs::metadata(rt, path) {
         Ok(found) if found.is_file() => Some(found.len()),
@@ -27,7 +27,7 @@ fn length_of<R: Files>(rt: &R, path: &str) -> Option<u64> {
     }
 }
 
-/// The bytes of a file, where they are 67,108,864 or fewer.
+/// The bytes of a file of at most 67,108,864 bytes (64 MiB). `Unread` has the errors; a longer file is `TooLong`.
 pub fn read_file<R: Files + AllocGlobal>(rt: &R, path: &str) -> Result<Vec<u8>, Unread>
     ensures few { IfOk result (λ bytes. length bytes.items ≤ MAX_INPUT_LEN) }
 {

@@ -9,7 +9,7 @@ use std::io;
 use std::io::{Error, ErrorKind, Read, Write};
 
 /// A reader or a writer that stays failed. Once a call failed, was interrupted, or took none of the bytes offered, every later call returns
-/// the same error, and no longer calls the stream behind. So a caller can ask afterwards whether a call failed, and why.
+/// the same error and does not call the underlying stream. So a caller can ask afterwards whether a call failed, and why.
 #[derive(Drop)]
 pub struct Fused<S> {
     stream: S,

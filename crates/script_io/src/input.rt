@@ -27,11 +27,11 @@ pub enum InputError {
     ReadFault,
 }
 
-/// All the bytes that a reader has left, where they are `most` bytes or fewer.
+/// All the bytes that a reader has left, if they are `most` bytes or fewer.
 ///
 /// It reads on until `read` returns 0 bytes, and never takes more than `most` + 1 bytes, so a reader without an end is
-/// refused too. A failed read ends it and is not tried again, also where the read was interrupted: the result is
-/// `ReadFault` then, and then alone. After an error the bytes that were taken are lost.
+/// refused too. A failed read ends it and is not retried, even if it was interrupted. The result is then `ReadFault`,
+/// and only then. After an error the bytes that were taken are lost.
 pub fn read_input<R: Read>(
     alloc: Global,
     reader: &mut Fused<R>,

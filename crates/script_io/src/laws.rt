@@ -18,12 +18,12 @@ pub fn reads_are_whole()
         → StopsReading old new most InputError.TooLong → IfSome old (λ all. most < length all) }
 {}
 
-/// A script has no more records than bytes, and one: a bound for a loop over them.
+/// A script has at most one record more than bytes. This bounds a loop over its records.
 pub fn records_are_few()
     ensures { (script : List ℕ) → length (records_of script) ≤ length script + 1 }
 {}
 
-/// What counts as the front of some bytes: none of them, all of them, and what a writer took that stopped short.
+/// What counts as a prefix of some bytes: none of them, all of them, and what a writer took that stopped short.
 pub fn fronts_range()
     ensures none { (old new : Option (List ℕ)) → (bytes : List ℕ)
         → Keeps old new → TakesFront old new bytes }
@@ -33,8 +33,8 @@ pub fn fronts_range()
         → StopsShort old new bytes → TakesFront old new bytes }
 {}
 
-/// Two writes in turn, of `xs` and then of `ys`. Both whole make `xs ++ ys`; where either stopped and
-/// nothing more was written, the writer took the front of `xs ++ ys`.
+/// Two writes in turn, of `xs` and then of `ys`. Both whole make `xs ++ ys`; if either stopped and
+/// nothing more was written, the writer took a prefix of `xs ++ ys`.
 pub fn writes_compose()
     ensures both { (a b c : Option (List ℕ)) → (xs ys : List ℕ)
         → Appends a b xs → Appends b c ys → Appends a c (xs ++ ys) }

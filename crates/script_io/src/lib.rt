@@ -1,6 +1,6 @@
-//! The edges of a program that runs a script of CSV records, over any reader and any writer. The whole script is read,
-//! up to a limit. Its records come in turn. Bytes are written so that even after a fault the caller knows what was
-//! written. Whole files are read by the same rules.
+//! Input and output of a program that runs a script of CSV records, over any reader and any writer. The whole script is
+//! read, up to a limit. Its records come in turn. Even after a failed write the caller knows what was written. Whole
+//! files are read by the same rules.
 #![tactic(auto)]
 
 mod digits;

@@ -13,9 +13,9 @@ pub struct WriteFault;
 
 /// Writes these bytes, in as many calls of `write` as the writer needs. It does not flush.
 ///
-/// At an `Err` the writer took the front of the bytes, and at least the last byte is missing. A failed write is not
-/// tried again, also where it was interrupted: the result is `WriteFault` then, and then alone. To write no bytes makes
-/// no call.
+/// After an error the writer took a prefix of the bytes, without at least the last one. A failed write is not retried,
+/// even if it was interrupted: the result is then `WriteFault`, and only then. To write no bytes makes no call of
+/// `write`.
 pub fn put_all<W: Write>(writer: &mut Fused<W>, bytes: &[u8]) -> Result<(), WriteFault>
     ensures { IsPut W.contents writer.old writer.new result bytes.now }
 {

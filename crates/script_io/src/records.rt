@@ -10,9 +10,9 @@ use std::marker::Model;
 
 /// The records of a script that are still to be read: in a clause, the list of them.
 ///
-/// They are read as `csv` reads by default: fields between commas, quotes as in RFC 4180, lines
-/// without a byte passed over, and a byte order mark at the start of the script left out. No record
-/// is a header, and the records may differ in how many fields they have.
+/// They are read as `csv` reads by default: fields between commas, quotes as in RFC 4180, empty
+/// lines skipped, and a byte order mark at the start of the script left out. No record is a header,
+/// and the records may differ in how many fields they have.
 #[derive(Drop)]
 pub struct Records<'a> {
     reader: Reader<&'a [u8]>,
@@ -50,8 +50,8 @@ impl<'a> Records<'a> {
         }
     }
 
-    /// Reads the next record, in place of what `into` held, and tells whether there was one. The only error is that
-    /// memory ran out, and after it no more records come. Where there was none, the content of `into` is unspecified.
+    /// Reads the next record into `into`, replacing what it held, and tells whether there was one. The only error is that
+    /// memory ran out, and after it no more records come. If there was none, the content of `into` is unspecified.
     #[inline(always)]
     pub fn read(&mut self, into: &mut ByteRecord) -> Result<bool, AllocError>
         ensures { MatchResult result (λ found. MatchBool found
@@ -70,7 +70,7 @@ impl<'a> Records<'a> {
         Ok(found)
     }
 
-    /// The next record, or `None` where there are no more. The only error is that memory ran out, and
+    /// The next record, or `None` if there are no more. The only error is that memory ran out, and
     /// after it no more records come.
     pub fn next(&mut self) -> Result<Option<ByteRecord>, AllocError>
         ensures { MatchResult result (λ found. MatchOption found
@@ -86,7 +86,7 @@ impl<'a> Records<'a> {
         }
     }
 
-    /// Passes over the next records: as many as this, or all where fewer are left. One buffer serves for all of them.
+    /// Skips the next `count` records, or all that are left if they are fewer. One buffer serves for all of them.
     /// The only error is that memory ran out, and after it no more records come.
     pub fn skip(&mut self, count: usize) -> Result<(), AllocError>
         ensures { MatchResult result (λ _. self.new ≡ drop count self.old) (λ _. self.new ≡ []) }
