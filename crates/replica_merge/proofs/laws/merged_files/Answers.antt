@@ -16,13 +16,13 @@ fits_in {world} {query} {a} {b} {ab} m = merges_fit true refl query a b ab m.mer
 
 pub returns : goal.returns
 returns c = record {
-  commutative = λ world query a b ab ba bytes those one two.
+  commutative = λ world query a b ab ba one two bytes those.
       same_bytes world query ab ba bytes those one.new_held two.new_held (fits_in one) (fits_in two) (told_in one
       ∙ union_commutes (told a) (told b) ∙ sym (told_in two));
-  associative = λ world query a b d ab bd left right bytes those one two three four.
+  associative = λ world query a b d ab bd left right one two three four bytes those.
       same_bytes world query left right bytes those two.new_held four.new_held (fits_in two) (fits_in four)
       (told_in two ∙ ap (λ t. union t (told d)) (told_in one) ∙ union_associates (told a) (told b) (told d)
       ∙ sym (told_in four ∙ ap (union (told a)) (told_in three)));
-  idempotent = λ world query a aa bytes those one.
+  idempotent = λ world query a aa one bytes those.
       same_bytes world query aa a bytes those one.new_held one.own_held (fits_in one) one.own_fits (told_in one ∙ union_itself (told a));
 }
