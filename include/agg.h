@@ -72,11 +72,12 @@ enum {
  * it, whatever that call returned. Never read, write or copy its fields: a copy of a slot that was closed or used points to freed memory.
  * A slot may be moved while no call uses it.
  *
- * Threads. A slot may move from thread to thread (no proof says so yet). One call at a time may use it: if threads share a slot, take a
- * lock of your own, for calls that only ask, too, since each call takes the summary out of its slot and puts it back. For agg_merge lock
- * both slots, always in one order. So one thread's call ends before another's begins, in the sense of C11. Calls on different slots may
- * run at the same time. No call waits, can be interrupted, takes a lock, starts a thread, or touches a file. None may be made from a
- * signal handler, or in the child of a fork of a process with threads.
+ * Threads. A slot may go from thread to thread, with all that it holds: that is proved. Two calls may never use it at once. Hand it over by
+ * a lock, by the start or the end of a thread, or by a sequentially consistent atomic: so one thread's call ends before another's begins, in
+ * the sense of C11. If threads share a slot, take a lock of your own, for calls that only ask, too, since each call takes the summary out of
+ * its slot and puts it back. For agg_merge lock both slots, always in one order. Calls on different slots may run at the same time. No call
+ * waits, can be interrupted, takes a lock, starts a thread, or touches a file. None may be made from a signal handler, or in the child of a
+ * fork of a process with threads.
  *
  * Pointers. No pointer is null, even if there are no bytes. Except for the two slots of agg_merge, what a call writes overlaps none of its
  * other arguments. Texts are UTF-8 with their length, without a terminating zero. After a status other than AGG_DONE, what a pointer such
@@ -154,7 +155,10 @@ uint32_t agg_merge_bytes(agg_slot *slot, const uint8_t *file, size_t file_len);
 
 /* The summary file: at most 67,108,864 bytes, the same from every program that knows the same batches. AGG_INPUT_TOO_LONG. */
 uint32_t agg_save(agg_slot *slot, size_t *wanted);
-/* The table of the answer, in CSV with a header, or in columns below one another, and how many rows it has beside the header. */
+/*
+ * The table of the answer, in CSV with a header, or in columns below one another, and how many rows it has beside the header. Early batches
+ * are not counted. agg_known lists them; the foot that agg_tool puts under its aligned table does not come with it.
+ */
 uint32_t agg_answer(agg_slot *slot, bool aligned, size_t *rows, size_t *wanted);
 /* A line `origin O upto P` for each origin of which something is known, with ` early N ..` after it. */
 uint32_t agg_known(agg_slot *slot, size_t *wanted);

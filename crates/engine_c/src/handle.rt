@@ -31,6 +31,9 @@ impl Model for Handle {
     ghost also_owns = { λ h. handle_owns h.alloc h.at h.kept };
 }
 
+// Proved: what it owns goes with it.
+unsafe impl Send for Handle {}
+
 impl Handle {
     pub(crate) fn none(alloc: Global) -> Handle
         ensures { result.kept ≡ None }

@@ -10,12 +10,14 @@ ghost use Rattle.engine_calls.specs.Calls.{OnSession, OpensBy, ForMemory, Merges
 ghost use Rattle.engine_c.specs.Exports.{kept_by, delivery_of, format_by, CallsSlot, AsksSlot, FillsSlot, StaysFull, GivesNothing};
 ghost use Rattle.engine_c.specs.Exports.{HandsOut, Fetches, Names};
 
+mod crossing;
 mod delivery;
 mod handle;
 mod outcomes;
 mod parts;
 mod slot;
 
+pub use crossing::slots_cross;
 use delivery::Delivery;
 use engine::{Place, Seed, Status};
 use outcomes::{delivery, format_by, hand_out, number_of};
