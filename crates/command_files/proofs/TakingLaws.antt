@@ -5,6 +5,7 @@ use Rattle.std.proofs.Common.{◌∙◌, ap, sym, subst, arith}
 use Rattle.std.proofs.lemmas.List.{length-append}
 use Rattle.std.proofs.lemmas.List.Elements.{filter-append}
 use Rattle.tape_disks.specs.Chosen.{is_honest}
+use Rattle.tape_disks.specs.Files.{SystemState}
 use Rattle.tape_disks.specs.declared.seekable_file.SeekableFile.{Ghosts}
 use Rattle.tape_disks.specs.declared.spill_disk.SpillDisk.{SpillDisk}
 use Rattle.tape_disks.specs.declared.spill_disk.SpillDisk.TheVariants.{Memory, File}
@@ -26,11 +27,15 @@ pub took_over : (kind : FileKind) (honest memory : Bool) (file : List ℕ) (old 
     → honest ≡ memory → Takes kind honest file old new result → Takes kind memory file old new result
 took_over kind honest memory file old new result same takes = subst (λ h. Takes kind h file old new result) same takes
 
--- tapes of which no file is called honest are honest where they lie in memory
-pub honest_in_memory : {F : Type 0} (g : Ghosts F) → ((file : F) → g.honest file ≡ false) → (disk : SpillDisk F)
-    → is_honest g disk ≡ is_in_memory disk
-honest_in_memory g none (Memory disk) = refl
-honest_in_memory g none (File disk) = none disk.file
+-- what is said of a file of the system: it is never called honest
+abbrev system_ghosts : {F : Type 0} → Ghosts (SystemState F)
+system_ghosts =
+    record { failures = λ f. f.failures; honest = λ f. false; stands = λ f at. Unit {0}; last = λ f at byte. Unit {0} }
+
+-- tapes over such files are honest where they lie in memory
+pub honest_in_memory : {F : Type 0} (disk : SpillDisk (SystemState F)) → is_honest system_ghosts disk ≡ is_in_memory disk
+honest_in_memory (Memory disk) = refl
+honest_in_memory (File disk) = refl
 
 -- some files, and more behind them
 each_more : (kind : FileKind) (honest : Bool) (files more : List TakenFile) (old held new : Held) → TakesEach kind honest files old held
@@ -73,13 +78,11 @@ pub takes_one : (kind : FileKind) (honest : Bool) (bytes : Option (List ℕ)) (t
 takes_one kind honest bytes told old new passed now takes goes_on counted =
     record { files = record { bytes = bytes; told = told } ∷ []; many = refl; each = (new, takes, goes_on, refl); counted = counted }
 
--- one with a reply, which leaves the count, whatever becomes of the reply
-pub takes_replied : {E : Type 0} (kind : FileKind) (honest : Bool) (bytes : Option (List ℕ)) (reply : Reply) (old new : Held)
-    (passed now : ℕ) (written : Result (Unit {0}) E) → TakesFile kind honest bytes old new (Ok reply) → now ≡ passed
-    → OnOk written (TakesAll kind honest 1 old new passed now)
-takes_replied kind honest bytes reply old new passed now (Ok done) takes same =
+-- one with a reply, which leaves the count
+pub takes_replied : (kind : FileKind) (honest : Bool) (bytes : Option (List ℕ)) (reply : Reply) (old new : Held) (passed now : ℕ)
+    → TakesFile kind honest bytes old new (Ok reply) → now ≡ passed → TakesAll kind honest 1 old new passed now
+takes_replied kind honest bytes reply old new passed now takes same =
     takes_one kind honest bytes (Ok reply) old new passed now takes tt (λ low. omega (arith, same))
-takes_replied kind honest bytes reply old new passed now (Err error) takes same = tt
 
 -- one that is passed over
 pub takes_refused : {E : Type 0} (kind : FileKind) (honest : Bool) (bytes : Option (List ℕ)) (why : Refusal) (old new : Held)

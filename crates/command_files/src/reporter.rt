@@ -6,7 +6,8 @@ use command_replicas::SummaryFile;
 use command_streams::{
     Diagnostic, OutputStatus, Problem, Streams, Terminals, ending_of, remove_disk, reply_refused,
 };
-use file_sentences::{Progress, text_of};
+use file_sentences::{CutShort, Progress, text_of};
+use replica_merge::Delivered;
 use replies::{ExitKind, Format, Reply, put_reply};
 use script_io::{Fused, put_all};
 use std::fmt::Display;
@@ -17,6 +18,15 @@ use std::rt::Files;
 fn put_beside<E: Write>(errors: &mut E, reply: &Reply<'_>) {
     // If it can't be written, nothing is left to do.
     let _ = put_reply(&mut Fused::new(&mut *errors), reply);
+}
+
+/// Whether the last line of a batch file has no end, where a reply tells that it was taken.
+fn is_cut(file: &[u8], reply: &Reply<'_>) -> bool {
+    let is_taken = matches!(
+        reply,
+        Reply::Delivered(Delivered::Folded { .. } | Delivered::Early)
+    );
+    is_taken && !matches!(file.last(), Some(b'\n' | b'\r'))
 }
 
 /// The streams of a running command, whether OUT is standard output, how many files were taken of how many, and whether that is told.
@@ -116,6 +126,13 @@ impl<'c, W: Write, E: Write> Reporter<'c, W, E> {
     ) {
         if !problem.is_unread() {
             self.streams.say(&Diagnostic { problem, output });
+        }
+    }
+
+    /// Says that the last line of a batch file has no end, where a reply tells that it was taken.
+    pub(crate) fn tell_cut(&mut self, path: &str, file: &[u8], reply: &Reply<'_>) {
+        if is_cut(file, reply) {
+            self.streams.say(&CutShort { path });
         }
     }
 

@@ -18,12 +18,10 @@ use command_words::{
     BATCH, COMPLETE, EXPLAIN, FORMAT, IN, OUT, PROGRESS, Subcommand, input_name, is_stream,
     output_name, value,
 };
-use file_sentences::{
-    CutShort, Explained, FileKind, PassedOver, Standing, WrittenOver, file_reason,
-};
+use file_sentences::{Explained, FileKind, PassedOver, Standing, WrittenOver, file_reason};
 use hash_agg::{Fnv1a, Means, Work};
 use holding_sentences::{answer_line, holding_lines, waiting_lines};
-use replica_merge::{Delivered, Replica};
+use replica_merge::Replica;
 use replies::{ExitKind, Format, KnownFormat, Refusal, Reply, known_table, table};
 use spill_tapes::{MemDisk, SpillDisk, SystemFile};
 use std::io::{Read, Write};
@@ -56,15 +54,6 @@ fn known_format_named(text: &str) -> KnownFormat
 /// That there was no memory for what the summary IN has.
 fn no_memory_for<'p>(matches: &ArgMatches<'p>) -> Problem<'p> {
     Problem::refused(input_name(value(matches, IN)), Refusal::NoMemory)
-}
-
-/// Whether the last line of a batch file has no end, where a reply tells that it was taken.
-fn is_cut(file: &[u8], reply: &Reply<'_>) -> bool {
-    let is_taken = matches!(
-        reply,
-        Reply::Delivered(Delivered::Folded { .. } | Delivered::Early)
-    );
-    is_taken && !matches!(file.last(), Some(b'\n' | b'\r'))
 }
 
 /// A running command: its files, what it replies and says, its tape disk and whether that is in a file, what its aggregations took, how
@@ -184,11 +173,7 @@ impl<'c, R: Files + AllocGlobal + RandomSource, I: Read, W: Write, E: Write> Ses
         let (disk, work) = (&mut self.disk, &mut self.work);
         match take(alloc, kind, replica, &file, means, disk, work) {
             Ok(reply) => {
-                if is_cut(&file, &reply) {
-                    self.reporter.say(&CutShort {
-                        path: input_name(path),
-                    });
-                }
+                self.reporter.tell_cut(input_name(path), &file, &reply);
                 self.target.keep_old(place, file);
                 Ok(reply)
             }

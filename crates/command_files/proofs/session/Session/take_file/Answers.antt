@@ -1,4 +1,4 @@
-use Rattle.std.specs.Prelude.{refl, Some, Ok, Err}
+use Rattle.std.specs.Prelude.{Some, Ok, Err}
 use Rattle.std.proofs.Common.{◌∙◌, sym}
 use Rattle.command_files.proofs.TakingLaws.{told_as, took_over, honest_in_memory}
 use Rattle.command_files.proofs.session.Session.take_file.Goals as goal
@@ -7,13 +7,13 @@ pub returns-in-Ok-take-clause-takes : goal.returns-in-Ok-take-clause-takes
 returns-in-Ok-take-clause-takes g c = (
   Some c.deref.result.now,
   took_over c.args.kind _ _ c.deref.result.now c.args.replica.now c.take.new.replica (Ok c.in-Ok-take.reply)
-      (honest_in_memory _ (λ file. refl) c.args.self.now.disk) c.in-Ok-take.ensures.takes,
+      (honest_in_memory c.args.self.now.disk) c.in-Ok-take.ensures.takes,
 )
 
 pub returns-in-Ok-take-clause-disk : goal.returns-in-Ok-take-clause-disk
 returns-in-Ok-take-clause-disk g c =
-    sym (honest_in_memory _ (λ file. refl) c.take.new.disk) ∙ c.in-Ok-take.ensures.ran.disk.honesty
-    ∙ honest_in_memory _ (λ file. refl) c.args.self.now.disk
+    sym (honest_in_memory c.take.new.disk) ∙ c.in-Ok-take.ensures.ran.disk.honesty
+    ∙ honest_in_memory c.args.self.now.disk
 
 pub returns-clause-takes : goal.returns-clause-takes
 returns-clause-takes g c = (
@@ -21,10 +21,10 @@ returns-clause-takes g c = (
   told_as c.args.kind _ c.deref.result.now c.args.replica.now c.take.new.replica
       c.in-Err-take.why c.refused.result.why c.refused.ensures
       (took_over c.args.kind _ _ c.deref.result.now c.args.replica.now c.take.new.replica (Err c.in-Err-take.why)
-      (honest_in_memory _ (λ file. refl) c.args.self.now.disk) c.in-Err-take.ensures.takes),
+      (honest_in_memory c.args.self.now.disk) c.in-Err-take.ensures.takes),
 )
 
 pub returns-clause-disk : goal.returns-clause-disk
 returns-clause-disk g c =
-    sym (honest_in_memory _ (λ file. refl) c.take.new.disk) ∙ c.in-Err-take.ensures.ran.disk.honesty
-    ∙ honest_in_memory _ (λ file. refl) c.args.self.now.disk
+    sym (honest_in_memory c.take.new.disk) ∙ c.in-Err-take.ensures.ran.disk.honesty
+    ∙ honest_in_memory c.args.self.now.disk

@@ -1,4 +1,3 @@
-use Rattle.std.specs.Prelude.{Ok}
 use Rattle.std.proofs.Common.{◌∙◌, ap}
 use Rattle.command_files.specs.Taking.{is_in_memory}
 use Rattle.command_files.proofs.TakingLaws.{takes_replied, takes_refused}
@@ -14,4 +13,4 @@ returns-in-Err-clause-disk g c = ap is_in_memory c.pass_over.ensures.disk ∙ c.
 
 pub returns-clause-takes : goal.returns-clause-takes
 returns-clause-takes g c =
-    takes_replied c.args.kind _ c.in-Ok.ensures.takes.0 c.in-Ok.reply _ _ _ _ c.reply_to.result c.in-Ok.ensures.takes.1 c.in-Ok.ensures.passed
+    takes_replied c.args.kind _ c.in-Ok.ensures.takes.0 c.in-Ok.reply _ _ _ _ c.in-Ok.ensures.takes.1 c.in-Ok.ensures.passed
