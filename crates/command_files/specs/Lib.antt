@@ -1,2 +1,4 @@
 pub mod Limits
 pub mod Taking
+pub mod Fates
+pub mod Formats

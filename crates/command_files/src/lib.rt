@@ -4,6 +4,7 @@
 mod files;
 mod limit;
 mod replicas;
+mod reporter;
 mod session;
 mod target;
 mod texts;

@@ -3,7 +3,10 @@
 ghost use Rattle.std.specs.Prelude.{IfOk, IfErr};
 ghost use Rattle.summary_codec.specs.Reading.{IsSaved};
 ghost use Rattle.command_replicas.specs.Commands.{IsTooLong};
-ghost use Rattle.command_files.specs.Taking.{Takes};
+ghost use Rattle.key_hashes.specs.Hashes.{fnv_1a};
+ghost use Rattle.hash_agg.specs.Ran.{Ran};
+ghost use Rattle.replies.specs.Refusals.{refusal_ended};
+ghost use Rattle.command_files.specs.Taking.{Takes, TakeIsCounted};
 
 use crate::texts::{TextOption, read_text};
 use clap::ArgMatches;
@@ -79,7 +82,9 @@ pub(crate) fn take<D: TapeDisk>(
     disk: &mut D,
     work: &mut Work,
 ) -> Result<Reply<'static>, Refusal>
-    ensures { Takes kind (D.honest disk.old) file.now replica.old replica.new result }
+    ensures takes { Takes kind (D.honest disk.old) file.now replica.old replica.new result }
+    ensures ran { Ran D.TapeDisk (λ _ key. fnv_1a key) replica.old.query means.now (TakeIsCounted kind file.now replica.old)
+        (refusal_ended result) disk.old work.old disk.new work.new }
 {
     match kind {
         FileKind::Batch => {

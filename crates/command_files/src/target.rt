@@ -1,11 +1,17 @@
 //! OUT, beside the files that a command reads.
 
+ghost use Rattle.std.specs.Prelude.{◌≡◌, ◌≢◌, ◌↔◌, None, Some, true, false, IfOk, IsTrue};
+ghost use Rattle.file_sentences.specs.Standing.{is_foreign};
+ghost use Rattle.file_sentences.specs.declared.out.Fate.TheVariants.{Forced, Kept, Spared};
+ghost use Rattle.out_files.specs.declared.occupant.Occupant.TheVariants.{Another};
+ghost use Rattle.command_files.specs.Fates.{fate_where_read};
+
 use crate::files::{front_kind, occupant_of_out, try_files, write_out};
 use clap::ArgMatches;
 use command_replicas::SummaryFile;
 use command_streams::Problem;
 use command_words::{FORCE, NO_CLOBBER, Subcommand, is_stream, output_name};
-use file_sentences::{Fate, Standing};
+use file_sentences::{Fate, FrontKind, Standing};
 use out_files::{Occupant, Place};
 use replies::Refusal;
 use std::rt::Files;
@@ -20,6 +26,34 @@ pub(crate) struct Target {
     is_over: bool,
 }
 
+/// What becomes of a file in the place of OUT that is no foreign one: it is told of where it is none of those that are read.
+fn fate_where_read(listed: Option<usize>) -> Option<Fate>
+    ensures { result ≡ fate_where_read listed }
+{
+    match listed {
+        Some(_) => None,
+        None => Some(Fate::Replaced),
+    }
+}
+
+/// What becomes of a file in the place of OUT, by what its first bytes tell, by whether the command is forced, and by its place among the
+/// files that are read. The first of these is to be a summary: where it is none, nothing is written.
+fn fate_by(kind: FrontKind, is_forced: bool, listed: Option<usize>) -> Option<Fate>
+    ensures spared { IsTrue (is_foreign kind) → is_forced ≡ false → result ≡ Some (Spared kind) }
+    ensures forced { IsTrue (is_foreign kind) → is_forced ≡ true → listed ≢ Some 0 → result ≡ Some Forced }
+    ensures first { is_forced ≡ true → listed ≡ Some 0 → result ≡ None }
+    ensures replaced { is_foreign kind ≡ false → result ≡ fate_where_read listed }
+    ensures unforced { is_forced ≡ false → result ≢ Some Forced }
+{
+    if kind.is_foreign() && !is_forced {
+        return Some(Fate::Spared(kind));
+    }
+    if kind.is_foreign() && listed != Some(0) {
+        return Some(Fate::Forced);
+    }
+    fate_where_read(listed)
+}
+
 impl Target {
     /// Nothing is known of it yet.
     pub(crate) fn new() -> Target {
@@ -32,7 +66,9 @@ impl Target {
     }
 
     /// Whether it is the file of a place among those that are read.
-    pub(crate) fn is_at(&self, place: usize) -> bool {
+    pub(crate) fn is_at(&self, place: usize) -> bool
+        ensures { IsTrue result ↔ (self.now.listed ≡ Some place) }
+    {
         self.listed == Some(place)
     }
 
@@ -47,31 +83,31 @@ impl Target {
     fn fate_by_front<'p, R: Files>(
         &self,
         rt: &R,
-        subcommand: Subcommand,
-        matches: &ArgMatches<'p>,
+        is_forced: bool,
         out: &'p str,
-    ) -> Result<Option<Fate>, Problem<'p>> {
-        let is_forced = subcommand.is_told(matches, FORCE);
+    ) -> Result<Option<Fate>, Problem<'p>>
+        ensures unforced { is_forced ≡ false → IfOk result (λ fate. fate ≢ Some Forced) }
+    {
         match front_kind(rt, out) {
-            Ok(kind) if kind.is_foreign() && !is_forced => Ok(Some(Fate::Spared(kind))),
-            // The first is to be a summary: where it is none, nothing is written.
-            Ok(kind) if kind.is_foreign() && !self.is_at(0) => Ok(Some(Fate::Forced)),
+            Ok(kind) => Ok(fate_by(kind, is_forced, self.listed)),
             Err(problem) if !is_forced => Err(problem),
-            _ if self.listed.is_some() => Ok(None),
-            _ => Ok(Some(Fate::Replaced)),
+            Err(_) => Ok(fate_where_read(self.listed)),
         }
     }
 
-    /// What becomes of what is there in the place of OUT, where that is to be told.
+    /// What becomes of what is there in the place of OUT, where that is to be told, to a command that keeps a file which it does not read,
+    /// or is forced to replace a foreign one.
     fn fate_of<'p, R: Files>(
         &mut self,
         rt: &R,
-        subcommand: Subcommand,
-        matches: &ArgMatches<'p>,
+        keeps: bool,
+        is_forced: bool,
         out: &'p str,
         occupant: Occupant,
-    ) -> Result<Option<Fate>, Problem<'p>> {
-        let keeps = subcommand.is_told(matches, NO_CLOBBER);
+    ) -> Result<Option<Fate>, Problem<'p>>
+        ensures kept { occupant ≡ Another → IsTrue keeps → IfOk result (λ fate. fate ≡ Some Kept) }
+        ensures unforced { is_forced ≡ false → IfOk result (λ fate. fate ≢ Some Forced) }
+    {
         match occupant {
             Occupant::Nothing => {
                 self.is_new = keeps;
@@ -79,10 +115,10 @@ impl Target {
             }
             Occupant::Special => Ok(None),
             Occupant::Another if keeps => Ok(Some(Fate::Kept)),
-            Occupant::Another => self.fate_by_front(rt, subcommand, matches, out),
+            Occupant::Another => self.fate_by_front(rt, is_forced, out),
             Occupant::Listed(place) => {
                 self.listed = Some(place);
-                self.fate_by_front(rt, subcommand, matches, out)
+                self.fate_by_front(rt, is_forced, out)
             }
         }
     }
@@ -115,7 +151,9 @@ impl Target {
             }
             Err(_) => return Ok(None),
         };
-        match self.fate_of(rt, subcommand, matches, out, occupant)? {
+        let keeps = subcommand.is_told(matches, NO_CLOBBER);
+        let is_forced = subcommand.is_told(matches, FORCE);
+        match self.fate_of(rt, keeps, is_forced, out, occupant)? {
             Some(fate) => Ok(Some(Standing { out, fate })),
             None => Ok(None),
         }

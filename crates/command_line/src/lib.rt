@@ -83,6 +83,21 @@ fn refuse_streams<W: Write, E: Write>(
     ExitKind::BadUsage
 }
 
+/// What a command writes to.
+fn streams_of<'s, R: AllocGlobal, W, E>(
+    rt: &R,
+    writer: &'s mut Fused<W>,
+    errors: &'s mut E,
+    terminals: Terminals,
+) -> Streams<'s, W, E> {
+    Streams {
+        alloc: rt.alloc(),
+        writer,
+        errors,
+        terminals,
+    }
+}
+
 /// Runs a command on files, by its name.
 fn run_subcommand<'c, R: Files + AllocGlobal + RandomSource, I: Read, W: Write, E: Write>(
     rt: &'c R,
@@ -93,14 +108,8 @@ fn run_subcommand<'c, R: Files + AllocGlobal + RandomSource, I: Read, W: Write, 
     name: &str,
     matches: &ArgMatches<'_>,
 ) -> ExitKind {
-    let alloc = rt.alloc();
     let inputs = Inputs { rt, reader };
-    let streams = Streams {
-        alloc,
-        writer,
-        errors,
-        terminals,
-    };
+    let streams = streams_of(rt, writer, errors, terminals);
     match Subcommand::named(name) {
         Some(subcommand) => Session::new(inputs, streams).run(subcommand, matches),
         // The parser knows no other.
@@ -128,26 +137,13 @@ fn run_found<R: Files + AllocGlobal + RandomSource, I: Read, W: Write, E: Write>
     errors: &mut E,
     terminals: Terminals,
 ) -> ExitKind {
-    let alloc = rt.alloc();
     if name == "script" {
-        let mut streams = Streams {
-            alloc,
-            writer,
-            errors,
-            terminals,
-        };
-
+        let mut streams = streams_of(rt, writer, errors, terminals);
         return run_script(rt, matches.get_str(SPILL), reader, &mut streams);
     }
     let mut input = Fused::new(&mut *reader);
     if name == "pack" {
-        let mut streams = Streams {
-            alloc,
-            writer,
-            errors,
-            terminals,
-        };
-
+        let mut streams = streams_of(rt, writer, errors, terminals);
         return run_packing(rt, &mut input, matches, &mut streams);
     }
     run_subcommand(rt, &mut input, writer, errors, terminals, name, matches)
@@ -163,18 +159,11 @@ fn run_named<R: Files + AllocGlobal + RandomSource, I: Read, W: Write, E: Write>
     errors: &mut E,
     terminals: Terminals,
 ) -> ExitKind {
-    let alloc = rt.alloc();
-    let found = stream_fault(alloc, name, matches);
+    let found = stream_fault(rt.alloc(), name, matches);
     if let Ok(None) = found {
         return run_found(rt, name, matches, reader, writer, errors, terminals);
     }
-    let mut streams = Streams {
-        alloc,
-        writer,
-        errors,
-        terminals,
-    };
-
+    let mut streams = streams_of(rt, writer, errors, terminals);
     match found {
         Ok(Some(fault)) => refuse_streams(fault, &mut streams),
         _ => refuse_for_memory(&mut streams),
@@ -190,8 +179,7 @@ fn run_words<R: Files + AllocGlobal + RandomSource, I: Read, W: Write, E: Write>
     errors: &mut E,
     terminals: Terminals,
 ) -> ExitKind {
-    let alloc = rt.alloc();
-    match parse_words(alloc, words) {
+    match parse_words(rt.alloc(), words) {
         Ok(matches) => match matches.subcommand() {
             Some((name, matches)) => {
                 run_named(rt, name, matches, reader, writer, errors, terminals)
@@ -200,13 +188,7 @@ fn run_words<R: Files + AllocGlobal + RandomSource, I: Read, W: Write, E: Write>
             None => ExitKind::BadUsage,
         },
         Err(error) => {
-            let mut streams = Streams {
-                alloc,
-                writer,
-                errors,
-                terminals,
-            };
-
+            let mut streams = streams_of(rt, writer, errors, terminals);
             end_without_command(&error, words, &mut streams)
         }
     }

@@ -1,7 +1,10 @@
 //! The command `script`, with a sentence for each refused command.
 #![tactic(auto)]
 
-ghost use Rattle.command_streams.specs.Stopping.{EndsRefused};
+ghost use Rattle.replies.specs.Text.{said_text};
+ghost use Rattle.replies.specs.declared.reply.Reply.TheVariants.{Refused};
+ghost use Rattle.script_io.specs.Fused.{written};
+ghost use Rattle.command_streams.specs.Stopping.{RepliesRefused};
 ghost use Rattle.command_scripts.specs.Runs.{RunEnds};
 
 use command_streams::{
@@ -172,9 +175,10 @@ fn run_over<R: Files + AllocGlobal, I: Read, W: Write, E: Write, D: TapeDisk>(
 
 /// Ends a script whose file for what is spilled was not made. Nothing was read.
 fn stop<W: Write, E: Write>(problem: Problem<'_>, streams: &mut Streams<'_, W, E>) -> ExitKind
-    ensures { EndsRefused problem.entry.why result }
+    ensures { RepliesRefused (said_text (Refused problem.entry.why)) (written W.contents streams.old.writer.now)
+        (written W.contents streams.new.writer.now) problem.entry.why result }
 {
-    streams.say(&problem);
+    say(streams.alloc, streams.errors, &problem);
     reply_refused(streams.writer, problem.why)
 }
 
