@@ -1,9 +1,9 @@
 -- The rules of space of an `AllocSet`.
 --
--- Each chunk has 8 bytes before it. Chunks of up to 8,192 bytes have the room of a class, and lie in blocks that double in
--- size, from 8,192 bytes up to 1,048,576; one that is freed serves later requests of its class. A larger chunk has a block
--- of its own, which goes back when it is freed. (The rules are our own; that chunks have classes, that blocks double and that
--- the first one is kept by a reset is as in PostgreSQL 17, src/backend/utils/mmgr/aset.c.)
+-- Each chunk has 8 bytes before it. Chunks of up to 8,192 bytes have the room of a class. They lie in blocks that double in size, from
+-- 8,192 bytes up to 1,048,576. One that is freed serves later requests of its class. A larger chunk has a block of its own, which goes back
+-- when it is freed. (The rules are our own; that chunks have classes, that blocks double and that the first one is kept by a reset is as in
+-- PostgreSQL 17, src/backend/utils/mmgr/aset.c.)
 use Rattle.std.specs.Prelude.{ℕ, ◌+◌, ◌-◌, ◌*◌, nat_le, nat_lt, min, Bool, true, false, cond, if◌then◌else◌, List, [], ◌∷◌, Option, Some}
 use Rattle.std.specs.Prelude.{None, slice_set, is_some}
 use Rattle.chunk_layout.specs.Contents.{ChunkContents, contents_at, without, with_block, rewritten, size_at, only}
@@ -13,8 +13,8 @@ use Rattle.chunk_contexts.specs.Rooms.{rounded, rooms_down, room_of, class_of, o
 use Rattle.chunk_contexts.specs.Free.{is_in, minus}
 use Rattle.chunk_contexts.specs.declared.rooms.TheConstants.{BLOCK, LARGEST, LARGEST_BLOCK}
 
--- its live chunks, the newest first; the size of each block by its number; the rooms of the free chunks; what is left of
--- the block in use; the size of the next block; and the number of the first block with chunks of the classes
+-- its live chunks, the newest first; the size of each block by its number; and the rooms of the free chunks. Then what
+-- is left of the block in use; the size of the next block; and the number of the first block with chunks of the classes
 pub record SetState : Type 0 where
   pub chunks : List ChunkContents
   pub blocks : List (Option ℕ)

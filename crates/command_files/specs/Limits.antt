@@ -6,7 +6,7 @@ use Rattle.replies.specs.Refusals.{limit_out_of_range}
 use Rattle.replies.specs.declared.refusal.Refusal.{Refusal}
 use Rattle.replies.specs.declared.refusal.Refusal.TheVariants.{BadCommand}
 
--- the limit that an option tells, if its text is a number of bytes, with a suffix or none, or the usual one where it is not told
+-- the limit that an option tells, if its text is a number of bytes, with a suffix or none. It is the usual one where the option is not told
 abbrev pub limit_of : Option (List ℕ) → Option ℕ
 limit_of None = Some DEFAULT_LIMIT
 limit_of (Some text) = bytes_told text

@@ -1,5 +1,5 @@
--- What the program's commands make of files. A batch file means what a feed of its batch means in a script, and a summary file what
--- the replica means that it is of. All of this is our own.
+-- What the program's commands make of files. A batch file means what a feed of its batch means in a script. A summary file means what the
+-- replica means that it is of. All of this is our own.
 use Rattle.std.specs.Prelude.{Bool, false, ℕ, ◌≡◌, ◌<◌, ◌≤◌, ◌⊎◌, List, [], length, Option, Some, None, IsSomeAnd}
 use Rattle.grouping_model.specs.Datum.{Kind}
 use Rattle.grouping_model.specs.Query.{Query}

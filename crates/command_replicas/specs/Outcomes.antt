@@ -18,8 +18,8 @@ abbrev pub WhereApart : {T : Type 0} → Result T Refusal → (ℕ → Option �
 WhereApart result Is = IfErr result (λ why. (of : ℕ) (at : Option ℕ) → why ≡ OriginDisagrees of at → Is of at)
 
 -- a batch file was fed: the replica takes the file's batch, and the part of its origin does; or nothing changes, and why. A batch that
--- disagrees is never taken, disagreement is told of no other and of no batch of a world that the replica fits, and nothing else is told of
--- a number that is known already
+-- disagrees is never taken. Disagreement is told of no other, and of no batch of a world that the replica fits. Of a number that is known
+-- already, nothing else is told but faults of the file and that memory ran out
 pub record AfterFeed (honest : Bool) (file : Option BatchFile) (old new : Held) (result : Result Delivered Refusal) : Type 0 where
   pub took : IfOk result (TakesFile honest file old new)
   pub delivers : IfOk result (DeliversFile honest file old new)

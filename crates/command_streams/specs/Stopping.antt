@@ -17,7 +17,8 @@ ending_of why = refusal_ending why
 abbrev pub EndsRefused : Refusal → ExitKind → Type 0
 EndsRefused why exit = (exit ≡ ending_of why) ⊎ (exit ≡ Fault)
 
--- the reply that says so was written whole, and the command ends as its refusal tells, or its last byte was not, and it ends by a fault
+-- the reply that says so was written whole, and the command ends as its refusal tells. Or its last byte was not, and the command ends by a
+-- fault
 abbrev pub RepliesRefused : (line : List ℕ) → (old new : Option (List ℕ)) → Refusal → ExitKind → Type 0
 RepliesRefused line old new why exit =
     ((exit ≡ ending_of why) × Appends old new line) ⊎ ((exit ≡ Fault) × StopsShort old new line)

@@ -10,8 +10,7 @@ abbrev pub NoneFollows : ℕ → List Lexeme → List Lexeme → Type 0
 NoneFollows limit front [] = Unit {0}
 NoneFollows limit front (t ∷ rest) = ¬ (Begins limit (front ++ t ∷ []))
 
--- this many of the tokens, from the left, and no more begin a query in which at most `limit` parentheses of a condition are
--- open at once
+-- this many of the tokens, from the left, and no more begin a query. At most `limit` parentheses of a condition are open in it at once
 pub record IsLongestFront (limit : ℕ) (ts : List Lexeme) (count : ℕ) : Type 0 where
   pub front : List Lexeme
   pub rest : List Lexeme

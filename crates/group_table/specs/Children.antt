@@ -43,8 +43,8 @@ IsRefusedOf number before e = ((e ≡ StampsSpent) × (18446744073709551615 < be
 abbrev pub IsRefused : TreeState → TreeError → Type 0
 IsRefused before e = IsRefusedOf 3 before e
 
--- the same contexts are there as before, each as it was and below the one that it was made below, and as much is held
--- below any
+-- the same contexts are there as before, each as it was and below the one that it was made below. As much is held below
+-- any
 pub record IsAsBefore (before after : TreeState) : Type 0 where
   pub there : (id : ContextId) → is_there after id ≡ is_there before id
   pub same : (id : ContextId) → is_there before id ≡ true → context_at after id ≡ context_at before id

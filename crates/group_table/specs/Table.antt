@@ -7,8 +7,8 @@ use Rattle.context_tree.specs.Tree.{TreeState, context_at, held_below, reset}
 use Rattle.context_tree.specs.declared.links.ContextId.{ContextId}
 use Rattle.group_table.specs.declared.table.Slot.{Slot}
 
--- a table: the context below which it has its own, and these; how many bytes a state has; the hash function; the name of the bucket array,
--- if there is one; the groups in the order in which they came; and how many more can be noted without memory
+-- a table: the context below which it has its own, and these; how many bytes a state has; and the hash function. Then the name of the
+-- bucket array, if there is one; the groups in the order in which they came; and how many more can be noted without memory
 pub record TableState (H : Type 0) : Type 0 where
   pub parent : ContextId
   pub buckets : ContextId
@@ -68,8 +68,8 @@ array_growth t tree =
 abbrev pub group_growth : {H : Type 0} → TableState H → TreeState → ℕ → ℕ
 group_growth t tree n = array_growth t tree + growth_of (context_at tree t.keys) n + growth_of (context_at tree t.states) t.width
 
--- whether one more group, with a key of this many bytes, keeps within the most buckets, and at each step within a limit on what is held
--- below the parent
+-- whether one more group, with a key of this many bytes, keeps within the most buckets. At each step it keeps within a limit on what is
+-- held below the parent, too
 abbrev pub has_room : {H : Type 0} → TableState H → TreeState → ℕ → ℕ → Bool
 has_room t tree n limit = nat_le (held_below tree t.parent + group_growth t tree n) limit
     && nat_le (buckets_for (buckets_in t.array) (length t.slots)) most_buckets

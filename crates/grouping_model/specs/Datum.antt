@@ -6,7 +6,7 @@ use Rattle.std.specs.Ordering.{nat_cmp, int_cmp, bool_cmp, eq_by_cmp}
 use Rattle.std.specs.Cmp.Lexicographic.{slice_cmp}
 use Rattle.grouping_model.specs.declared.limits.TheConstants.{MAX_TEXT_LEN}
 
--- a value: null, which is no value at all, a bigint, a boolean, or a text by its bytes
+-- a value: null, which is no value at all; a bigint; a boolean; or a text by its bytes
 -- (PostgreSQL 17, 8.1.1 Integer Types, 8.6 Boolean Type, 8.3 Character Types)
 pub data Datum : Type 0 where
   Null : Datum

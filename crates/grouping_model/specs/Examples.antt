@@ -136,7 +136,7 @@ twelve_and_ten = (Boolean true ∷ Bigint (pos 12) ∷ []) ∷ (Boolean false �
 abbrev pub number : ℕ → Outcome
 number n = Plain (Bigint (pos n))
 
--- four rows of a text and a number, of which one is null, and SELECT c, sum(d) FROM batches GROUP BY c ORDER BY 2 DESC, 1
+-- four rows of a text and a number, of which one is null. The query is SELECT c, sum(d) FROM batches GROUP BY c ORDER BY 2 DESC, 1
 abbrev pub one_absent : List Row
 one_absent = pair a (pos 1) ∷ (Text (codes "b") ∷ Null ∷ []) ∷ pair (Text (codes "c")) (pos 5) ∷ pair (Text (codes "d")) (pos 1) ∷ []
 

@@ -142,7 +142,7 @@ pub record AddedOne {H D : Type 0} (hash_of : H → List ℕ → ℕ) (g : Ghost
   pub added : Added hash_of g what old before new after
   pub proceeds : Proceeds (entries_of old.groups) old.spill (entries_of new.groups) new.spill
 
--- a record is that of a row for which WHERE is true, or of a group of the query, and its hash is that of its key
+-- a record is that of a row for which WHERE is true, or of a group of the query. Its hash is that of its key
 abbrev pub IsGenuine : {H : Type 0} → (H → List ℕ → ℕ) → Pass H → Source → Type 0
 IsGenuine hash_of pass what = (piece : Piece) × Are (query_of pass) (hash_of pass.groups.hash) what (piece ∷ [])
 

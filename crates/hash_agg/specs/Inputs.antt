@@ -107,8 +107,8 @@ AllBring query [] [] = Unit {0}
 AllBring query (input ∷ inputs) (keys ∷ lists) = Brings query input keys × AllBring query inputs lists
 AllBring query inputs lists = ⊥
 
--- what aggregation gives for inputs. If they stand for lists of rows, it is the groups of all these rows. In any case it has the keys
--- that the inputs bring, each once and in increasing order, and states that count at most as many rows as there are
+-- what aggregation gives for inputs. If they stand for lists of rows, it is the groups of all these rows. In any case it has the keys that
+-- the inputs bring, each once and in increasing order. Its states count at most as many rows as there are
 pub record IsAggregate (query : Query) (inputs : List Brought) (run : List Entry) : Type 0 where
   pub part : (lists : List (List Row)) → AreInputsOf query inputs lists
       → AreGroups query (all_rows inputs) run (part query (concatenated lists))

@@ -149,7 +149,7 @@ columns_back (x ∷ xs) = ap (λ rest. x ∷ rest) (columns_back xs)
 abbrev pub coded_form : Coded (Form ℕ)
 coded_form = code_by Gv itself tree_of form_at form_back
 
--- a query over places by its parts, a term by its own, the arrangement by its clauses, and a checked query by its
+-- a query over places by its parts; a term by its own; the arrangement by its clauses; and a checked query by its
 -- columns beside all that
 abbrev pub coded_written : Coded (Written ℕ)
 coded_written =

@@ -71,8 +71,8 @@ abbrev pub AreAmong : ℕ → Batches → Batches → Type 0
 AreAmong above some others =
     (number : ℕ) → above < number → (rows : List (List ℕ)) → rows_at some number ≡ Some rows → rows_at others number ≡ Some rows
 
--- a part includes another one: its prefix is as long at least, with the same groups where both are as long, and it has the early batches
--- of the other that are behind its prefix
+-- a part includes another one: its prefix is as long at least, with the same groups where both are as long. It has the early batches of the
+-- other that are behind its prefix
 pub record Includes (own other : Part) : Type 0 where
   pub longer : other.prefix ≤ own.prefix
   pub groups : own.prefix ≡ other.prefix → own.run ≡ other.run

@@ -65,8 +65,8 @@ pub record IsRightHeader (skips : Bool) (names header : Record) : Type 0 where
   pub places : List ℕ
   pub at : ArePlaces header names places
 
--- the error of rows by their number and widths, unless memory ran out: that of the first row, of those that a batch may have, which is
--- wider or narrower than the width given, or else that there are more
+-- the error of rows by their number and widths, unless memory ran out. It is that of the first row, of those that a batch may have, which
+-- is wider or narrower than the width given. Else it is that there are more
 abbrev pub WidthFault : ℕ → List Record → PackError → Type 0
 WidthFault width rows NoMemory = Unit {0}
 WidthFault width rows (WrongWidth row) = (row < MAX_ROWS) × (row < length rows) × (length (slice_index_or rows row []) ≢ width)

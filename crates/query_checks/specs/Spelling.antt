@@ -56,8 +56,8 @@ level (Unary operator x) = unary_level operator
 level (Binary operator x y) = binary_level operator
 level other = levels.OPERAND
 
--- how tightly the operands of an operator must bind to stand without parentheses, the left one and the right one: AND and
--- OR group to the left, and a comparison takes nothing on its left that binds as it does, and on its right no operator at all
+-- how tightly the operands of an operator must bind to stand without parentheses, the left one and the right one. AND and OR group to the
+-- left. A comparison takes nothing on its left that binds as it does, and on its right no operator at all
 abbrev pub left_level : Binary_operator → ℕ
 left_level (Comparing comparison) = binary_level (Comparing comparison) + 1
 left_level operator = binary_level operator

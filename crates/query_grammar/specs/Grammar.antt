@@ -1,5 +1,5 @@
 -- The grammar of conditions, one constructor a rule. `limit` is how many parentheses of one condition may be open at
--- once, and `room` is how many more may still be opened where the tokens stand. The words and symbols are SQL's; which
+-- once. `room` is how many more may still be opened where the tokens stand. The words and symbols are SQL's; which
 -- forms there are, and that IS binds less tightly than a comparison, is our own (PostgreSQL 17, 4.1.6 and 4.2).
 use Rattle.std.specs.Prelude.{ℕ, suc, ◌≡◌, ℤ, true, false, List, [], ◌∷◌, ◌++◌, Option, Some, None, codes}
 use Rattle.query_tokens.specs.declared.word.Symbol.{Symbol}

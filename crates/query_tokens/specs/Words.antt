@@ -6,7 +6,7 @@ use Rattle.query_tokens.specs.declared.word.Word.{Word}
 use Rattle.query_tokens.specs.declared.word.Word.TheVariants as words
 use Rattle.query_tokens.specs.declared.word.Token.{Token}
 
--- what a token says: a name or a key word by its bytes in lower case, an integer, the bytes between a string's quotes,
+-- what a token says: a name or a key word by its bytes in lower case; an integer; the bytes between a string's quotes;
 -- or a symbol (PostgreSQL 17, 4.1 Lexical Structure)
 pub data Lexeme : Type 0 where
   Name : List ℕ → Lexeme

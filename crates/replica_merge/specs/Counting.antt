@@ -22,8 +22,8 @@ MergeIsCounted own (held ∷ theirs) query setting old writes new written =
     (work : Work) × (pages : ℕ) × JoinIsCounted (part_of own held.0) held.1 query setting old writes work pages
     × MergeIsCounted own theirs query setting work pages new written
 
--- what joining the parts of all origins below one takes, one after the other: from this work and this number of pages it leads to a work
--- that no caller sees, and to a number of pages, of which at least as many are written
+-- what joining the parts of all origins below one takes, one after the other. From this work and this number of pages it leads to a work
+-- that no caller sees, and to a number of pages. At least that many are written
 pub record JoinedBelow (own theirs : Parts) (origin : ℕ) (query : Query) (setting : Setting) (old : Work) (writes written : ℕ) :
     Type 0 where
   pub lower : Parts

@@ -40,8 +40,8 @@ pub record IsShown (held : Held) (rows : List (List Outcome)) : Type 0 where
   pub shown : (groups : List Group) → AreGroups (meaning held.query) (all_rows (map counted_part held.parts)) run groups
       → rows ≡ answer_of (meaning held.query) groups
 
--- rows are the answer of what is held: each has the query's items, they are those of one run of the groups of all parts, and for each world
--- that what is held fits they are the query's answer over the unbroken prefixes
+-- rows are the answer of what is held: each has the query's items, and they are those of one run of the groups of all parts. For each world
+-- that what is held fits, they are the query's answer over the unbroken prefixes
 pub record IsAnswerOf (held : Held) (rows : List (List Outcome)) : Type 0 where
   pub width : All (λ (row : List Outcome). length row ≡ length (meaning held.query).items) rows
   pub shown : IsShown held rows

@@ -8,7 +8,7 @@ use Rattle.replies.specs.declared.refusal.Refusal.TheVariants.{Run}
 use Rattle.replies.specs.declared.ending.ExitKind.{ExitKind}
 use Rattle.replies.specs.declared.ending.ExitKind.TheVariants.{Done, Refused, BadUsage, Fault}
 
--- 0 where all was done, 1 where something was refused, 2 for a wrong command line, 3 for a fault of a file or a stream
+-- 0 where all was done; 1 where something was refused; 2 for a wrong command line; 3 for a fault of a file or a stream
 abbrev pub status_of : ExitKind → ℕ
 status_of Done = 0
 status_of Refused = 1

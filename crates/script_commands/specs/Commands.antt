@@ -73,8 +73,8 @@ request_of (word ∷ name ∷ other ∷ []) = two_fields word name other
 request_of (word ∷ name ∷ origin ∷ number ∷ rows ∷ []) = feed_request word name origin number rows
 request_of _ = Unknown
 
--- how many of the records after it belong to a record of this word that declares this number of rows, whether or not it
--- is right otherwise
+-- how many of the records after it belong to a record of this word that declares this number of rows. It may be wrong
+-- otherwise
 abbrev pub owned_rows : List ℕ → List ℕ → ℕ
 owned_rows word rows = if bytes_eq word (codes "feed") then unwrap_or (row_count rows) 0 else 0
 

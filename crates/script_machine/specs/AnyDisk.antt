@@ -21,8 +21,8 @@ takes_batches (Took name fed delivered) = true
 takes_batches (Merged into from) = true
 takes_batches reply = false
 
--- a command by which a replica would take batches is refused, since one number was given to two batches, or as if it had been, over a
--- disk that isn't honest
+-- a command by which a replica would take batches is refused, since one number was given to two batches. Over a disk that isn't honest, it
+-- may be refused as if that had been so
 pub record IsDisagreement (old : State) (request : Request) (owned : List Record) (reply : Reply) : Type 0 where
   pub instead : Reply
   pub would : Replies old request owned instead
@@ -56,7 +56,7 @@ abbrev pub is_fault : Reply → Bool
 is_fault (Refused why) = tells_fault why
 is_fault reply = false
 
--- the texts that a reply may have, whatever the tape disk returned: for an answer the table of some rows, for a saved file some length, and
+-- the texts that a reply may have, whatever the tape disk returned: for an answer the table of some rows; for a saved file some length; and
 -- for any other reply the one text that it has for each world
 abbrev pub MayRead : Reply → List ℕ → Type 0
 MayRead (Saved saved query known) text = (count : ℕ) × (text ≡ line (codes "saved ") (decimal count))

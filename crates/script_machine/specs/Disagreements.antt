@@ -31,8 +31,8 @@ pub record FeedAlike (held : Held) (origin number : List ℕ) (told : ℕ) (owne
 abbrev pub IsHeldAt : Store → List ℕ → (Held → Type 0) → Type 0
 IsHeldAt store name holds = (held : Held) × (replica_at store name ≡ Some held) × holds held
 
--- when a reply reports a disagreement: a feed is refused for it only if the batch disagrees, and taken only if it doesn't; a merge is
--- refused for it only if the two replicas disagree, at the first origin where they do, and done only if they don't
+-- when a reply reports a disagreement. A feed is refused for it only if the batch disagrees, and taken only if it doesn't. A merge is
+-- refused for it only if the two replicas disagree, at the first origin where they do. It is done only if they don't
 abbrev pub TellsDisagreement : Store → Request → List Record → Reply → Type 0
 TellsDisagreement old (Feed name origin number told) owned (says.Refused (OriginDisagrees of at)) = IsHeldAt old name
     (λ held. FeedApart held origin number told owned of at)

@@ -16,9 +16,9 @@ use Rattle.script_machine.specs.Headline.{Streams, commands_in}
 use Rattle.script_machine.specs.Limits.{WorksAtLimit}
 use Rattle.script_machine.specs.Views.{Store, Steps, empty}
 
--- a command that asks for this and owns these records is answered, over a tape disk: the reply and what is kept then are the
--- machine's; what disagrees is never taken, and disagreement is told of nothing else; the disk failed as often as the reply tells; and an
--- honest one is written as often as the aggregations want that the command makes, at the limit that was told last
+-- a command that asks for this and owns these records is answered, over a tape disk. The reply and what is kept then are the machine's.
+-- What disagrees is never taken, and disagreement is told of nothing else. The disk failed as often as the reply tells. An honest one is
+-- written as often as the aggregations want that the command makes, at the limit that was told last
 pub record Executes {D : Type 0} (g : Ghosts D) (request : Request) (owned : List Record) (old : Store) (before : D) (reply : Reply)
     (new : Store) (after : D) : Type 0 where
   pub answers : Steps (g.honest before) request owned old reply new

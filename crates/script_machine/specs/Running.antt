@@ -20,10 +20,10 @@ pub record RunsOver {D : Type 0} (g : Ghosts D) (before after : D) (streams : St
   pub works : WorksThrough g streams before after result
   pub disk : (faults : ℕ) × DiskFrame g faults before after
 
--- what holds of a run beside the headline, of what reader, writer and disk are before and after it: at most the longest script and one
--- more byte are read; over an honest disk the output is right to the byte (reasons and names of refusals, canonical texts, and lengths of
--- saved files); what holds over any disk; a read fault is reported exactly if the reader failed; and a write fault exactly if the writer
--- failed, provided that it had not failed before
+-- what holds of a run beside the headline, of what reader, writer and disk are before and after it. At most the longest script and one more
+-- byte are read. Over an honest disk the output is right to the byte (reasons and names of refusals, canonical texts, and lengths of saved
+-- files). What holds over any disk holds here, too. A read fault is reported exactly if the reader failed. A write fault is reported
+-- exactly if the writer failed, provided that it had not failed before
 pub record Runs {D I W : Type 0} (g : Ghosts D) (remaining : I → Option (List ℕ)) (contents : W → Option (List ℕ))
     (reader reader_now : Fused I) (writer writer_now : Fused W) (disk disk_now : D) (result : Result Outcome RunError) : Type 0 where
   pub reads : ConsumesAtMost (unread remaining reader) (unread remaining reader_now) (MAX_INPUT_LEN + 1)

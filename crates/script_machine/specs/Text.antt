@@ -11,7 +11,7 @@ use Rattle.replies.specs.declared.refusal.Refusal.{Refusal}
 use Rattle.script_machine.specs.Machine.{Reply, Has_columns, Has_query, Has_limit, Created, Took, Merged, Saved, Loaded, Listed, Answered}
 use Rattle.script_machine.specs.Machine.{Refused}
 
--- the words that the headline leaves open, and Exact has: the canonical text of a query, the name of a refusal, and the length of the file
+-- the words that the headline leaves open, and Exact has: the canonical text of a query; the name of a refusal; and the length of the file
 -- of what is known of a world for a query
 pub record Wording : Type 0 where
   pub spelled : Checked → List ℕ

@@ -112,8 +112,8 @@ pub record Files (old new : Store) (name : List ℕ) (bytes : List ℕ) : Type 0
   pub others : (other : List ℕ) → bytes_eq name other ≡ false → saved_at new other ≡ saved_at old other
   pub limit : new.limit ≡ old.limit
 
--- a reply of the code to what is asked, over a tape disk that may be honest, is one of the machine's, and what is kept then is what is
--- there then. Over an honest disk it is the right one
+-- a reply of the code to what is asked, over a tape disk that may be honest, is one of the machine's. What is kept then is what is there
+-- then. Over an honest disk the reply is the right one
 pub record Answers (honest : Bool) (state : State) (request : Request) (owned : List Record) (old : Store) (reply : Reply) (new : Store) :
     Type 0 where
   pub said : machine.Reply

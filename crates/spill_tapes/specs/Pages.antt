@@ -7,8 +7,8 @@ use Rattle.spill_tapes.specs.declared.limits.TheConstants.{MAX_PAGES}
 abbrev pub pages_for : ℕ → ℕ
 pages_for n = (n + (PAGE - 1)) / PAGE
 
--- the numbers of the pages that are free, how many page numbers were ever given out, and how many there is room for in the
--- list of the free ones
+-- the numbers of the pages that are free; how many page numbers were ever given out; and how many there is room for in the list of the free
+-- ones
 pub record PoolState : Type 0 where
   pub free : List ℕ
   pub count : ℕ

@@ -123,7 +123,7 @@ pub record FreesPages (before after : TapesState) (tape : TapeId) : Type 0 where
   pub free : length after.pool.free + length (tape_at after tape).pages ≡ length before.pool.free + length (tape_at before tape).pages
   pub count : after.pool.count ≡ before.pool.count
 
--- a tape that is read has no page more than what is left of it takes, so a page that was read isn't one of its pages
+-- a tape that is read has no page more than what is left of it takes. So a page that was read isn't one of its pages
 abbrev pub HasNoPageMore : TapeState → Type 0
 HasNoPageMore t = PAGE * length t.pages < t.left + PAGE
 

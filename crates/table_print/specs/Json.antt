@@ -31,8 +31,8 @@ json_byte byte = escaped_as (json_letter byte) byte
 abbrev pub json_string : List ℕ → List ℕ
 json_string text = 34 ∷ flat_map json_byte text ++ 34 ∷ []
 
--- a value: null, true and false as these words, a text as a string, and numbers in plain decimal, of whatever size (RFC 8259,
--- 3 Values, 6 Numbers)
+-- a value: null, true and false as these words; a text as a string; and numbers in plain decimal, of whatever size (RFC 8259, 3 Values, 6
+-- Numbers)
 abbrev pub json_value : Outcome → List ℕ
 json_value (Plain Null) = codes "null"
 json_value (Plain (Boolean true)) = codes "true"

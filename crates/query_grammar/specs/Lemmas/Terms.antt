@@ -1,4 +1,4 @@
--- What is read as a term of ORDER BY is in the grammar and the other way round, and it is read alike before two tails.
+-- What is read as a term of ORDER BY is in the grammar and the other way round. It is read alike before two tails.
 use Rattle.std.proofs.Common.{◌≡◌, ℕ, Bool, true, false, cond, List, [], ◌∷◌, ◌++◌, Option, Some, None, Ok, refl, append_assoc, arith}
 use Rattle.std.specs.Prelude.{codes}
 use Rattle.query_grammar.specs.Lemmas.Words.{Lexeme, Name, Integer, Text, Sign, is_reserved, Target, By_name, By_place, Term, is_word, word}

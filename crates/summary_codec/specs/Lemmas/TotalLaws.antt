@@ -1,4 +1,4 @@
--- No bytes are without an outcome. Whether bytes are a packing, or a state, or a schema's text, is stated and not computed, so this is said
+-- No bytes are without an outcome. Whether bytes are a packing, or a state, or a schema's text, is stated and not computed. So this is said
 -- of what would follow if there were none.
 use Rattle.std.proofs.Common.{◌≡◌, ◌≢◌, refl, ℕ, zero, suc, ◌<◌, List, [], ◌∷◌, ◌++◌, take, drop, length, slice_index, Result, Ok, Err, inl}
 use Rattle.std.proofs.Common.{inr, sym, ap, subst, ◌∙◌, arith}

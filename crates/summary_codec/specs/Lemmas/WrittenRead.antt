@@ -300,8 +300,8 @@ heading_again q bytes others behind is columns spelled =
       (spelling (by_names q), behind, spelled, (q, behind, (accepts, refl), (refl, (refl, refl)))),
     )
 
--- what stands behind the opening of the file of a query whose texts are UTF-8, and of what is held for it within a version's bounds, is
--- read as these
+-- let a query's texts be UTF-8, and what is held for it be within a version's bounds. What stands behind the opening of their file is read
+-- as these
 pub body_again : (version : Version) (q : Checked) (held : Parts) → IsCheckedQuery q → IsUtf8 (printed q.columns)
     → IsUtf8 (spelling (by_names q)) → AreHeldParts q held → AreWithin version q held
     → body version (body_bytes q held) (Ok ((q, held), []))
