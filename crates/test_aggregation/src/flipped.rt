@@ -31,9 +31,9 @@ fn flipped(rt: HostRuntime, flip: &str) -> Result<String, Fail> {
     told
 }
 
-/// Of the record of a row on a tape: its hash; its tag, to that of a group and to none; the mark before the text of its key, and the
-/// text; the mark before its number; and the number, first so that WHERE isn't true of it, and then so that it is. That last row is
-/// another one of the query under the same key, which nothing tells from the one that was written.
+/// What is flipped of the record of a row on a tape. First its hash; its tag, to that of a group and to none; and the mark before the text
+/// of its key, and the text. Then the mark before its number; and the number, first so that WHERE isn't true of it, and then so that it is.
+/// That last row is another one of the query under the same key, which nothing tells from the one that was written.
 const FLIPS: &str = "\
 0 1 => Some(TapeDamaged)
 3 128 => Some(TapeDamaged)

@@ -96,8 +96,8 @@ fn compared_rows<H: KeyHash + Copy>(
     with_work(rt, &told?, &work, pages)
 }
 
-/// How many groups there are of a row of each of so many towns, whether they are the same within a limit by a hash function, the last of
-/// them, and what that takes.
+/// How many groups there are of a row of each of so many towns. Then whether they are the same within a limit by a hash function, the last
+/// of them, and what that takes.
 pub(crate) fn limited<H: KeyHash + Copy>(
     rt: HostRuntime,
     towns: u32,

@@ -64,8 +64,8 @@ impl Answered {
     }
 }
 
-/// Fails, with the line and what is told, at the first line of a table whose case, in front of ` => `, has another outcome
-/// than the line tells.
+/// Fails at the first line of a table whose case, in front of ` => `, has another outcome than the line tells. The failure has the line and
+/// what is told.
 pub fn expect_lines<'t, F: Fn(HostRuntime, &'t str) -> Result<String, Fail>>(
     rt: HostRuntime,
     table: &'t str,

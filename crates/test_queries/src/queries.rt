@@ -127,9 +127,9 @@ fn told(rt: HostRuntime, case: &str) -> Result<String, Fail> {
     }
 }
 
-/// Columns and a text, and the parts of the query: its columns and its canonical text, the columns of its answer, whether it
-/// has WHERE and HAVING and how many distinct aggregates, its keys and their kinds, and the functions of the aggregates and
-/// where the items are found.
+/// Columns and a text, and the parts of the query. First its columns and its canonical text, the columns of its answer, and whether it has
+/// WHERE and HAVING. Then how many distinct aggregates it has, its keys and their kinds, the functions of the aggregates, and where the
+/// items are found.
 const PARTS: &str = "\
 c text, d bigint, b boolean|select b, sum(d) as total, c, count(*) from batches where d>0 group by c, b having max(d)>1 and sum(d)>2; => \
 c text, d bigint, b boolean|SELECT b, sum(d) AS total, c, count(*) FROM batches WHERE d > 0 GROUP BY c, b HAVING max(d) > 1 AND sum(d) > 2 \

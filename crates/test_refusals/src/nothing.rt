@@ -17,8 +17,8 @@ use test_cases::Hoard;
 /// The bytes of a chunk.
 const CHUNK: &[u8] = b"8 bytes.";
 
-/// Whether a chunk is taken where no block is wanted, stays where it is when it is resized, is read and given up, and all then, with no
-/// memory.
+/// Whether, with no memory, a chunk is taken where no block is wanted, and stays where it is when it is resized. It is read and given up
+/// then, and at last all are.
 fn gives_up<C: ChunkContext>(context: &mut C, hoard: &mut Hoard) -> Result<bool, ContextError> {
     let first = context.alloc(CHUNK)?;
     context.free(first)?;

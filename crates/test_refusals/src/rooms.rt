@@ -54,7 +54,7 @@ fn try_limits(
     Ok(Met::Refusal)
 }
 
-/// What becomes of a trial with all memory, after which the stack is as large as it has to be, and then in rooms, with each limit.
+/// What becomes of a trial with all memory, and then in rooms, with each limit. Behind the first the stack is as large as it has to be.
 fn told(
     rt: HostRuntime,
     site: &Site,

@@ -146,8 +146,8 @@ fn written_by(
     Ok(ran.written)
 }
 
-/// What a script writes of which one command is refused, or none where there is no such command, and how much of it stands in front
-/// of that command's reply.
+/// What a script writes of which one command is refused, or none where there is no such command. Then how much of it stands in front of
+/// that command's reply.
 #[derive(Drop)]
 struct Wanted {
     whole: Vec<u8>,

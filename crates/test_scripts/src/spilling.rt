@@ -80,7 +80,7 @@ fn replies_over<D: TapeDisk>(
     Ok(format!(in alloc; "{refused} {replies}")?)
 }
 
-/// The same over a disk of which the first write or the first read fails, or which flips a bit where it is called by another name.
+/// The same over a disk of which the first write or the first read fails. Where it is called by another name, it flips a bit.
 fn replies_over_faulty(alloc: Global, script: &str, fault: &str) -> Result<String, RunError> {
     match fault {
         "write" => replies_over(alloc, script, &mut failing(alloc, 0)),
@@ -149,8 +149,8 @@ fn lines_that_are(text: &str, line: &str) -> usize {
     text.lines().filter(|found| *found == line).count()
 }
 
-/// What is wrong with the replies to the script where a call fails, if that was made: just one command is refused, for that; the first
-/// batch is known when it is fed again, or else taken; and each answer that isn't refused is that of a run without a fault.
+/// What is wrong with the replies to the script where a call fails, if that was made. Just one command must be refused, for that. The first
+/// batch must be known when it is fed again, or else taken. An answer must have the group of one batch or of two.
 fn fault_of(run: &Failing, plain: &str) -> Option<&'static str> {
     let text = str::from_utf8(&run.replies).unwrap_or("not UTF-8");
     if !run.failed {

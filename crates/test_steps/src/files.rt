@@ -52,9 +52,9 @@ fn write_long(rt: &HostRuntime, file: &str, told: &str) -> io::Result<bool> {
     Ok(true)
 }
 
-/// What is done beside commands: whether files are the same, whether one has a text, whether one is there, whether there are so many, a
-/// link, a file that only its owner may read and write, whether one is so, a file of a length, a batch file of many rows, a summary of
-/// many origins or of the first version, and what commands are to print of these.
+/// What is done beside commands. It asks whether files are the same or so many, and whether one has a text, is there, or is private. It
+/// makes links, a file of a length, and a private one, which only its owner may read and write. It writes a batch file of many rows, a
+/// summary of many origins or of the first version, and what commands print of these.
 pub fn aside(rt: &HostRuntime, word: &str, file: &str, rest: &str) -> io::Result<bool> {
     match word {
         "files" => has_files(rt, file, rest),

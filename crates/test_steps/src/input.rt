@@ -1,7 +1,7 @@
 //! What texts of cases stand for.
 //!
-//! `{3*x}` stands for `xxx`, where each `#` of the part that is repeated stands for the number of the turn, `0000` at first, `{13}` for the
-//! character of that number, and `{0xff}` for a byte.
+//! `{3*x}` stands for `xxx`. Each `#` of the part that is repeated stands for the number of the turn, `0000` at first. `{13}` stands for
+//! the character of that number, and `{0xff}` for a byte.
 
 use std::alloc::{AllocError, Global};
 use test_cases::cut;

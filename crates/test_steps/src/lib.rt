@@ -1,5 +1,5 @@
-//! What the steps of a transcript are made of: what its texts stand for, the streams of a command, the lines in which what these took is
-//! told, and what is done beside commands, with files.
+//! What the steps of a transcript are made of: what its texts stand for, the streams of a command, and the lines that tell what these took.
+//! Then what is done beside commands, with files.
 #![tactic(auto)]
 
 mod files;

@@ -27,8 +27,8 @@ fn outcome(written: Result<(), Unwritten>) -> &'static str {
     }
 }
 
-/// Writes a new file of a path twice, and tells what became of both, which bytes it has then, and what was found in its place before and
-/// behind that.
+/// Writes a new file of a path twice, and tells what became of both. It tells which bytes the file has then, and what was found in its
+/// place before and behind that.
 fn told_twice(rt: HostRuntime, path: &str) -> io::Result<String> {
     let before = word_of(occupant_of(&rt, path, &[path])?);
     let first = outcome(write_new_file(&rt, path, b"one"));

@@ -153,8 +153,8 @@ fn fails(alloc: Global, reader: &mut Fused<&mut StutteringReader>, kind: ErrorKi
     is_kind && matches!(&result, Err(InputError::ReadFault))
 }
 
-/// Whether reading ends at the fault of a reader that gives so many bytes, and again where it is tried once more, and behind the fault no
-/// more is asked.
+/// Whether reading ends at the fault of a reader that gives so many bytes, and again where it is tried once more. Behind the fault no more
+/// may be asked.
 fn stops(alloc: Global, sound: usize, kind: ErrorKind) -> bool {
     let mut stuttering = StutteringReader {
         given: 0,
@@ -331,7 +331,7 @@ fn writes_all_or_the_front(rt: HostRuntime) {
     }
 }
 
-/// Whether a writer of so much room is flushed when it is asked to, and then alone, and how often it is if that is asked twice.
+/// Whether a writer of so much room is flushed when it is asked to, and then alone. Then how often it is, if that is asked twice.
 fn flushes(rt: HostRuntime, room: usize) -> (bool, usize) {
     let at_room = AtRoom::Fail(ErrorKind::StorageFull);
     let mut short = ShortWriter::new(rt.alloc(), room, 3, at_room);

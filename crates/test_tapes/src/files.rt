@@ -28,8 +28,8 @@ fn round_the_last<D: TapeDisk>(disk: &mut D) -> Result<[u8; 8], DiskError> {
     Ok(bytes)
 }
 
-/// The same over a new file, which is removed then, whether a second one is refused in its place, and what is read where nothing was
-/// written.
+/// The same over a new file, which is removed then. It tells whether a second one is refused in its place, and what is read where nothing
+/// was written.
 fn told_over_file(rt: HostRuntime, path: &str) -> Result<String, Fail> {
     let disk = match FileDisk::create(&rt, path) {
         Ok(disk) => disk,

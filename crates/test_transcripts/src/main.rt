@@ -1,8 +1,8 @@
 //! Runs the cases of standard input one after the other, each as a transcript of the program's commands: what these reply, what they say,
 //! and their statuses.
 //!
-//! A case stands behind a line `== TITLE`, and each of its steps behind a line of `$`, the kind of the step, a space, and words with `|`
-//! between them; what lines follow are its input. Where lines follow the title, they are the input of the command `script`. The folder `f`
+//! A case stands behind a line `== TITLE`. Each of its steps stands behind a line of `$`, the kind of the step, a space, and words with `|`
+//! between them. What lines follow are its input. Where lines follow the title, they are the input of the command `script`. The folder `f`
 //! has the files of a case, and is gone behind it.
 #![tactic(auto)]
 

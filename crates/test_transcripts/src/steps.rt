@@ -82,8 +82,8 @@ pub(crate) fn run_script<W: Write>(
     run_command(rt, Kind::Sound, "script", &script, writer)
 }
 
-/// Runs a step: makes a `file` of its input, or one of `bytes` whose last line has no end, does something else with files, `beside`
-/// commands, runs a command whose output is kept, `to` a file, or runs a command over streams of a kind.
+/// Runs a step. One makes a `file` of its input, or one of `bytes` whose last line has no end. One does something else with files, `beside`
+/// commands. One runs a command whose output is kept, `to` a file, or a command over streams of a kind.
 pub(crate) fn run_step<W: Write>(rt: &HostRuntime, step: &str, writer: &mut W) -> io::Result<()> {
     let (head, lines) = cut(step, "\n");
     let (kind, words) = cut(head, " ");

@@ -1,8 +1,8 @@
 //! What contexts take goes back to the system, so that the process does not grow: no contract can say so.
 //!
 //! `rt try` keeps memory that was given back, to see whether it is used again. There, and on any system that keeps it, a block that was
-//! given back looks the same as one that was not, so these tests say nothing; that the blocks of a process go back at all is then told by
-//! `blocks_are_given_back` alone, which takes more than a process can have.
+//! given back looks the same as one that was not. So these tests say nothing there. Only `blocks_are_given_back` tells then that the blocks
+//! of a process go back at all: it takes more than a process can have.
 
 use crate::tests::contexts::{reset, take_all};
 use crate::tests::kinds::{with_alloc_set, with_bump, with_generation, with_slab};
@@ -81,8 +81,8 @@ fn take_and_free<C: ChunkContext>(
     Ok(())
 }
 
-/// Whether the process has about as many pages as before once contexts took memory and were let go of, and then behind each
-/// use of one context.
+/// Whether the process has about as many pages as before once contexts took memory and were let go of. Then the same behind each use of one
+/// context.
 fn goes_back<
     T: Fn(HostRuntime) -> Result<(), ContextError>,
     U: Fn(HostRuntime, u64) -> Result<[bool; 2], Fail>,
