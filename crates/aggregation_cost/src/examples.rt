@@ -6,9 +6,8 @@ ghost use Rattle.aggregation_cost.specs.Space.{key_blocks};
 ghost use Rattle.aggregation_cost.specs.Passes.{of_row, of_group};
 ghost use Rattle.aggregation_cost.specs.Examples.{of_lengths, wide_states, hashed, hashed_wide_states, numbered_rows, repeated_rows};
 
-/// Tables of one, two and three groups, and of as many as 256 buckets are for: twelve keys of one hash, down past the
-/// eighth level; seven keys of one hash, twice each; 40 keys that are hashed, over 60 records and each once; and 220 such
-/// keys.
+/// Tables of one, two and three groups, and of as many as 256 buckets are for. Twelve keys have one hash, and go down past the eighth
+/// level. Seven keys have one hash, and come twice each. 40 keys are hashed: over 60 records, and each once. So are 220 keys, each once.
 pub fn small_tables()
     ensures one_group { cost (wide_states 32768) (numbered_rows 12)
         ≡ record { passes = 12; spilled = 66; pages = 11; most_held = 32768 } }

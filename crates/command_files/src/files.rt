@@ -95,10 +95,11 @@ fn unwritten<'p, R: AllocGlobal>(rt: &R, path: &'p str, why: Unwritten) -> Probl
     }
 }
 
-/// Writes OUT, which nothing else does: a summary file. One that is there is replaced at once, or, where it is a device or a pipe, written
-/// to; where it is one of the files that were read, by its old bytes, and other bytes stand there by now, or OUT is to be a new file and
-/// one is there by now, that stays, and `WriteFault` is told. Where there is no memory for the name of the new file that takes its place,
-/// or the system says that it has none, `NoMemory` is told, and for any other failure `WriteFault`. The answer is how it was written.
+/// Writes OUT, which nothing else does: a summary file. One that is there is replaced at once, or overwritten where the system lets no new
+/// file replace it. A device or a pipe is written to. A file that was read is known by its old bytes. If it has other bytes by now, it
+/// stays, and `WriteFault` is told. The same goes for a file that is there by now where OUT is to be a new one. `NoMemory` is told if there
+/// is no memory for the name of the new file that takes the place, or the system has none. For any other failure `WriteFault` is told. The
+/// answer is how it was written.
 pub(crate) fn write_out<'p, R: Files + AllocGlobal>(
     rt: &R,
     path: &'p str,

@@ -56,8 +56,9 @@ fn no_memory_for<'p>(matches: &ArgMatches<'p>) -> Problem<'p> {
     Problem::refused(input_name(value(matches, IN)), Refusal::NoMemory)
 }
 
-/// A running command: its files, what it replies and says, its tape disk and whether that is in a file, what its aggregations took, how
-/// many files were passed over, its OUT and whether that was written, and whether an answer lacks batches that it should have.
+/// A running command: its files, what it replies and says, its tape disk and whether that is in a file. It counts what its aggregations
+/// took and how many files were passed over. It has its OUT, whether that was written, and whether an answer lacks batches that it should
+/// have.
 #[derive(Drop)]
 pub struct Session<'c, R: Files, I, W, E> {
     inputs: Inputs<'c, R, I>,

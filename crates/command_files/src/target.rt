@@ -16,8 +16,8 @@ use out_files::{Occupant, Place};
 use replies::Refusal;
 use std::rt::Files;
 
-/// What OUT is to a command: whether it is to be a new file, which of the files that are read it is, the bytes that were read of it, and
-/// whether it is told that it is written over.
+/// What OUT is to a command: whether it is to be a new file, and which of the files that are read it is. Then the bytes that were read of
+/// it, and whether it is told that it is written over.
 #[derive(Drop)]
 pub(crate) struct Target {
     is_new: bool,
@@ -36,8 +36,8 @@ fn fate_where_read(listed: Option<usize>) -> Option<Fate>
     }
 }
 
-/// What becomes of a file in the place of OUT, by what its first bytes tell, by whether the command is forced, and by its place among the
-/// files that are read. The first of these is to be a summary: where it is none, nothing is written.
+/// What becomes of a file in the place of OUT. It depends on what its first bytes tell, on whether the command is forced, and on its place
+/// among the files that are read. The first of these is to be a summary: where it is none, nothing is written.
 fn fate_by(kind: FrontKind, is_forced: bool, listed: Option<usize>) -> Option<Fate>
     ensures spared { IsTrue (is_foreign kind) → is_forced ≡ false → result ≡ Some (Spared kind) }
     ensures forced { IsTrue (is_foreign kind) → is_forced ≡ true → listed ≢ Some 0 → result ≡ Some Forced }
@@ -95,8 +95,8 @@ impl Target {
         }
     }
 
-    /// What becomes of what is there in the place of OUT, where that is to be told, to a command that keeps a file which it does not read,
-    /// or is forced to replace a foreign one.
+    /// What becomes of what is there in the place of OUT, where that is to be told. The command may have to keep a file that it does not
+    /// read, or be forced to replace a foreign one.
     fn fate_of<'p, R: Files>(
         &mut self,
         rt: &R,
@@ -159,7 +159,7 @@ impl Target {
         }
     }
 
-    /// Tries whether the files of a command can be read and OUT written, and answers whether it is to be told that OUT is written over.
+    /// Tries whether the files of a command can be read and OUT written. It answers whether it is to be told that OUT is written over.
     pub(crate) fn try_first<'p, R: Files + AllocGlobal>(
         &mut self,
         rt: &R,

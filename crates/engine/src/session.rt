@@ -127,9 +127,9 @@ impl Session {
         )
     }
 
-    /// Feeds the batch of an origin and a number, with rows in CSV, as many as declared: the same as their batch file, except for a byte
-    /// order mark at the start of the rows, which is skipped, and for 1,000,000,000 rows or more, which no head can declare: these are
-    /// `TooManyRows`.
+    /// Feeds the batch of an origin and a number, with rows in CSV, as many as declared. It is the same as a feed of their batch file, but
+    /// for two cases. A byte order mark at the start of the rows is skipped. A count of 1,000,000,000 or more, which no head can declare,
+    /// is `TooManyRows`.
     ///
     /// # Errors
     ///

@@ -68,9 +68,9 @@ pub fn read(alloc: Global, text: &str) -> Result<RawQuery, ParseError>
 /// # Errors
 ///
 /// The first of these: `TooMany` for a text of more than 16,384 bytes; `Syntax` or `NumberTooLarge` for the first fault
-/// of its tokens; whichever comes first of `Syntax`, at the first token that no query can go on with or at the text's
-/// end, and `TooDeep`, at a parenthesis of a condition of which 64 are open; and then the errors of [`Query::check`].
-/// The condition of a FILTER counts its own parentheses.
+/// of its tokens; `Syntax` or `TooDeep` of its grammar, whichever comes first; and then the errors of [`Query::check`].
+/// This `Syntax` is at the first token that no query can go on with, or at the text's end. `TooDeep` is at a
+/// parenthesis of a condition of which 64 are open. The condition of a FILTER counts its own parentheses.
 #[tactic(auto, using(crate::specs::Lemmas::ParseLaws::accepts, crate::specs::Lemmas::ParseLaws::refuses_text, crate::specs::Lemmas::ParseLaws::refuses_query, crate::specs::Lemmas::ParseLaws::can_be_written))]
 pub fn parse(alloc: Global, schema: &Schema, text: &str) -> Result<Query, ParseError>
     ensures accepted { IfOk result (λ q. Accepts schema.now text.now q) }

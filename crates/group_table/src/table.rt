@@ -263,11 +263,11 @@ impl<H: KeyHash + Drop> GroupTable<H> {
     }
 
     /// Whether one more group with this key fits. At each step of its insertion no more bytes of blocks are held below the table's parent
-    /// than the limit, and there are at most 2^24 buckets. Let the contexts hold what is counted for the keys of the table, and nothing
+    /// than the limit. And there are at most 2^24 buckets. Let the contexts hold what is counted for the keys of the table, and nothing
     /// else. Then it is true exactly if these keys and this one fit.
     ///
-    /// After `new` or `clear` there is no group. If then only the buckets hold anything below the parent, and a state has up to 8,184
-    /// bytes, each key of up to 8,192 bytes fits at each limit from 32,768 up.
+    /// After `new` or `clear` there is no group. Let only the buckets hold anything below the parent then, and a state have up to 8,184
+    /// bytes. Then each key of up to 8,192 bytes fits at each limit from 32,768 up.
     pub fn room_for(&self, tree: &Tree, key: &[u8], limit: u64) -> bool
         requires table { IsTableIn H.hash_of self.now tree.now }
         requires key { length key.now ≤ LONGEST }
@@ -283,8 +283,8 @@ impl<H: KeyHash + Drop> GroupTable<H> {
         }
     }
 
-    /// The most bytes of blocks held below the table's parent while a group with this key is inserted, or `None` if there
-    /// would be more than 2^24 buckets.
+    /// The most bytes of blocks held below the table's parent while a group with this key is inserted. It is `None` if there would be more
+    /// than 2^24 buckets.
     pub fn need_for(&self, tree: &Tree, key: &[u8]) -> Option<u128>
         requires table { IsTableIn H.hash_of self.now tree.now }
         requires key { length key.now ≤ LONGEST }

@@ -111,8 +111,8 @@ pub fn learning()
         knows knowledge (origin, prefix knowledge origin + 1) ≡ false }
 {}
 
-/// The early numbers of an origin are those that are known above its unbroken prefix, rising, and the origins are
-/// those of which something is known.
+/// The early numbers of an origin are those that are known above its unbroken prefix. The origins are those of which
+/// something is known. Both rise.
 pub fn early_numbers()
     ensures early_rise { (knowledge : Knowledge) (origin : ℕ) →
         IsStrictlySortedBy nat_cmp (early knowledge origin) }
@@ -277,8 +277,8 @@ pub fn known_numbers()
     ensures other_origins { origins (knowing ((7, 1) ∷ (2, 5) ∷ (7, 2) ∷ [])) ≡ 2 ∷ 7 ∷ [] }
 {}
 
-/// Answers over given rows: over none, with sums of more than 64 bits, nulls, conditions that are unknown, bits and
-/// booleans, and in the order of a sum that is null in one row.
+/// Answers over no rows and over given ones. Among these are sums of more than 64 bits, nulls, conditions that are
+/// unknown, bits and booleans. Rows are also put in the order of a sum that is null in one of them.
 pub fn results()
     ensures of_nothing { answer_over grand_total [] ≡ (number 0 ∷ Plain Null ∷ []) ∷ [] }
     ensures none_of_nothing { answer_over any_rows [] ≡ [] }

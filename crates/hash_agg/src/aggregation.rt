@@ -29,9 +29,9 @@ use std::alloc::Global;
 /// The groups of all inputs together, in the order of their keys: one for each distinct key of the selected rows and of
 /// the groups given. Over no selected row and no group there is none, even without GROUP BY.
 ///
-/// The rows are packed rows of the query's table. A run has packed keys of the columns of GROUP BY, in increasing order,
-/// and states of the query's aggregates that count at most `rows` rows each. All inputs together have at most 2^62 - 1
-/// rows, the most that a state counts.
+/// The rows are packed rows of the query's table. A run has packed keys of the columns of GROUP BY, in increasing
+/// order. Its states are of the query's aggregates, and count at most `rows` rows each. All inputs together have at
+/// most 2^62 - 1 rows, the most that a state counts.
 ///
 /// A pass over the inputs takes the groups that fit the limit, and at least one. The rest goes to partitions on tapes, by fresh bits of the
 /// hash, and a later pass reads each partition. So the limit and the hash function change only the time and the memory that an aggregation
@@ -39,12 +39,11 @@ use std::alloc::Global;
 ///
 /// # Errors
 ///
-/// `NoMemory`; `TapeFault` if the disk failed; and `TapeDamaged` if it gave back what was not written to it, so never over an honest
-/// disk. Over any other disk the result is still a run of the query, with at most as many groups as there are selected rows and groups
-/// given.
+/// `NoMemory`; `TapeFault` if the disk failed; and `TapeDamaged` if it gave back what was not written to it, so never over an honest disk.
+/// Over any other disk the result is still a run of the query. It has at most as many groups as there are selected rows and groups given.
 ///
-/// Beside the run it returns the work done. Over an honest disk, `aggregation_cost` predicts that work and the number of pages written
-/// from the selected rows and the groups, if the inputs have at most 2^62 - 1 groups. There is at least one pass, and no more passes
+/// Beside the run it returns the work done. Over an honest disk, `aggregation_cost` predicts that work and the number of pages written from
+/// the selected rows and the groups. It does so if the inputs have at most 2^62 - 1 groups. There is at least one pass, and no more passes
 /// than groups. Over any disk the most bytes of blocks that it reports for its table keep within the limit.
 pub fn aggregate<H: KeyHash + Copy, D: TapeDisk>(
     alloc: Global,

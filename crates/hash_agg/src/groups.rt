@@ -120,8 +120,8 @@ impl<H: KeyHash + Drop> Groups<H> {
         self.most_held
     }
 
-    /// The most bytes of blocks held while a group with this key is inserted, or `None` if they exceed a limit or there would be too many
-    /// buckets.
+    /// The most bytes of blocks held while a group with this key is inserted. It is `None` if they exceed a limit or there would be too
+    /// many buckets.
     pub(crate) fn need_within(&self, key: &[u8], limit: u64) -> Option<u64>
         requires { length key.now ≤ 65535 }
         ensures few { IfSome result (λ need. HasPlace self.now) }

@@ -23,8 +23,8 @@ pub const DEFAULT_SEED: Seed = Seed { low: 0, high: 0 };
 #[error("a limit is 65,536 to 1,099,511,627,776 bytes")]
 pub struct LimitOutOfRange;
 
-/// What an aggregation may use: a limit in bytes on the blocks of its table of groups, and the hash function by which it spills what does
-/// not fit the limit. The disk to which it spills is a separate argument.
+/// What an aggregation may use: a limit in bytes on the blocks of its table of groups, and a hash function. By this it spills what does not
+/// fit the limit. The disk to which it spills is a separate argument.
 ///
 /// The table itself finds keys by a hash function with a seed. No result and no page on the disk depends on the seed. But whoever knows it
 /// can make many keys of one hash, with which the table is slow. So if others choose the keys, take a random seed.

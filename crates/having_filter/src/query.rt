@@ -144,11 +144,11 @@ impl Query {
     /// # Errors
     ///
     /// The first of these that applies anywhere in the query: `TooMany` for over 64 items, 16 distinct columns of GROUP BY, 32 distinct
-    /// aggregate calls in the items and HAVING, or a canonical text of over 16,384 bytes; `TooDeep` for a condition that is nested more
-    /// than 64 deep; `NoSuchColumn`, also for a name or a place in ORDER BY that no item has; `AggregateHere` for an aggregate in WHERE or
-    /// in a FILTER; `TypeMismatch` for an argument, an operand or a condition of the wrong kind; `NotGrouped` for a column among the items
-    /// or in HAVING that stands outside aggregates and isn't in GROUP BY; `AmbiguousOrder` for a name in ORDER BY that two items have, if
-    /// these are not the same column or call.
+    /// aggregate calls in items and HAVING, or 16,384 bytes of canonical text; `TooDeep` for a condition that is nested more than 64 deep;
+    /// `NoSuchColumn`, also for a name or a place in ORDER BY that no item has; `AggregateHere` for an aggregate in WHERE or in a FILTER;
+    /// `TypeMismatch` for an argument, an operand or a condition of the wrong kind; `NotGrouped` for a column among the items or in HAVING
+    /// that stands outside aggregates and isn't in GROUP BY; `AmbiguousOrder` for a name in ORDER BY that two items have, if these are not
+    /// the same column or call.
     pub fn check(alloc: Global, schema: &Schema, raw: &RawQuery) -> Result<Query, QueryError>
         requires { IsWritable (written_of raw.now) }
         ensures checked { IfOk result (λ q. checked schema.now (asked_of raw.now) ≡ Ok q) }
@@ -294,8 +294,8 @@ impl Query {
         is_met(&self.kept.plan.calls[aggregate].filter, &RowLeaves { row })
     }
 
-    /// Whether HAVING is true for a group, and not false or unknown, given the values of the columns of GROUP BY and the
-    /// results of the aggregates. No HAVING counts as true.
+    /// Whether HAVING is true for a group, and not false or unknown. The values of the columns of GROUP BY and the
+    /// results of the aggregates are given. No HAVING counts as true.
     pub fn having_true(&self, key: &[ResultValue<'_>], results: &[ResultValue<'_>]) -> bool
         ensures { result ≡
             is_met (outcome_at (map outcome_of key.now) (map outcome_of results.now))

@@ -110,9 +110,9 @@ impl OriginPart {
         Ok(OriginPart::from_fields(self.alloc, 0, Run::new(self.alloc), early))
     }
 
-    /// Whether this part includes another one of the origin: then both agree, and joining them gives this part again, so a caller need
-    /// not copy it. It does if the other's prefix is not longer, has the same groups if it is as long, and its early batches after the
-    /// prefix are early here, too.
+    /// Whether this part includes another one of the origin: then both agree, and joining them gives this part again, so a caller need not
+    /// copy it. It does exactly if two things hold. The other's prefix is not longer, and if it is as long, it has the same groups. The
+    /// other's early batches after this part's prefix are early here, too, with the same rows.
     pub fn includes(&self, other: &OriginPart) -> bool
         ensures { IsTrue result ↔ Includes self.now other.now }
     {

@@ -71,8 +71,8 @@ fn known_again(kept: &PackedRows, batch: Batch) -> Result<Delivered, RefusedBatc
     Err(RefusedBatch { batch, why })
 }
 
-/// The rows of the batch next to a prefix, if given, and of the early batches that follow without a gap, as inputs, and the last of
-/// their numbers.
+/// The rows of the batch next to a prefix, if given, and of the early batches that follow without a gap. They come as inputs, with the last
+/// of their numbers: the prefix, if there are none.
 fn following_inputs<'a>(
     alloc: Global,
     prefix: u32,

@@ -37,8 +37,8 @@ fn packed_len(kinds: &[ValueKind], fields: &[&[u8]]) -> usize {
     room
 }
 
-/// The packing of the row of these fields. The errors are `WrongWidth` for more or fewer fields than columns, else
-/// `BadField` for the leftmost field that is not a value of its column, and `NoMemory`.
+/// The packing of the row of these fields. The errors are `WrongWidth` for more or fewer fields than columns; else
+/// `BadField` for the leftmost field that is not a value of its column; and `NoMemory`.
 pub fn pack_row(alloc: Global, schema: &Schema, fields: &[&[u8]]) -> Result<Vec<u8>, RowError>
     ensures packed { IfOk result (λ bytes. (row : Row)
         × ReadsRow (kinds schema.now) (texts_of fields.now) row × (bytes.items ≡ packing row)) }

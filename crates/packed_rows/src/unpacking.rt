@@ -105,9 +105,9 @@ fn unpack_value(kind: ValueKind, bytes: &[u8]) -> Option<(Value<'_>, &[u8])>
     }
 }
 
-/// Reads the values of a key of these kinds from its packing into `key`, replacing what it held, so one vector can serve
-/// for many keys. The errors are `BadPacked` if the bytes are no such packing, and `NoMemory`. After an error, `key` holds
-/// values that the bytes begin with.
+/// Reads the values of a key of these kinds from its packing into `key`. They replace what it held, so one vector can serve for many keys.
+/// The errors are `BadPacked` if the bytes are no such packing, and `NoMemory`. After an error, `key` holds values that the bytes begin
+/// with.
 pub fn unpack_into<'a>(
     kinds: &[ValueKind],
     bytes: &'a [u8],
@@ -169,8 +169,8 @@ fn known_value(kind: ValueKind, bytes: &[u8]) -> (Value<'_>, &[u8])
     }
 }
 
-/// Reads the values of a key of these kinds from its packing into `key`, and where the packing of each ends into `ends`, replacing what
-/// they held. It is `unpack_into` for bytes known to be a packing: no text is checked again. The only error is a failed allocation.
+/// Reads the values of a key of these kinds from its packing into `key`, and into `ends` where the packing of each ends. What both held is
+/// replaced. It is `unpack_into` for bytes known to be a packing: no text is checked again. The only error is a failed allocation.
 pub fn unpack_known<'a>(
     kinds: &[ValueKind],
     bytes: &'a [u8],
@@ -208,7 +208,7 @@ fn part_between<'a>(packed: &'a [u8], ends: &[usize], from: usize, to: usize) ->
     part(packed, start, end)
 }
 
-/// The packing of the values at these places of a key, as a slice of the key's packing, or `None` if the places are not consecutive.
+/// The packing of the values at these places of a key, as a slice of the key's packing. It is `None` if the places are not consecutive.
 /// `ends` tells where the packing of each value ends, as `unpack_known` does.
 pub fn part_at<'a>(packed: &'a [u8], ends: &[usize], places: &[usize]) -> Option<&'a [u8]>
     requires lie { LieAsValues packed.now ends.now }

@@ -20,9 +20,9 @@ use std::alloc::Global;
 ///
 /// # Errors
 ///
-/// The first of these that is found anywhere in the query: `TooMany` for over 64 items, 16 distinct columns of GROUP BY, 32
-/// distinct aggregate calls among the items and in HAVING, or a canonical text of over 16,384 bytes; `TooDeep` for a condition
-/// that is nested more than 64 deep; `NoSuchColumn`, also for a term of ORDER BY that names no item. `NoMemory` may come at any time.
+/// The first of these that is found anywhere in the query: `TooMany` for over 64 items, 16 distinct columns of GROUP BY, 32 distinct
+/// aggregate calls in items and HAVING, or 16,384 bytes of canonical text; `TooDeep` for a condition that is nested more than 64 deep;
+/// `NoSuchColumn`, also for a term of ORDER BY that names no item. `NoMemory` may come at any time.
 #[tactic(auto, using(crate::specs::CheckedLaws::gives_too_deep, crate::specs::CheckedLaws::gives_no_column))]
 pub fn text_of_known(alloc: Global, schema: &Schema, raw: &RawQuery) -> Result<String, QueryError>
     ensures text { IfOk result (λ text. string_bytes text ≡ spelling (asked_of raw.now)) }

@@ -54,16 +54,16 @@ pub fn refused_tokens()
         IsTooDeep limit ts left → query_at limit ts ≡ Err (Too_deep left) }
 {}
 
-/// A query that is read from legal tokens can be written: all names are legal and not reserved, numbers have 64 bits, no
-/// text has the character 0, and only a count of rows has no column.
+/// A query that is read from legal tokens can be written. All names are legal and not reserved, and numbers have 64
+/// bits. No text has the character 0, and only a count of rows has no column.
 #[tactic(auto, using(crate::specs::Lemmas::Writables::query_writable))]
 pub fn what_is_a_query_can_be_written()
     ensures { (limit : ℕ) (ts : List Lexeme) (q : Asked) → IsQuery limit ts q →
         AllByRecursion IsLexeme ts → CanBeAsked q }
 {}
 
-/// The canonical text of a query says the query, if its conditions are nested at most 64 deep and places have 64 bits. It has
-/// each column of GROUP BY once, no alias that is the item's own name, and of ORDER BY the terms that order, by places.
+/// The canonical text of a query says the query, if its conditions are nested at most 64 deep and places have 64 bits. It has each column
+/// of GROUP BY once, and no alias that is the item's own name. Of ORDER BY it has the terms that order, by places.
 #[tactic(auto, using(crate::specs::Lemmas::PrintedQuery::text_says))]
 pub fn canonical_text_is_read()
     ensures { (q : Asked) → IsWritable q.written →

@@ -9,9 +9,9 @@ use thiserror::Error;
 /// What is wrong with a text: its first fault from the left.
 #[derive(Clone, Copy, Debug, PartialEq, Eq, Error)]
 pub enum Fault {
-    /// No token begins at this byte, or the token that begins there is malformed: an unterminated string, a string
-    /// with the character 0, a name of more than 63 bytes, or digits with a letter or `_` directly after them. Bytes
-    /// are counted from 0, and a minus sign belongs to its digits.
+    /// No token begins at this byte, or the token that begins there is malformed: an unterminated string; a string with
+    /// the character 0; a name of more than 63 bytes; or digits with a letter or `_` directly after them. Bytes are
+    /// counted from 0, and a minus sign belongs to its digits.
     #[error("syntax error at byte {at}")]
     Syntax { at: usize },
     /// An integer is below -9223372036854775808 or above 9223372036854775807.

@@ -172,10 +172,10 @@ fn word_at(alloc: Global, at: usize, text: &str) -> Result<(Word, &str), TokenEr
 ///
 /// # Errors
 ///
-/// The first fault from the left. [`Fault::Syntax`] has the first byte, counted from 0, of what begins no token or of a
-/// malformed token. These are unterminated strings, strings with the character 0, names of more than 63 bytes, and digits
-/// with a letter or `_` directly after them, even if their number is too large. [`Fault::NumberTooLarge`] is for an
-/// integer that is out of range. [`TokenError::NoMemory`] comes if memory ran out.
+/// The first fault from the left. [`Fault::Syntax`] has the first byte, counted from 0, of what begins no token or of a malformed token.
+/// Malformed are unterminated strings, strings with the character 0, and names of more than 63 bytes. So are digits with a letter or `_`
+/// directly after them, even if their number is too large. [`Fault::NumberTooLarge`] is for an integer that is out of range.
+/// [`TokenError::NoMemory`] comes if memory ran out.
 pub fn tokens(alloc: Global, text: &str) -> Result<Vec<Token>, TokenError>
     ensures exact { Gives (λ v. all_placed v.items) result (tokens_in text.now) }
     ensures legal { IfOk result (λ v. All (λ t. IsLexeme (lexeme_of t.word)) v.items) }

@@ -72,8 +72,8 @@ pub fn countable_rows()
         all_rows (map counted_part parts) ≤ most_rows }
 {}
 
-/// The file of a query, a world and what is known of this world, if it is read, is read in either version as the one replica of the query
-/// that fits the world and knows just that. A query's text is UTF-8.
+/// Take the file, in either version, of a query, a world and what is known of this world. If it is read, it is read as the one replica of
+/// the query that fits the world and knows just that. A query's text is UTF-8.
 pub fn loaded_files_fit()
     ensures { (version : Version) (query : Checked) (world : World) (known : Knowledge) (bytes : List ℕ) (held : Held) →
         IsCheckedQuery query → IsUtf8 (spelling (by_names query)) → IsWorld (kinds query.columns) world →
@@ -81,8 +81,8 @@ pub fn loaded_files_fit()
         (held.query ≡ query) × Fits world held × (told held.parts ≡ known) }
 {}
 
-/// A file that is read as a replica is the file, in its version, of the query, a world and what the replica knows, exactly if the replica
-/// fits this world.
+/// Take a file that is read as a replica, and a world. The replica fits the world exactly if, in its version, the file is that of the
+/// query, the world and what the replica knows.
 pub fn files_that_fit()
     ensures { (version : Version) (world : World) (held : Held) (bytes : List ℕ) →
         IsWorld (kinds held.query.columns) world → IsSummaryIn version bytes held.query held.parts →

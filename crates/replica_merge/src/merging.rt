@@ -193,8 +193,8 @@ impl Replica {
         fill(&mut self.parts, old);
     }
 
-    /// Merges another replica: afterwards this one knows what either knew. The other must answer the same query over the same schema, and
-    /// have no other batch of a number, as far as this can still be detected. The cost of folding early batches whose gap is closed is
+    /// Merges another replica: afterwards this one knows what either knew. The other must answer the same query over the same schema. It
+    /// must have no other batch of a number, as far as this can still be detected. The cost of folding early batches whose gap is closed is
     /// added to `work`.
     ///
     /// # Errors

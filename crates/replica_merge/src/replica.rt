@@ -170,10 +170,10 @@ impl Replica {
         }
     }
 
-    /// The answer of the query over the rows of the unbroken prefixes: a row of the query's items for each group for which HAVING is true,
-    /// in the order of ORDER BY, and else in the order of the keys. Without GROUP BY there is one group, even over no rows. The groups of
-    /// several origins are sorted by their keys already, and are merged; those of one are used as they are. So it needs only memory, and
-    /// neither a limit nor a disk.
+    /// The answer of the query over the rows of the unbroken prefixes. It has a row of the query's items for each group for which HAVING is
+    /// true. The rows are in the order of ORDER BY, and else in the order of the keys. Without GROUP BY there is one group, even over no
+    /// rows. The groups of several origins are sorted by their keys already, and are merged; those of one are used as they are. So it needs
+    /// only memory, and neither a limit nor a disk.
     ///
     /// # Errors
     ///

@@ -59,8 +59,8 @@ pub enum Refusal {
     /// The run stopped before the end of its script.
     #[error(transparent)]
     Run(RunError),
-    /// Not a command: an unknown word, a wrong number of fields, a text that isn't UTF-8, a bad name, number of rows or limit, or
-    /// a command too early or a second time.
+    /// Not a command: an unknown word; a wrong number of fields; a text that isn't UTF-8; a bad name, number of rows or limit; or a command
+    /// too early or a second time.
     #[error("not a command, or not allowed here")]
     BadCommand,
     /// No replica or saved file has this name.

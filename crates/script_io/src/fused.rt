@@ -8,8 +8,8 @@ ghost use Rattle.std.specs.Result.{result_err};
 use std::io;
 use std::io::{Error, ErrorKind, Read, Write};
 
-/// A reader or a writer that stays failed. Once a call failed, was interrupted, or took none of the bytes offered, every later call returns
-/// the same error and does not call the underlying stream. So a caller can ask afterwards whether a call failed, and why.
+/// A reader or a writer that stays failed. A call may fail, be interrupted, or take none of the bytes offered. Then every later call
+/// returns the same error and does not call the underlying stream. So a caller can ask afterwards whether a call failed, and why.
 #[derive(Drop)]
 pub struct Fused<S> {
     stream: S,

@@ -33,8 +33,8 @@ pub fn same_batches_same_bytes()
 {}
 
 /// The clauses about prefixes of an output imply the same for the whole, and for a run that stopped: over an honest disk, if all commands
-/// agree with a world, the whole output is right. A run that stopped wrote a prefix of an output of all commands, in which each one that
-/// was not answered is refused because memory ran out.
+/// agree with a world, the whole output is right. A run that stopped wrote a prefix of an output of all commands. Each one that was not
+/// answered may be refused there because memory ran out.
 pub fn outputs_as_a_whole()
     ensures whole { (disk : Disk) (commands : List Command) (replies : List Reply) (texts : List (List ℕ)) →
         IsOutput disk commands replies texts → IsTrue disk.honest → AreExact commands replies texts }

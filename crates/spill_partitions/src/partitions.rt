@@ -302,7 +302,7 @@ impl SpillPartitions {
     }
 
     /// Reads the next record of the partition that the pass reads, if there is one. It returns the record's hash and tag, and puts its
-    /// bytes in place of those in `bytes`, which is empty without a record or after an error. The errors are `NoMemory`, `TapeFault` and
+    /// bytes in place of those in `bytes`. Without a record or after an error, `bytes` is empty. The errors are `NoMemory`, `TapeFault` and
     /// `TapeDamaged`.
     pub fn next<D: TapeDisk>(
         &mut self,

@@ -30,8 +30,8 @@ use tape_disks::TapeDisk;
 /// A record is a hash, a tag, which is 0 or 1, and up to 65,535 bytes. Each call that reads or writes takes the disk, which
 /// nothing else may write to while the tapes are in use.
 ///
-/// If a call that reads or writes the disk fails, because memory ran out, the disk failed, or its bytes are not those of a record, the
-/// tapes are dead: every further call but `close` is refused.
+/// A call that reads or writes the disk fails if memory ran out, the disk failed, or its bytes are not those of a record. Then the tapes
+/// are dead: every further call but `close` is refused.
 #[derive(Drop)]
 pub struct Tapes {
     alloc: Global,

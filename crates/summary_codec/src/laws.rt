@@ -29,7 +29,7 @@ pub fn versions_in_digits()
 {}
 
 /// A file is of one version, and what may be held is within the bounds of the second. What is read from a file of either is written as one
-/// of the second, with the same bytes after its opening, and is read again.
+/// of the second, with the same bytes after its opening. From that it is read again.
 pub fn versions()
     ensures one { (bytes : List ℕ) (version other : Version) (query those : Checked) (held parts : Parts) →
         IsSummaryIn version bytes query held → IsSummaryIn other bytes those parts → version ≡ other }
@@ -76,8 +76,9 @@ pub fn files_of_the_known()
         world_file_in version query world known ≡ world_file_in version query other known }
 {}
 
-/// The file of a query, a world and what is known of this world is a summary file, of the query and of the parts that the world has of
-/// what is known, in each version whose bounds the known batches keep: in the second, each world's batches do. A query's text is UTF-8.
+/// The file of a query, a world and what is known of this world is a summary file. It is one of the query and of the parts that the world
+/// has of what is known. So it is in each version whose bounds the known batches keep: in the second, each world's batches do. A query's
+/// text is UTF-8.
 pub fn files_of_worlds()
     ensures read { (version : Version) (query : Checked) (world : World) (known : Knowledge) (bytes : List ℕ) →
         IsCheckedQuery query → IsUtf8 (spelling (by_names query)) → IsWorld (kinds query.columns) world →

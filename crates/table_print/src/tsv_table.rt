@@ -91,9 +91,9 @@ fn push_line(out: &mut Vec<u8>, row: &[ResultValue<'_>]) -> Result<(), AllocErro
 }
 
 /// A table in PostgreSQL's text format of COPY that takes its rows one after another: a header, then a line for each row, values parted by
-/// tabs. Null shows as `\N`, truth values as `t` and `f`, numbers in plain decimal. In texts a backspace, a tab, a line feed, a vertical
-/// tab, a form feed, a carriage return and a backslash show as `\b`, `\t`, `\n`, `\v`, `\f`, `\r` and `\\`. Each line ends with a line
-/// feed, and has no other.
+/// tabs. Null shows as `\N`, truth values as `t` and `f`, numbers in plain decimal. In texts a backspace shows as `\b`, a tab as `\t`, a
+/// line feed as `\n` and a vertical tab as `\v`. A form feed shows as `\f`, a carriage return as `\r` and a backslash as `\\`. Each line
+/// ends with a line feed, and has no other.
 #[derive(Drop)]
 pub struct TsvTable {
     text: Vec<u8>,
@@ -144,11 +144,10 @@ impl RowSink for TsvTable {
     ghost both = { both_taken IsTsvTable };
 }
 
-/// The answer of a query as a table in PostgreSQL's text format of COPY: a header, then a line for each row, values parted by
-/// tabs. Each row of the answer has a value for each item of the query. Null shows as `\N`, truth values as `t` and `f`, numbers
-/// in plain decimal. In texts a backspace, a tab, a line feed, a vertical tab, a form feed, a carriage return and a backslash show
-/// as `\b`, `\t`, `\n`, `\v`, `\f`, `\r` and `\\`. Each line ends with a line feed, and has no other. The only error is a failed
-/// allocation.
+/// The answer of a query as a table in PostgreSQL's text format of COPY: a header, then a line for each row, values parted by tabs. Each
+/// row of the answer has a value for each item of the query. Null shows as `\N`, truth values as `t` and `f`, numbers in plain decimal. In
+/// texts a backspace shows as `\b`, a tab as `\t`, a line feed as `\n` and a vertical tab as `\v`. A form feed shows as `\f`, a carriage
+/// return as `\r` and a backslash as `\\`. Each line ends with a line feed, and has no other. The only error is a failed allocation.
 pub fn print_tsv(alloc: Global, query: &Query, answer: &Answer) -> Result<Vec<u8>, AllocError>
     requires { All (λ row. length row ≡ length (meaning query.now).items) answer.now }
     ensures { IfOk result (λ text. text.items ≡ tsv_text (headers query.now) answer.now) }
