@@ -158,7 +158,7 @@ fn run_over<R: Files + AllocGlobal, I: Read, W: Write, E: Write, D: TapeDisk>(
     disk: &mut D,
     seed: Seed,
 ) -> ExitKind
-    ensures { RunEnds D.TapeDisk I.remaining W.contents script.old script.new writer.old writer.new disk.old disk.new result }
+    ensures { RunEnds D.TapeDisk seed I.remaining W.contents script.old script.new writer.old writer.new disk.old disk.new result }
 {
     let alloc = rt.alloc();
     let mut complaints = Complaints {
