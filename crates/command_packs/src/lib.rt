@@ -2,6 +2,7 @@
 #![tactic(auto)]
 
 mod options;
+mod sentences;
 
 ghost use Rattle.std.specs.Prelude.{◌≡◌, ◌≤◌, ℕ, List, IfOk, IfErr};
 ghost use Rattle.std.specs.Io.KnownBytes.{Appends};
@@ -15,12 +16,12 @@ ghost use Rattle.command_streams.specs.Stopping.{RepliesRefused};
 ghost use Rattle.command_packs.specs.Packing.{pack_refusal, AreOfSummary, IsNotPacked, IsPacked, IsWithoutColumns};
 
 use crate::options::{files_of, head_of, layout_of};
+use crate::sentences::PlainText;
 use batch_reader::BatchError;
 use clap::ArgMatches;
 use command_streams::{Inputs, Problem, Streams, reply_refused, say};
 use command_words::{NUMBER, ORIGIN, input_name, value};
 use file_sentences::summary_reason;
-use pack_sentences::PlainText;
 use packed_rows::Schema;
 use plain_batches::{Layout, PackError, pack_batch};
 use replies::{ExitKind, Refusal, RunError};
