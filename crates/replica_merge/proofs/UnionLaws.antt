@@ -1,5 +1,5 @@
 -- Runs of several origins that are united, the one with the other.
-use Rattle.std.specs.Prelude.{◌≡◌, refl, ℕ, ◌+◌, ◌*◌, ◌≤◌, List, [], ◌∷◌, ◌++◌}
+use Rattle.std.specs.Prelude.{◌≡◌, ◌≢◌, refl, ℕ, ◌+◌, ◌*◌, ◌≤◌, List, [], ◌∷◌, ◌++◌}
 use Rattle.std.specs.Borrow.{Bor}
 use Rattle.std.specs.List.{AllByRecursion}
 use Rattle.std.specs.List.Sorted.{IsStrictlySortedBy}
@@ -9,6 +9,8 @@ use Rattle.std.proofs.lemmas.List.Sums.{sum_by-cons, sum_by-append}
 use Rattle.std.proofs.lemmas.Grind.{flat_map-append}
 use Rattle.replica_merge.specs.Lemmas.Words.{each_front, each_behind, MAX_ROWS, Row, row_cmp, Query, part, AreGroups, IsRun, Part, counted}
 use Rattle.replica_merge.specs.Lemmas.Words.{brought_by, IsRunAlone, IsUnion}
+use Rattle.replica_merge.specs.Unions.{Sum, Nothing, Groups, Added, summands, added_up, StandsForGroups}
+use Rattle.grouping_model.specs.Grouping.{Group}
 use Rattle.grouping_model.specs.Parts.{keys_of}
 use Rattle.agg_protocol.specs.States.{most_rows}
 use Rattle.packed_rows.specs.ConcatenatedRows.{concatenated}
@@ -18,7 +20,7 @@ use Rattle.group_runs.specs.Runs.{Entry, Rises}
 use Rattle.group_runs.specs.Steps.{AddsRun, HasRoomForRun}
 use Rattle.group_runs.specs.Lemmas.MergeLaws.{groups_added_part}
 use Rattle.group_runs.specs.Lemmas.SpliceLaws.{packed_rise}
-use Rattle.hash_agg.specs.Inputs.{Brought, Counted, rows_in, all_rows, AreInputsOf, IsInput}
+use Rattle.hash_agg.specs.Inputs.{Brought, Counted, rows_in, all_rows, AreInputsOf, IsInput, OneByOne}
 use Rattle.hash_agg.specs.Lemmas.FoldLaws.{run_keys_rise}
 
 -- lists of rows for which inputs of two lists stand
@@ -42,11 +44,34 @@ both_stand q (x ∷ xs) ys (rows ∷ lists) are =
       back = rest.back;
     }
 
+-- groups for which the runs of inputs of two lists stand
+record BothStandFor (q : Query) (xs ys : List Brought) (those : List (List Group)) : Type 0 where
+  fronts : List (List Group)
+  backs : List (List Group)
+  both : those ≡ fronts ++ backs
+  front : OneByOne (StandsForGroups q) xs fronts
+  back : OneByOne (StandsForGroups q) ys backs
+
+both_stand_for : (q : Query) (xs ys : List Brought) (those : List (List Group)) → OneByOne (StandsForGroups q) (xs ++ ys) those
+    → BothStandFor q xs ys those
+both_stand_for q [] ys those are = record { fronts = []; backs = those; both = refl; front = tt; back = are }
+both_stand_for q (x ∷ xs) ys [] are = absurd are
+both_stand_for q (x ∷ xs) ys (groups ∷ those) are =
+    let rest : BothStandFor q xs ys those = both_stand_for q xs ys those are.1 in
+    record {
+      fronts = groups ∷ rest.fronts;
+      backs = rest.backs;
+      both = ap (λ more. groups ∷ more) rest.both;
+      front = (are.0, rest.front);
+      back = rest.back;
+    }
+
 -- one run is the union of what it brings
 pub one_union : (q : Query) (run : List Entry) (rows : ℕ) → IsRun q rows run → IsUnion q (Counted run rows ∷ []) run
 one_union q run rows is =
     record {
       part = one;
+      groups = alone;
       is_run = subst (λ n. IsRun q n run) (sym total) is;
     }
   where
@@ -60,6 +85,12 @@ one_union q run rows is =
         subst (λ n. AreGroups q n run (part q (these ++ []))) (sym total)
         (subst (λ all. AreGroups q rows run (part q all)) (sym (append-nil these)) are.0)
     one (these ∷ more ∷ lists) are = absurd are.1
+
+    alone : (those : List (List Group)) → OneByOne (StandsForGroups q) (Counted run rows ∷ []) those
+        → (sum : Sum) × (summands sum ≡ those) × AreGroups q (all_rows (Counted run rows ∷ [])) run (added_up q sum)
+    alone [] are = absurd are
+    alone (groups ∷ []) are = (Groups groups, refl, subst (λ n. AreGroups q n run groups) (sym total) are.0)
+    alone (groups ∷ more ∷ those) are = absurd are.1
 
 -- the union of some inputs, to which that of others is added
 module _ (q : Query) (xs ys : List Brought) (a b c : List Entry) (few : all_rows (xs ++ ys) ≤ most_rows) (left : IsUnion q xs a)
@@ -104,10 +135,24 @@ module _ (q : Query) (xs ys : List Brought) (a b c : List Entry) (few : all_rows
       (added (all_rows xs) (all_rows ys) (part q (concatenated stand.fronts)) (part q (concatenated stand.backs)) low
       (left.part stand.fronts stand.front) (right.part stand.backs stand.back))))
 
+  added_sum : AddsRun q a b c → (those : List (List Group)) → OneByOne (StandsForGroups q) (xs ++ ys) those
+      → (sum : Sum) × (summands sum ≡ those) × AreGroups q (all_rows (xs ++ ys)) c (added_up q sum)
+  added_sum added those are =
+      let stand : BothStandFor q xs ys those = both_stand_for q xs ys those are in
+      let front = left.groups stand.fronts stand.front in
+      let back = right.groups stand.backs stand.back in
+      let whole : summands (Added front.0 back.0) ≡ stand.fronts ++ stand.backs = λ i. front.1 i ++ back.1 i in (
+        Added front.0 back.0,
+        whole ∙ sym stand.both,
+        subst (λ n. AreGroups q n c (groups_added q (added_up q front.0) (added_up q back.0))) (sym total)
+            (added (all_rows xs) (all_rows ys) (added_up q front.0) (added_up q back.0) low front.2 back.2),
+      )
+
   pub added_union : AddsRun q a b c → IsUnion q (xs ++ ys) c
   added_union added =
       record {
         part = added_part added;
+        groups = added_sum added;
         is_run =
             record {
               groups = groups_added q left.is_run.groups right.is_run.groups;
@@ -169,3 +214,29 @@ one_part q parts run inputs is =
     (subst (IsUnion q (brought_by (is.only ∷ []))) (sym is.run_is)
     (one_union q is.only.now.run (is.only.now.prefix * MAX_ROWS) (subst (λ those. AllByRecursion (IsInput q) (brought_by those)) is.alone
     inputs).0))
+
+none_rises : Rises []
+unfolding IsStrictlySortedBy
+none_rises = tt
+
+none_union : (q : Query) → IsUnion q [] []
+none_union q =
+    record {
+      part = rows;
+      groups = sums;
+      is_run = record { groups = []; are = tt; rises = none_rises };
+    }
+  where
+    rows : (lists : List (List Row)) → AreInputsOf q [] lists → AreGroups q (all_rows []) [] (part q (concatenated lists))
+    rows [] are = tt
+    rows (these ∷ lists) are = absurd are
+
+    sums : (those : List (List Group)) → OneByOne (StandsForGroups q) [] those
+        → (sum : Sum) × (summands sum ≡ those) × AreGroups q (all_rows []) [] (added_up q sum)
+    sums [] are = (Nothing, refl, tt)
+    sums (groups ∷ those) are = absurd are
+
+pub few_union : (q : Query) (parts : List (Bor Part)) (run : List Entry) → AllByRecursion (IsInput q) (brought_by parts)
+    → (parts ≡ [] → run ≡ []) × (parts ≢ [] → IsRunAlone parts run) → IsUnion q (brought_by parts) run
+few_union q [] run inputs is = subst (IsUnion q []) (sym (is.0 refl)) (none_union q)
+few_union q (p ∷ parts) run inputs is = one_part q (p ∷ parts) run inputs (is.1 (λ same. cc))

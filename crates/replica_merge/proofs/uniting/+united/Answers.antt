@@ -1,7 +1,13 @@
 use Rattle.std.proofs.Common.{arith}
+use Rattle.std.proofs.lemmas.Result.{IfOk-weaker}
 use Rattle.having_filter.specs.Meaning.{meaning}
-use Rattle.replica_merge.proofs.UnionLaws.{front_inputs, front_few, back_inputs, back_few, halves_room, halves_united, one_part}
+use Rattle.replica_merge.proofs.UnionLaws.{few_union, front_inputs, front_few, back_inputs, back_few, halves_room, halves_united, one_part}
 use Rattle.replica_merge.proofs.uniting.+united.Goals as goal
+
+pub returns-then-parts-lt2 : goal.returns-then-parts-lt2
+returns-then-parts-lt2 t c =
+    IfOk-weaker c.copied.result _ _ (λ copy is. few_union (meaning c.args.query.now) c.args.parts.now copy c.requires.inputs is)
+    c.copied.ensures.alone
 
 pub united-requires : goal.united-requires
 united-requires t c = (

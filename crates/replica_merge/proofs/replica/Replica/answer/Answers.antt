@@ -1,11 +1,11 @@
-use Rattle.std.specs.Prelude.{◌≡◌, All, IfOk, List, length, map}
+use Rattle.std.specs.Prelude.{◌≡◌, refl, All, IfOk, List, length, map}
 use Rattle.std.proofs.Common.{◌∙◌, ap, subst}
 use Rattle.std.proofs.lemmas.Result.{IfOk-weaker}
 use Rattle.grouping_model.specs.Aggregates.{Outcome}
 use Rattle.grouping_model.specs.Answer.{answer}
 use Rattle.replica_merge.specs.Lemmas.Words.{World, IsWorld, kinds, meaning, Held, Fits, told, counted_part, brought_by, IsShown}
 use Rattle.replica_merge.proofs.AnswerLaws.{IsOfParts, shows, only_run, whole_run, listed_inputs, listed_few, shown_wide, shown_answer}
-use Rattle.replica_merge.proofs.AnswerLaws.{shown_rows, alone_rows}
+use Rattle.replica_merge.proofs.AnswerLaws.{shown_rows, alone_rows, not_only}
 use Rattle.replica_merge.proofs.replica.Replica.answer.Goals as goal
 
 pub finalize_and_project-requires : goal.finalize_and_project-requires
@@ -90,4 +90,6 @@ returns-clause-rows c =
     ∙ c.in_ok-parts.ensures in
     subst (λ (h : Held). IfOk c.finalize_and_project-2.result (IsShown h)) c.self.view_is
     (IfOk-weaker c.finalize_and_project-2.result _ _ (λ rows shown. shown_rows held (brought_by c.deref-2.result.now) c.in_ok-run.run' rows
-    c.self.invariant all c.in_ok-run.ensures shown) c.finalize_and_project-2.ensures)
+    c.self.invariant all c.in_ok-run.ensures
+    (not_only held c.deref.result.now c.in_ok-run.run' (ap brought_by c.deref.ensures.value ∙ c.in_ok-parts.ensures)
+    (c.in_default.ensures.others refl)) shown) c.finalize_and_project-2.ensures)

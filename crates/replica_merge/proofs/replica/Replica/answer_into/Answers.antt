@@ -1,9 +1,9 @@
-use Rattle.std.specs.Prelude.{◌≡◌, map}
+use Rattle.std.specs.Prelude.{◌≡◌, refl, map}
 use Rattle.std.proofs.Common.{◌∙◌, ap, subst}
 use Rattle.std.proofs.lemmas.Result.{on_ok_weaker}
 use Rattle.grouping_model.specs.Order.{unarranged}
 use Rattle.replica_merge.specs.Lemmas.Words.{meaning, Held, IsAnswerOf, brought_by, counted_part}
-use Rattle.replica_merge.proofs.AnswerLaws.{shows, only_run, whole_run, listed_inputs, listed_few, alone_answer, whole_answer}
+use Rattle.replica_merge.proofs.AnswerLaws.{shows, only_run, whole_run, listed_inputs, listed_few, alone_answer, not_only, whole_answer}
 use Rattle.replica_merge.proofs.replica.Replica.answer_into.Goals as goal
 
 pub project_into-requires : goal.project_into-requires
@@ -55,6 +55,7 @@ returns g c =
       given.1,
       subst (λ (h : Held). IsAnswerOf h given.0) c.self.view_is
           (whole_answer held (brought_by c.deref-2.result.now) c.in_ok-run.run' given.0 none c.self.invariant all c.in_ok-run.ensures
-          given.2),
+          (not_only held c.deref.result.now c.in_ok-run.run' (ap brought_by c.deref.ensures.value ∙ c.in_ok-parts.ensures)
+          (c.in_default.ensures.others refl)) given.2),
     ))
     c.project_into-2.ensures
