@@ -3,6 +3,7 @@
 ghost use Rattle.std.specs.Prelude.{◌≡◌, ◌≢◌, ◌+◌, ◌^◌, ◌<◌, ◌≤◌, ◌⊎◌, ℕ, false, List, Option, Some, length, IfOk, IfErr, OnOk};
 ghost use Rattle.grouping_model.specs.Replies.{known_list};
 ghost use Rattle.replica_merge.specs.Replicas.{told};
+ghost use Rattle.script_io.specs.Fused.{has_failed};
 ghost use Rattle.replies.specs.KnownTables.{known_in};
 ghost use Rattle.replies.specs.declared.ending.ExitKind.TheVariants.{Done, Fault};
 ghost use Rattle.replies.specs.declared.reply.Reply.TheVariants.{Refused};
@@ -11,7 +12,7 @@ ghost use Rattle.command_streams.specs.Stopping.{ending_of, EndsRefused};
 ghost use Rattle.command_files.specs.Ending.{ending_beside};
 ghost use Rattle.command_files.specs.Formats.{format_told, known_format_told};
 ghost use Rattle.command_files.specs.Reporting.{output_of, file_on_output, reply_on_output, OnlySays, Prints, PrintsTable, Saves};
-ghost use Rattle.command_files.specs.Running.{standpoint_of, BeginsWith, Performs, RunsCommand, TakesAndSaves};
+ghost use Rattle.command_files.specs.Running.{standpoint_of, BeginsWith, IsDone, Performs, RunsCommand, TakesAndSaves};
 ghost use Rattle.command_files.specs.Taking.{manner_of, state_of, taken, RanFile, StopsAt, TakesFile, TakesAll};
 
 use crate::limit::{means_of, said_of_limit};
@@ -356,10 +357,10 @@ impl<'c, R: Files + AllocGlobal + RandomSource, I: Read, W: Write, E: Write> Ses
         matches: &ArgMatches<'p>,
         means: &Means<Fnv1a>,
     ) -> Result<(), Problem<'p>>
-        ensures { OnOk result (TakesAndSaves W.contents (manner_of kind means.now self.old.disk
+        ensures { OnOk result (TakesAndSaves (manner_of kind means.now self.old.disk
             self.old.reporter.is_piped self.old.target.listed) (length paths.now) (state_of replica.old self.old.disk self.old.work
             (output_of W.contents self.old.reporter))
-            self.old.passed self.new.passed self.new.reporter) }
+            self.old.passed self.new.passed (output_of W.contents self.new.reporter)) }
     {
         let spill = subcommand.spill(matches);
         self.take_files(kind, replica, paths, means, spill)?;
@@ -377,9 +378,9 @@ impl<'c, R: Files + AllocGlobal + RandomSource, I: Read, W: Write, E: Write> Ses
         matches: &ArgMatches<'p>,
         means: &Means<Fnv1a>,
     ) -> Result<(), Problem<'p>>
-        ensures { OnOk result (Performs W.contents subcommand means.now replica.old
-            (standpoint_of self.old.disk self.old.work self.old.target.listed self.old.passed self.old.reporter)
-            self.new.passed self.new.reporter) }
+        ensures { OnOk result (Performs subcommand means.now replica.old
+            (standpoint_of W.contents self.old.disk self.old.work self.old.target.listed self.old.passed self.old.reporter)
+            self.new.passed (output_of W.contents self.new.reporter)) }
     {
         let format = value(matches, FORMAT);
         let is_told = subcommand.is_told(matches, EXPLAIN);
@@ -441,9 +442,9 @@ impl<'c, R: Files + AllocGlobal + RandomSource, I: Read, W: Write, E: Write> Ses
         matches: &ArgMatches<'p>,
         means: &Means<Fnv1a>,
     ) -> Result<(), Problem<'p>>
-        ensures { OnOk result (RunsCommand W.contents subcommand means.now
-            (standpoint_of self.old.disk self.old.work self.old.target.listed self.old.passed self.old.reporter)
-            self.new.passed self.new.reporter) }
+        ensures { OnOk result (RunsCommand subcommand means.now
+            (standpoint_of W.contents self.old.disk self.old.work self.old.target.listed self.old.passed self.old.reporter)
+            self.new.passed (output_of W.contents self.new.reporter)) }
     {
         let mut replica = self.first_replica(subcommand, matches)?;
         let done = self.perform(&mut replica, subcommand, matches, means);
@@ -489,7 +490,9 @@ impl<'c, R: Files + AllocGlobal + RandomSource, I: Read, W: Write, E: Write> Ses
         subcommand: Subcommand,
         matches: &ArgMatches<'_>,
         why: Refusal,
-    ) -> ExitKind {
+    ) -> ExitKind
+        ensures { result ≢ Done }
+    {
         let alloc = self.inputs.rt.alloc();
         let reason = match said_of_limit(alloc, matches, why) {
             Ok(said) => Ok(reason_of(alloc, Some(said))),
@@ -504,36 +507,69 @@ impl<'c, R: Files + AllocGlobal + RandomSource, I: Read, W: Write, E: Write> Ses
         self.reporter.stop(problem, output)
     }
 
+    /// Ends a command that stopped.
+    fn refuse(
+        &mut self,
+        subcommand: Subcommand,
+        matches: &ArgMatches<'_>,
+        problem: Problem<'_>,
+    ) -> ExitKind
+        ensures { EndsRefused problem.entry.why result }
+    {
+        let output = self.output_status(subcommand, matches);
+        self.reporter.stop(problem, output)
+    }
+
     /// Runs a command on files which may write OUT, and tells how it ended.
     fn run_beside(
         &mut self,
         subcommand: Subcommand,
         matches: &ArgMatches<'_>,
         standing: Option<Standing<'_>>,
-    ) -> ExitKind {
+    ) -> ExitKind
+        ensures { result ≡ Done → (limit : ℕ) × IsDone R.File subcommand limit (output_of W.contents self.old.reporter)
+            (output_of W.contents self.new.reporter) }
+    {
         match means_of(subcommand, matches) {
             Ok(means) => self.run_with(subcommand, matches, means, standing),
             Err(why) => self.refuse_limit(subcommand, matches, why),
         }
     }
 
+    /// Runs a command on files whose OUT was looked at, and tells how it ended.
+    fn run_looked(
+        &mut self,
+        subcommand: Subcommand,
+        matches: &ArgMatches<'_>,
+        looked: Result<Option<Standing<'_>>, Problem<'_>>,
+    ) -> ExitKind
+        ensures { result ≡ Done → (limit : ℕ) × IsDone R.File subcommand limit (output_of W.contents self.old.reporter)
+            (output_of W.contents self.new.reporter) }
+    {
+        match looked {
+            Ok(standing) => self.run_beside(subcommand, matches, standing),
+            Err(problem) => self.refuse(subcommand, matches, problem),
+        }
+    }
+
     /// Runs a command on files, and answers how it ended.
-    pub fn run(mut self, subcommand: Subcommand, matches: &ArgMatches<'_>) -> ExitKind {
+    pub fn run(&mut self, subcommand: Subcommand, matches: &ArgMatches<'_>) -> ExitKind
+        ensures done { result ≡ Done → (limit : ℕ) × IsDone R.File subcommand limit (output_of W.contents self.old.reporter)
+            (output_of W.contents self.new.reporter) }
+        ensures sent { result ≡ Done → has_failed self.new.reporter.streams.writer.now ≡ false }
+    {
         let rt = self.inputs.rt;
         let is_piped = matches!(subcommand.out(matches), Some(out) if is_stream(out));
         self.reporter.set_piped(is_piped);
         let is_terminal = self.reporter.terminals().output;
-        let exit = match self.target.look(rt, subcommand, matches, is_terminal) {
-            Ok(Some(standing)) if standing.fate.stops() => {
-                self.reporter.say(&standing);
+        let looked = self.target.look(rt, subcommand, matches, is_terminal);
+        if let Ok(Some(standing)) = &looked {
+            if standing.fate.stops() {
+                self.reporter.say(standing);
                 return ExitKind::BadUsage;
             }
-            Ok(standing) => self.run_beside(subcommand, matches, standing),
-            Err(problem) => {
-                let output = self.output_status(subcommand, matches);
-                self.reporter.stop(problem, output)
-            }
-        };
+        }
+        let exit = self.run_looked(subcommand, matches, looked);
         let output = self.output_status(subcommand, matches);
         self.reporter.finish(exit, output)
     }
@@ -578,6 +614,46 @@ impl<'c, R: Files + AllocGlobal + RandomSource, I: Read, W: Write, E: Write> Ses
         Ok(())
     }
 
+    /// Tries the files of a command that aggregates: before its work.
+    fn try_before<'p>(
+        &mut self,
+        subcommand: Subcommand,
+        matches: &ArgMatches<'p>,
+    ) -> Result<(), Problem<'p>>
+        ensures says { OnlySays self.old.reporter self.new.reporter }
+    {
+        if !subcommand.aggregates() {
+            return Ok(());
+        }
+        self.try_first(subcommand, matches)
+    }
+
+    /// Says what becomes of what is there in the place of OUT, if that is to be told.
+    fn tell_standing(&mut self, standing: Option<Standing<'_>>)
+        ensures says { OnlySays self.old.reporter self.new.reporter }
+    {
+        match standing {
+            Some(standing) => self.reporter.say(&standing),
+            None => {}
+        }
+    }
+
+    /// Runs a command on files by means, with a seed if it aggregates, and tells how it ended.
+    fn run_seeded(
+        &mut self,
+        subcommand: Subcommand,
+        matches: &ArgMatches<'_>,
+        means: Means<Fnv1a>,
+    ) -> ExitKind
+        ensures { result ≡ Done → IsDone R.File subcommand means.limit (output_of W.contents self.old.reporter)
+            (output_of W.contents self.new.reporter) }
+    {
+        match self.seeded(subcommand, means) {
+            Ok(means) => self.run_by(subcommand, matches, &means),
+            Err(problem) => self.refuse(subcommand, matches, problem),
+        }
+    }
+
     /// Runs a command on files by means, with the disk of tapes that it tells, and tells how it ended.
     fn run_with(
         &mut self,
@@ -585,34 +661,24 @@ impl<'c, R: Files + AllocGlobal + RandomSource, I: Read, W: Write, E: Write> Ses
         matches: &ArgMatches<'_>,
         means: Means<Fnv1a>,
         standing: Option<Standing<'_>>,
-    ) -> ExitKind {
+    ) -> ExitKind
+        ensures { result ≡ Done → IsDone R.File subcommand means.limit (output_of W.contents self.old.reporter)
+            (output_of W.contents self.new.reporter) }
+    {
         let is_asked = subcommand.is_told(matches, PROGRESS);
         self.reporter.set_progress(is_asked);
-        if subcommand.aggregates() {
-            if let Err(problem) = self.try_first(subcommand, matches) {
-                let output = self.output_status(subcommand, matches);
-                return self.reporter.stop(problem, output);
-            }
+        if let Err(problem) = self.try_before(subcommand, matches) {
+            return self.refuse(subcommand, matches, problem);
         }
         let spill = subcommand.spill(matches);
-        match open_disk(self.inputs.rt, spill) {
-            Ok(disk) => self.disk = disk,
-            Err(problem) => {
-                let output = self.output_status(subcommand, matches);
-                return self.reporter.stop(problem, output);
-            }
-        }
-        self.in_file = spill.is_some();
-        if let Some(standing) = standing {
-            self.reporter.say(&standing);
-        }
-        let exit = match self.seeded(subcommand, means) {
-            Ok(means) => self.run_by(subcommand, matches, &means),
-            Err(problem) => {
-                let output = self.output_status(subcommand, matches);
-                self.reporter.stop(problem, output)
-            }
+        let disk = match open_disk(self.inputs.rt, spill) {
+            Ok(disk) => disk,
+            Err(problem) => return self.refuse(subcommand, matches, problem),
         };
+        self.disk = disk;
+        self.in_file = spill.is_some();
+        self.tell_standing(standing);
+        let exit = self.run_seeded(subcommand, matches, means);
         self.remove_spill(subcommand, matches);
         exit
     }
@@ -661,8 +727,9 @@ impl<'c, R: Files + AllocGlobal + RandomSource, I: Read, W: Write, E: Write> Ses
         matches: &ArgMatches<'_>,
         means: &Means<Fnv1a>,
     ) -> ExitKind
-        ensures ran { result ≡ Done → RunsCommand W.contents subcommand means.now
-            (standpoint_of self.old.disk self.old.work self.old.target.listed self.old.passed self.old.reporter) 0 self.new.reporter }
+        ensures ran { result ≡ Done → RunsCommand subcommand means.now
+            (standpoint_of W.contents self.old.disk self.old.work self.old.target.listed self.old.passed self.old.reporter)
+            0 (output_of W.contents self.new.reporter) }
         ensures passed { result ≡ Done → self.new.passed ≡ 0 }
         ensures short { result ≡ Done → self.new.is_short ≡ false }
     {

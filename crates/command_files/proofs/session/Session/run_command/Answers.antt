@@ -5,5 +5,5 @@ pub returns : goal.returns
 returns g c =
     let first = c.in_ok-replica.ensures in
     runs_command g.W.Write.contents c.args.subcommand c.args.means.now c.in_ok-replica.replica _ _ _ _ _ _ _ _ _
-    c.args.self.now.reporter c.first_replica.new.self.reporter c.perform-done.new.self.reporter c.perform-done.result first.begins first.disk
+    c.args.self.now.reporter c.first_replica.new.self.reporter _ c.perform-done.result first.begins first.disk
     first.work first.listed first.passed first.says c.perform-done.ensures
