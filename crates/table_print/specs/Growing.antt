@@ -6,7 +6,7 @@ use Rattle.packed_rows.specs.View.{bytes_of}
 use Rattle.table_print.specs.Table.{table_text}
 use Rattle.table_print.specs.Tsv.{tsv_text}
 use Rattle.table_print.specs.Json.{json_names, json_text}
-use Rattle.table_print.specs.Writer.{IsBetween, written}
+use Rattle.script_io.specs.LineWriter.{IsBetween, written}
 use Rattle.table_print.specs.declared.csv_table.CsvTable.{CsvTable}
 use Rattle.table_print.specs.declared.tsv_table.TsvTable.{TsvTable}
 use Rattle.table_print.specs.declared.json_table.JsonTable.{JsonTable}

@@ -11,7 +11,8 @@ ghost use Rattle.having_filter.specs.Meaning.{meaning};
 ghost use Rattle.having_filter.specs.Kept.{headers};
 ghost use Rattle.table_print.specs.Growing.{CsvTakes, HasFailed, IsCsvTable};
 ghost use Rattle.table_print.specs.Table.{cell_text, table_text};
-ghost use Rattle.table_print.specs.Writer.{IsBetween, IsWithin, WritesLine};
+ghost use Rattle.script_io.specs.LineWriter.{IsBetween};
+ghost use Rattle.table_print.specs.Writer.{IsWithin, WritesLine};
 
 use crate::cell::cell;
 use crate::rows::{one_more, push_answer};
