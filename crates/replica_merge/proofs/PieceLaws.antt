@@ -15,7 +15,8 @@ use Rattle.std.specs.Ordering.{is_lt, nat_cmp}
 use Rattle.std.specs.Cmp.Lexicographic.{slice_cmp}
 use Rattle.std.specs.List.{AllByRecursion, Any}
 use Rattle.std.specs.List.Sorted.{IsStrictlySortedBy}
-use Rattle.replica_merge.specs.Lemmas.Words.{each_weaker, each_front, each_behind, MAX_ROWS, Row, row_cmp, Query, Group, part, AreGroups, IsRun}
+use Rattle.replica_merge.specs.Lemmas.Words.{each_weaker, each_front, each_behind, MAX_ROWS, Row, row_cmp, Query, Group, part}
+use Rattle.replica_merge.specs.Lemmas.Words.{AreGroups, IsRun}
 use Rattle.replica_merge.specs.Lemmas.Words.{IsUnion}
 use Rattle.list_laws.specs.Each.{each_append}
 use Rattle.grouping_model.specs.Aggregates.{Outcome}
@@ -43,10 +44,12 @@ use Rattle.group_runs.specs.PlaceLaws.{take_found}
 use Rattle.group_runs.specs.Places.{IsBelow, IsNotBelow, IsPlaceOf}
 use Rattle.origin_prefix.specs.Parts.{Part}
 use Rattle.replica_merge.specs.declared.pieces.Span.{Span}
-use Rattle.replica_merge.specs.Pieces.{groups_of, left_of, IsSpan, brought_to, left_by, count_left, comes, IsNext, AreNext, HasKeysOf, IsPiece}
+use Rattle.replica_merge.specs.Pieces.{groups_of, left_of, IsSpan, brought_to, left_by, count_left, comes, IsNext, AreNext}
+use Rattle.replica_merge.specs.Pieces.{HasKeysOf, IsPiece}
 use Rattle.replica_merge.specs.Pieces.{HasGroups, HasLeft, IsCopy, IsEnd, AreOfNext, RowsOf, ShowPiece, ShowLeft}
 use Rattle.replica_merge.proofs.UnionLaws.{one_union, union_room, added_union}
-use Rattle.replica_merge.proofs.PartedLaws.{put_each, rises_append, no, kept, kept_concatenated, kept_keys, comes_before, key_comes, come_apart, all_apart}
+use Rattle.replica_merge.proofs.PartedLaws.{put_each, rises_append, no, kept, kept_concatenated, kept_keys, comes_before}
+use Rattle.replica_merge.proofs.PartedLaws.{key_comes, come_apart, all_apart}
 
 -- ---- groups
 
@@ -98,7 +101,8 @@ split_groups q n bound (x ∷ xs) ys [] (h ∷ hs) (here, come) stay first (ther
 module _ (q : Query) (bound : Option (List ℕ)) where
   part_kinds : (n : ℕ) (run : List Entry) (rows : List Row) → AreGroups q n run (part q rows)
       → AllByRecursion (HasKinds (key_kinds q)) (keys q rows)
-  part_kinds n run rows are = subst (AllByRecursion (HasKinds (key_kinds q))) (keys_of-part q rows) (keys_of_kinds q n run (part q rows) are)
+  part_kinds n run rows are = subst (AllByRecursion (HasKinds (key_kinds q))) (keys_of-part q rows)
+      (keys_of_kinds q n run (part q rows) are)
 
   run_parted : (n : ℕ) (xs ys : List Entry) (rows : List Row) → AllByRecursion (λ (e : Entry). comes bound e.0 ≡ true) xs
       → AllByRecursion (λ (e : Entry). comes bound e.0 ≡ false) ys → AreGroups q n (xs ++ ys) (part q rows)
@@ -236,7 +240,8 @@ come_each bound [] pieces = tt
 come_each bound (s ∷ spans) (one, pieces) = (one.0, come_each bound spans pieces)
 
 stay_each : (bound : Option (List ℕ)) (spans : List Span) → ArePieces bound spans
-    → AllByRecursion (λ (one : List Entry). AllByRecursion (λ (e : Entry). cond (comes bound e.0) false true ≡ true) one) (map left_of spans)
+    → AllByRecursion (λ (one : List Entry). AllByRecursion (λ (e : Entry). cond (comes bound e.0) false true ≡ true) one)
+    (map left_of spans)
 stay_each bound [] pieces = tt
 stay_each bound (s ∷ spans) (one, pieces) = (
   each_weaker (λ (e : Entry). comes bound e.0 ≡ false) (λ (e : Entry). cond (comes bound e.0) false true ≡ true)
@@ -306,7 +311,8 @@ no_parts q [] (rows ∷ lists) none are = absurd are
 no_parts q (s ∷ spans) [] none are = absurd are
 no_parts q (s ∷ spans) (rows ∷ lists) (first, none) (one, are) =
     sym (groups_added_part q rows (concatenated lists))
-    ∙ (λ i. groups_added q (no_part q (s.part.now.prefix * MAX_ROWS) (left_of s) (part q rows) first one i) (no_parts q spans lists none are i))
+    ∙ (λ i. groups_added q (no_part q (s.part.now.prefix * MAX_ROWS) (left_of s) (part q rows) first one i)
+    (no_parts q spans lists none are i))
 
 nothing_rises : Rises []
 unfolding IsStrictlySortedBy
@@ -510,7 +516,8 @@ end_at_place key span place is =
       within = is.within;
       come = each_weaker (IsBelow key) (λ (e : Entry). comes (Some key) e.0 ≡ true) (λ e low. ap is_lt low)
           (slice_range span.part.now.run span.to place) is.below;
-      stay = each_weaker (IsNotBelow key) (λ (e : Entry). comes (Some key) e.0 ≡ false) (λ e high. not_less (slice_cmp nat_cmp e.0 key) high)
+      stay = each_weaker (IsNotBelow key) (λ (e : Entry). comes (Some key) e.0 ≡ false)
+          (λ e high. not_less (slice_cmp nat_cmp e.0 key) high)
           (drop place span.part.now.run) is.not_below;
     }
 
@@ -540,7 +547,8 @@ next_by_end bound old next part from is =
         order = subst (λ n. n ≤ next.to) (sym from) is.order;
         within = subst (λ (p : Bor Part). next.to ≤ length p.now.run) (sym part) is.within;
       };
-      come = subst (λ (p : Bor Part). AllByRecursion (λ (e : Entry). comes bound e.0 ≡ true) (slice_range p.now.run next.from next.to)) (sym part)
+      come = subst (λ (p : Bor Part). AllByRecursion (λ (e : Entry). comes bound e.0 ≡ true) (slice_range p.now.run next.from next.to))
+          (sym part)
           (subst (λ n. AllByRecursion (λ (e : Entry). comes bound e.0 ≡ true) (slice_range old.part.now.run n next.to)) (sym from) is.come);
       stay = subst (λ (p : Bor Part). AllByRecursion (λ (e : Entry). comes bound e.0 ≡ false) (drop next.to p.now.run)) (sym part) is.stay;
     }
@@ -754,7 +762,8 @@ so_far_begins q all inputs within few =
       few = few;
     }
 
-pub so_far_next : (q : Query) (all olds nexts : List Span) (is_empty nothing : Bool) (rows more : List (List Outcome)) → AreOfNext olds nexts
+pub so_far_next : (q : Query) (all olds nexts : List Span) (is_empty nothing : Bool) (rows more : List (List Outcome))
+    → AreOfNext olds nexts
     → SoFar q all olds is_empty rows → ShowPiece q nexts more nothing → SoFar q all nexts (is_empty && nothing) (rows ++ more)
 so_far_next q all olds nexts is_empty nothing rows more next so_far piece =
     record {

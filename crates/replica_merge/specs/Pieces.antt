@@ -1,6 +1,6 @@
 -- The groups of several origins, piece by piece. All of this is our own.
-use Rattle.std.specs.Prelude.{◌≡◌, ℕ, ◌-◌, ◌*◌, ◌≤◌, Bool, true, false, List, [], ◌∷◌, length, map, sum_by, drop, slice_range, Option, Some, None}
-use Rattle.std.specs.Prelude.{◌<◌, ◌↔◌, IsTrue, option_map}
+use Rattle.std.specs.Prelude.{◌≡◌, ℕ, ◌*◌, ◌≤◌, Bool, true, false, List, [], ◌∷◌, length, map, sum_by, drop, slice_range}
+use Rattle.std.specs.Prelude.{◌<◌, ◌↔◌, IsTrue, Option, Some, None, option_map}
 use Rattle.std.specs.Borrow.{Bor}
 use Rattle.std.specs.List.{AllByRecursion}
 use Rattle.std.specs.Ordering.{is_lt, nat_cmp}
@@ -14,7 +14,6 @@ use Rattle.agg_protocol.specs.States.{most_rows}
 use Rattle.group_runs.specs.Runs.{Entry}
 use Rattle.group_runs.specs.Standing.{AreGroups}
 use Rattle.hash_agg.specs.Inputs.{Brought, Counted, OneByOne}
-use Rattle.origin_prefix.specs.Parts.{Part}
 use Rattle.replica_merge.specs.Unions.{IsUnion}
 use Rattle.replica_merge.specs.declared.pieces.Span.{Span}
 

@@ -7,7 +7,7 @@ ghost use Rattle.grouping_model.specs.Aggregates.{Outcome};
 ghost use Rattle.having_filter.specs.Meaning.{meaning};
 ghost use Rattle.hash_agg.specs.Inputs.{all_rows, IsInput};
 ghost use Rattle.replica_merge.specs.Replicas.{counted_part};
-ghost use Rattle.replica_merge.specs.Pieces.{groups_of, IsSpan, brought_to, left_by, AreNext, IsEnd, AreOfNext, bound_of};
+ghost use Rattle.replica_merge.specs.Pieces.{IsSpan, brought_to, left_by, AreNext, IsEnd, AreOfNext, bound_of};
 ghost use Rattle.replica_merge.specs.Pieces.{IsCopy, HasGroups, HasLeft, IsPiece, ShowPiece, ShowLeft};
 
 use group_answers::{RowSink, project_into, rows_of_run};

@@ -1,15 +1,10 @@
 //! The parts of all origins.
 
-ghost use Rattle.std.specs.Prelude.{◌≡◌, ◌≢◌, ◌≤◌, None, [], map, length, IfOk, IfSome};
-ghost use Rattle.std.specs.List.{AllByRecursion};
-ghost use Rattle.agg_protocol.specs.States.{most_rows as most_counted};
-ghost use Rattle.having_filter.specs.Meaning.{meaning};
-ghost use Rattle.hash_agg.specs.Inputs.{all_rows, IsInput};
+ghost use Rattle.std.specs.Prelude.{◌≡◌, ◌≢◌, None, map, length, IfOk, IfSome};
 ghost use Rattle.replica_merge.specs.Replicas.{counted_part};
-ghost use Rattle.replica_merge.specs.Unions.{brought_by, IsRunAlone, IsUnion};
+ghost use Rattle.replica_merge.specs.Unions.{brought_by, IsRunAlone};
 
 use hash_agg::Run;
-use having_filter::Query;
 use origin_prefix::OriginPart;
 use std::alloc::{AllocError, Global};
 use std::collections::BTreeMap;

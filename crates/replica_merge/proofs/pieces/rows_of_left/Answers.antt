@@ -72,7 +72,8 @@ returns-then-is_empty-2 g c =
       all.0 ++ more.0,
       g.met.S.RowSink.both c.args.rows.now c.loop-left.rows c.project_into-then-is_empty-2.new.rows all.0 more.0 all.1 more.1,
       so_far_none q c.args.spans.items c.loop-left.left.items c.loop-left.is_empty all.0 more.0 _
-          (λ any. false_is_not_true (sym c.loop-left-test.false ∙ c.has_left.ensures.1 (subst (Any HasLeft) (sym c.deref.ensures.value) any)))
+          (λ any. false_is_not_true (sym c.loop-left-test.false
+          ∙ c.has_left.ensures.1 (subst (Any HasLeft) (sym c.deref.ensures.value) any)))
           c.if-is_empty-2.true all.2 c.new.ensures more.2,
     ))
     c.project_into-then-is_empty-2.ensures
@@ -83,6 +84,7 @@ returns g c =
       all.0,
       all.1,
       so_far_some (meaning c.args.query.now) c.args.spans.items c.loop-left.left.items c.loop-left.is_empty all.0
-          (λ any. false_is_not_true (sym c.loop-left-test.false ∙ c.has_left.ensures.1 (subst (Any HasLeft) (sym c.deref.ensures.value) any)))
+          (λ any. false_is_not_true (sym c.loop-left-test.false
+          ∙ c.has_left.ensures.1 (subst (Any HasLeft) (sym c.deref.ensures.value) any)))
           c.if-is_empty-2.false all.2,
     )
