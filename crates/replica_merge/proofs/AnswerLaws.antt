@@ -27,6 +27,8 @@ use Rattle.packed_rows.specs.ConcatenatedRows.{concatenated}
 use Rattle.hash_agg.specs.Inputs.{Brought, Counted, IsInput, AreInputsOf, all_rows, rows_in}
 use Rattle.origin_prefix.specs.Lemmas.ByNumber.{numbers, above_first, rising_rest}
 use Rattle.replica_merge.specs.Lemmas.ToldLaws.{HasGap, part_gap, prefix_told, origins_told, each_at, part_here}
+use Rattle.replica_merge.specs.declared.pieces.Span.{Span}
+use Rattle.replica_merge.specs.Pieces.{left_by, ShowLeft}
 use Rattle.replica_merge.proofs.UnionLaws.{one_part}
 
 -- ---- inputs
@@ -278,3 +280,18 @@ alone_answer held parts run rows none is all alone given =
     whole_answer held (brought_by parts) run rows none is all
     (one_part (meaning held.query) parts run (listed_inputs held.query held.parts (brought_by parts) is all) alone)
     (run_only held parts run all alone) given
+
+-- ---- pieces
+
+-- the answer that pieces give, before ORDER BY arranges it
+pub pieces_answer : (held : Held) (spans : List Span) (rows : List (List Outcome)) → (meaning held.query).arrangement ≡ unarranged
+    → AreHeldParts held.query held.parts → left_by spans ≡ map counted_part held.parts
+    → (show : ShowLeft (meaning held.query) spans rows) → IsOnlyRun held show.run → IsAnswerOf held rows
+pieces_answer held spans rows none is all show alone =
+    whole_answer held (left_by spans) show.run rows none is all show.union alone show.shown
+
+-- rows of pieces that are arranged are what the groups of their run show
+pub arranged_shown : (q : Query) (spans : List Span) (given rows : List (List Outcome)) → rows ≡ arranged q.arrangement given
+    → (show : ShowLeft q spans given) → ShownBy q show.run rows
+arranged_shown q spans given rows is show =
+    λ most groups low are. is ∙ ap (arranged q.arrangement) (show.shown most groups low are)

@@ -1,5 +1,5 @@
 -- The groups of several origins in one run. All of this is our own.
-use Rattle.std.specs.Prelude.{◌≡◌, ℕ, All, List, [], ◌∷◌, ◌++◌, length, map}
+use Rattle.std.specs.Prelude.{◌≡◌, ℕ, All, List, [], ◌∷◌, length, map}
 use Rattle.std.specs.Borrow.{Bor}
 use Rattle.grouping_model.specs.Datum.{Row}
 use Rattle.grouping_model.specs.Query.{Query}
@@ -9,10 +9,9 @@ use Rattle.grouping_model.specs.Grouping.{Group, part}
 use Rattle.grouping_model.specs.World.{World, IsWorld}
 use Rattle.packed_rows.specs.Columns.{kinds}
 use Rattle.packed_rows.specs.ConcatenatedRows.{concatenated}
-use Rattle.group_runs.specs.Adding.{groups_added}
 use Rattle.group_runs.specs.Runs.{Entry}
 use Rattle.group_runs.specs.Standing.{AreGroups, IsRun}
-use Rattle.hash_agg.specs.Inputs.{Brought, Packed, Counted, all_rows, AreInputsOf, OneByOne}
+use Rattle.hash_agg.specs.Inputs.{Brought, all_rows, AreInputsOf}
 use Rattle.origin_prefix.specs.Parts.{Part}
 use Rattle.having_filter.specs.Meaning.{meaning}
 use Rattle.replica_merge.specs.Replicas.{Held, Fits, told, counted, counted_part}
@@ -21,36 +20,11 @@ use Rattle.replica_merge.specs.Replicas.{Held, Fits, told, counted, counted_part
 abbrev pub brought_by : List (Bor Part) → List Brought
 brought_by parts = map (λ (p : Bor Part). counted p.now) parts
 
--- lists of groups that are added to one another, two at a time
-pub data Sum : Type 0 where
-  Nothing : Sum
-  Groups : List Group → Sum
-  Added : Sum → Sum → Sum
-
--- the lists, in their order, and the groups that they add up to
-abbrev pub summands : Sum → List (List Group)
-summands Nothing = []
-summands (Groups groups) = groups ∷ []
-summands (Added front back) = summands front ++ summands back
-
-abbrev pub added_up : Query → Sum → List Group
-added_up query Nothing = []
-added_up query (Groups groups) = groups
-added_up query (Added front back) = groups_added query (added_up query front) (added_up query back)
-
--- groups for which the run of an input stands
-abbrev pub StandsForGroups : Query → Brought → List Group → Type 0
-StandsForGroups query (Counted run rows) groups = AreGroups query rows run groups
-StandsForGroups query (Packed rows) groups = ⊥
-
--- a run has the groups of all of these inputs: it is a run of the query. Where the inputs stand for lists of rows, it has the groups of all
--- of these rows. And for whatever groups the runs of the inputs stand, it stands for these added to one another, in their order. So much
--- is said of a summary that was read, too, whose states may be those of no rows
+-- a run has the groups of all of these inputs: it is a run of the query, and where all inputs stand for lists of rows, it has the groups of
+-- all of these rows. Of inputs that stand for no rows no more is said
 pub record IsUnion (query : Query) (inputs : List Brought) (run : List Entry) : Type 0 where
   pub part : (lists : List (List Row)) → AreInputsOf query inputs lists
       → AreGroups query (all_rows inputs) run (part query (concatenated lists))
-  pub groups : (those : List (List Group)) → OneByOne (StandsForGroups query) inputs those
-      → (sum : Sum) × (summands sum ≡ those) × AreGroups query (all_rows inputs) run (added_up query sum)
   pub is_run : IsRun query (all_rows inputs) run
 
 -- a run is that of the only part
