@@ -1,6 +1,6 @@
 //! The commands on files.
 
-ghost use Rattle.std.specs.Prelude.{◌≡◌, ◌≢◌, ◌+◌, ◌^◌, ◌<◌, ◌≤◌, ◌⊎◌, ℕ, false, List, Option, Some, length, IfOk, IfErr, OnOk};
+ghost use Rattle.std.specs.Prelude.{◌≡◌, ◌≢◌, ◌+◌, ◌^◌, ◌<◌, ◌≤◌, ℕ, false, List, Option, Some, length, IfOk, IfErr, OnOk};
 ghost use Rattle.grouping_model.specs.Replies.{known_list};
 ghost use Rattle.replica_merge.specs.Replicas.{told};
 ghost use Rattle.script_io.specs.Fused.{has_failed};
