@@ -13,7 +13,6 @@ use Rattle.replica_merge.specs.Replicas.{Held, told}
 use Rattle.replies.specs.KnownTables.{known_in}
 use Rattle.replies.specs.declared.showing.Format.{Format}
 use Rattle.replies.specs.declared.showing.KnownFormat.{KnownFormat}
-use Rattle.file_sentences.specs.declared.reasons.FileKind.{FileKind}
 use Rattle.command_words.specs.declared.subcommands.Subcommand.{Subcommand}
 use Rattle.command_words.specs.declared.subcommands.Subcommand.TheVariants.{New, Feed, Merge, Known, Answer}
 use Rattle.command_files.specs.Reporting.{output_of, OnlySays, Prints, PrintsTable, Saves}

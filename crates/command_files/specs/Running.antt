@@ -7,6 +7,7 @@ use Rattle.hash_agg.specs.Means.{MeansState}
 use Rattle.hash_agg.specs.declared.work.Work.{Work}
 use Rattle.tape_disks.specs.Files.{SystemState}
 use Rattle.tape_disks.specs.declared.spill_disk.SpillDisk.{SpillDisk}
+use Rattle.script_io.specs.Fused.{has_failed}
 use Rattle.summary_codec.specs.Reading.{IsSaved}
 use Rattle.replica_merge.specs.Replicas.{Held, told}
 use Rattle.replica_merge.specs.Results.{IsLoaded}
@@ -24,6 +25,7 @@ use Rattle.command_words.specs.declared.subcommands.Subcommand.TheVariants.{New,
 use Rattle.command_files.specs.Reporting.{file_on_output, output_of, reply_on_output}
 use Rattle.command_files.specs.Taking.{CommandState, Manner, TakesAll, manner_of, state_of}
 use Rattle.command_files.specs.declared.reporter.Reporter.{Reporter}
+use Rattle.command_files.specs.declared.session.Session.{Session}
 
 -- the replica that a command begins with: of the texts of columns and a query, or of a summary file
 abbrev pub BeginsWith : Subcommand → Held → Type 0
@@ -106,3 +108,11 @@ pub record IsDone (F : Type 0) (subcommand : Subcommand) (limit : ℕ) (old new 
   pub limited : means.limit ≡ limit
   pub begun : from.output ≡ old
   pub runs : RunsCommand subcommand means from 0 new
+
+-- what standard output holds in a session, if that is known
+abbrev pub session_output : {R I W E A B : Type 0} → (W → Option (List ℕ)) → Session R I W E A B → Option (List ℕ)
+session_output contents session = output_of contents session.reporter
+
+-- whether a call of standard output failed in it
+abbrev pub session_failed : {R I W E A B : Type 0} → Session R I W E A B → Bool
+session_failed session = has_failed session.reporter.streams.writer.now

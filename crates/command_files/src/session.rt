@@ -1,9 +1,9 @@
 //! The commands on files.
 
-ghost use Rattle.std.specs.Prelude.{◌≡◌, ◌≢◌, ◌+◌, ◌^◌, ◌<◌, ◌≤◌, ◌⊎◌, ℕ, false, List, Option, Some, length, IfOk, IfErr, OnOk};
+ghost use Rattle.std.specs.Prelude.{◌≡◌, ◌≢◌, ◌+◌, ◌^◌, ◌<◌, ◌≤◌, ℕ, false, List, Option, Some, length, IfOk, IfErr, OnOk};
 ghost use Rattle.grouping_model.specs.Replies.{known_list};
 ghost use Rattle.replica_merge.specs.Replicas.{told};
-ghost use Rattle.script_io.specs.Fused.{has_failed};
+ghost use Rattle.script_io.specs.Fused.{written};
 ghost use Rattle.replies.specs.KnownTables.{known_in};
 ghost use Rattle.replies.specs.declared.ending.ExitKind.TheVariants.{Done, Fault};
 ghost use Rattle.replies.specs.declared.reply.Reply.TheVariants.{Refused};
@@ -12,7 +12,7 @@ ghost use Rattle.command_streams.specs.Stopping.{ending_of, EndsRefused};
 ghost use Rattle.command_files.specs.Ending.{ending_beside};
 ghost use Rattle.command_files.specs.Formats.{format_told, known_format_told};
 ghost use Rattle.command_files.specs.Reporting.{output_of, file_on_output, reply_on_output, OnlySays, Prints, PrintsTable, Saves};
-ghost use Rattle.command_files.specs.Running.{standpoint_of, BeginsWith, IsDone, Performs, RunsCommand, TakesAndSaves};
+ghost use Rattle.command_files.specs.Running.{session_failed, session_output, standpoint_of, BeginsWith, IsDone, Performs, RunsCommand, TakesAndSaves};
 ghost use Rattle.command_files.specs.Taking.{manner_of, state_of, taken, RanFile, StopsAt, TakesFile, TakesAll};
 
 use crate::limit::{means_of, said_of_limit};
@@ -89,7 +89,9 @@ impl<'c, R: Files + AllocGlobal + RandomSource, I: Read, W: Write, E: Write> Ses
     E,
 > {
     /// A command that has done nothing yet. It spills to memory.
-    pub fn new(inputs: Inputs<'c, R, I>, streams: Streams<'c, W, E>) -> Session<'c, R, I, W, E> {
+    pub fn new(inputs: Inputs<'c, R, I>, streams: Streams<'c, W, E>) -> Session<'c, R, I, W, E>
+        ensures { session_output W.contents result ≡ written W.contents streams.entry.writer.now }
+    {
         let alloc = inputs.rt.alloc();
         Session {
             inputs,
@@ -554,9 +556,9 @@ impl<'c, R: Files + AllocGlobal + RandomSource, I: Read, W: Write, E: Write> Ses
 
     /// Runs a command on files, and answers how it ended.
     pub fn run(&mut self, subcommand: Subcommand, matches: &ArgMatches<'_>) -> ExitKind
-        ensures done { result ≡ Done → (limit : ℕ) × IsDone R.File subcommand limit (output_of W.contents self.old.reporter)
-            (output_of W.contents self.new.reporter) }
-        ensures sent { result ≡ Done → has_failed self.new.reporter.streams.writer.now ≡ false }
+        ensures done { result ≡ Done → (limit : ℕ) × IsDone R.File subcommand limit (session_output W.contents self.old)
+            (session_output W.contents self.new) }
+        ensures sent { result ≡ Done → session_failed self.new ≡ false }
     {
         let rt = self.inputs.rt;
         let is_piped = matches!(subcommand.out(matches), Some(out) if is_stream(out));

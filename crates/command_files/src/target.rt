@@ -1,6 +1,6 @@
 //! OUT, beside the files that a command reads.
 
-ghost use Rattle.std.specs.Prelude.{◌≡◌, ◌≢◌, ◌↔◌, ◌⊎◌, ℕ, None, Some, true, false, Result, Ok, IfOk, IsOk, IsTrue};
+ghost use Rattle.std.specs.Prelude.{◌≡◌, ◌≢◌, ◌↔◌, ◌⊎◌, ℕ, None, Some, true, false, Result, Ok, IfOk, IsTrue};
 ghost use Rattle.file_sentences.specs.Standing.{is_foreign};
 ghost use Rattle.file_sentences.specs.declared.out.Fate.TheVariants.{Forced, Kept, Spared};
 ghost use Rattle.out_files.specs.declared.occupant.Occupant.TheVariants.{Another, Listed, Nothing, Special};

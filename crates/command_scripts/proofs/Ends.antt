@@ -1,5 +1,5 @@
 -- How the command `script` ends.
-use Rattle.std.specs.Prelude.{◌≡◌, refl, ℕ, ◌⊎◌, Bool, true, false, List, Option, Result, Ok, Err, IsTrue, OnOk}
+use Rattle.std.specs.Prelude.{◌≡◌, refl, ℕ, Bool, true, false, List, Option, Result, Ok, Err, IsTrue, OnOk}
 use Rattle.std.proofs.Common.{◌∙◌, sym, subst, inl, inr}
 use Rattle.key_hashes.specs.declared.sip_hash.Seed.{Seed}
 use Rattle.tape_disks.specs.Chosen.{is_honest}
@@ -8,10 +8,9 @@ use Rattle.tape_disks.specs.declared.disk.TapeDisk.{Ghosts}
 use Rattle.tape_disks.specs.declared.seekable_file.SeekableFile as seekable
 use Rattle.tape_disks.specs.declared.spill_disk.SpillDisk.{SpillDisk}
 use Rattle.tape_disks.specs.declared.spill_disk.SpillDisk.TheVariants.{Memory, File}
-use Rattle.script_io.specs.Fused.{unread, written}
+use Rattle.script_io.specs.Fused.{unread}
 use Rattle.script_io.specs.declared.fused.Fused.{Fused}
-use Rattle.replies.specs.Status.{run_ending, refusal_ending}
-use Rattle.replies.specs.Text.{said_text}
+use Rattle.replies.specs.Status.{run_ending}
 use Rattle.replies.specs.declared.ending.ExitKind.{ExitKind}
 use Rattle.replies.specs.declared.ending.ExitKind.TheVariants.{Done, Fault}
 use Rattle.replies.specs.declared.ending.Outcome.{Outcome}

@@ -14,10 +14,10 @@ was_done true exit result sent failed done = let e : Fault ≡ Done = sym (faile
 
 pub returns-clause-done : goal.returns-clause-done
 returns-clause-done g c is =
-    let done = c.run_looked-exit.ensures (was_done (has_failed c.finish.new.self.streams.writer.now) c.run_looked-exit.result c.finish.result
-    c.finish.ensures.sent c.finish.ensures.failed is) in (
-      done.0,
-      done_kept _ c.args.subcommand done.0 _ _ _ c.finish.ensures.keeps
-          (done_behind _ g.W.Write.contents c.args.subcommand done.0 c.args.self.now.reporter c.set_piped.new.self _ c.set_piped.ensures.output
-          done.1),
-    )
+    let told = c.finish.ensures in
+    let exit = c.run_looked-exit.result in
+    let was = was_done (has_failed c.finish.new.self.streams.writer.now) exit c.finish.result told.sent told.failed is in
+    let done = c.run_looked-exit.ensures was in
+    let begun = done_behind _ g.W.Write.contents c.args.subcommand done.0 c.args.self.now.reporter c.set_piped.new.self _
+    c.set_piped.ensures.output done.1 in
+    (done.0, done_kept _ c.args.subcommand done.0 _ _ _ told.keeps begun)

@@ -1,8 +1,7 @@
 use Rattle.std.specs.Prelude.{◌≡◌, refl, ℕ, ◌+◌, ◌<◌, ◌^◌, length}
 use Rattle.std.proofs.Common.{◌∙◌, arith, rules, subst}
-use Rattle.command_streams.specs.Disks.{is_in_memory}
 use Rattle.command_files.specs.Reporting.{output_of}
-use Rattle.command_files.specs.Taking.{StopsAt, TakesAll, manner_of, state_of}
+use Rattle.command_files.specs.Taking.{TakesAll, manner_of, state_of}
 use Rattle.command_files.proofs.TakingLaws.{takes_as, takes_more, takes_none_yet}
 use Rattle.command_files.proofs.session.Session.take_files.Goals as goal
 
@@ -34,11 +33,12 @@ loop-path-preserved g c =
       disk = c.take_or_pass.ensures.disk ∙ before.disk;
       piped = c.in_ok-take_or_pass.ensures.piped ∙ before.piped;
       listed = c.take_or_pass.ensures.listed ∙ before.listed;
-      taken = takes_more manner 1 c.loop-path.path-index 1 _ _ _ _ _ _ before.taken
-          (subst (λ n. TakesAll manner n 1
-          (state_of c.loop-path.replica c.loop-path.self.disk c.loop-path.self.work (output_of g.W.Write.contents c.loop-path.self.reporter))
+      taken = takes_more manner 1 c.loop-path.path-index 1 _ _ _ _ _ _ before.taken (subst (λ n. TakesAll manner n 1
+          (state_of c.loop-path.replica c.loop-path.self.disk c.loop-path.self.work
+          (output_of g.W.Write.contents c.loop-path.self.reporter))
           (state_of c.take_or_pass.new.replica c.take_or_pass.new.self.disk c.take_or_pass.new.self.work
-          (output_of g.W.Write.contents c.take_or_pass.new.self.reporter)) c.loop-path.self.passed c.take_or_pass.new.self.passed) next took);
+          (output_of g.W.Write.contents c.take_or_pass.new.self.reporter)) c.loop-path.self.passed c.take_or_pass.new.self.passed) next
+          took);
     }
 
 pub returns-clause-takes : goal.returns-clause-takes
