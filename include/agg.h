@@ -101,8 +101,9 @@ typedef struct {
  * two seeds are those of the table's hash function: give random numbers if others choose the keys, so that nobody can choose keys that make
  * it slow. No result depends on them.
  *
- * Refusals, in this order: AGG_ALREADY_OPEN; AGG_LIMIT_OUT_OF_RANGE; AGG_BAD_COMMAND; AGG_BAD_SCHEMA; 20 to 28. agg_reason explains them.
- * After a refusal close the slot, or call again, which may succeed.
+ * Refusals, in this order: AGG_ALREADY_OPEN; AGG_LIMIT_OUT_OF_RANGE; AGG_BAD_COMMAND; AGG_BAD_SCHEMA; 20 to 28. agg_reason explains those
+ * from 10 on. After a refusal close the slot, or call again, which may succeed. If there is no memory for what an empty slot is to keep,
+ * the status is AGG_NO_MEMORY, the slot stays empty, and agg_reason returns AGG_NOT_OPEN.
  */
 uint32_t agg_new(agg_slot *slot, const uint8_t *columns, size_t columns_len, const uint8_t *query, size_t query_len, uint64_t limit,
                  uint64_t seed_low, uint64_t seed_high);
@@ -111,7 +112,7 @@ uint32_t agg_new(agg_slot *slot, const uint8_t *columns, size_t columns_len, con
  * Opens the summary of a summary file, in either version of the format. Any bytes may be given.
  *
  * Refusals, in this order: AGG_ALREADY_OPEN; AGG_LIMIT_OUT_OF_RANGE; and the first fault of the bytes, AGG_BAD_SCHEMA, 20 to 28 or 40 to
- * 46. A file of more than 67,108,864 bytes is read, but its summary cannot be saved again.
+ * 46. A file of more than 67,108,864 bytes is read, but its summary cannot be saved again. An empty slot stays empty as for agg_new.
  */
 uint32_t agg_load(agg_slot *slot, const uint8_t *file, size_t file_len, uint64_t limit, uint64_t seed_low, uint64_t seed_high);
 
@@ -183,11 +184,12 @@ typedef struct {
 } agg_place;
 
 /*
- * The sentence on the last call on the slot that ended with AGG_NO_MEMORY or a status from 10 on, and its place; no bytes if none did. It
- * is for people, and is what agg_tool writes on standard error: one line, and for columns or a query two more, the text and a caret under
- * the place. Lines of a batch are counted as in its file, where the head is line 1, for agg_feed_rows, too. If memory ran out for it, it is a
- * short one. Its words may change. Call it before other calls on the slot. It also works on a slot without a summary, after a refusal of
- * agg_new or agg_load. Refusal: AGG_NOT_OPEN for an empty slot.
+ * The sentence on the last call on the slot, apart from agg_reason, that ended with AGG_NO_MEMORY or a status from 10 on, and its place; no
+ * bytes and no place if none did. Calls that ended otherwise leave it as it is. It is for people, and is what agg_tool writes on standard
+ * error: one line, and for columns or a query two more, the text and a caret under the place. Lines of a batch are counted as in its file,
+ * where the head is line 1, for agg_feed_rows, too. If memory ran out for it, it is a short one. Its words may change. It also works on a
+ * slot without a summary, after a refusal of agg_new or agg_load. Refusals: AGG_NOT_OPEN for an empty slot, and AGG_NO_MEMORY, which
+ * changes nothing.
  */
 uint32_t agg_reason(agg_slot *slot, agg_place *place, size_t *wanted);
 

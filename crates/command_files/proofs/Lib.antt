@@ -1,1 +1,3 @@
 pub mod TakingLaws
+pub mod ReportingLaws
+pub mod RunningLaws

@@ -2,3 +2,6 @@ pub mod Limits
 pub mod Taking
 pub mod Fates
 pub mod Formats
+pub mod Reporting
+pub mod Ending
+pub mod Running

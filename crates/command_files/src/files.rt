@@ -57,7 +57,8 @@ pub(crate) fn front_kind<'p, R: Files>(rt: &R, path: &'p str) -> Result<FrontKin
     }
 }
 
-/// Tries before the work whether the files that a command reads can be read, and whether OUT can be written, and how. Streams are not tried.
+/// Tries before the work whether the files that a command reads can be read, and whether OUT can be written, and how. Streams are not
+/// tried.
 pub(crate) fn try_files<'p, R: Files + AllocGlobal>(
     rt: &R,
     subcommand: Subcommand,

@@ -1,14 +1,20 @@
 //! The replica that a command begins with, what a file brings to it, and its summary file.
 
-ghost use Rattle.std.specs.Prelude.{IfOk, IfErr};
+ghost use Rattle.std.specs.Prelude.{◌≡◌, ◌≢◌, ◌⊎◌, ℕ, List, true, IfOk, IfErr, string_bytes};
+ghost use Rattle.std.specs.Io.KnownBytes.{Consumes, IsAtEnd};
+ghost use Rattle.script_io.specs.Fused.{unread};
 ghost use Rattle.summary_codec.specs.Reading.{IsSaved};
-ghost use Rattle.command_replicas.specs.Commands.{IsTooLong};
+ghost use Rattle.replica_merge.specs.Results.{IsLoaded};
+ghost use Rattle.replies.specs.declared.refusal.Refusal.TheVariants.{NoMemory};
+ghost use Rattle.command_replicas.specs.Commands.{IsNew, IsNotNew, IsNoSummary, IsTooLong};
+ghost use Rattle.command_words.specs.Streams.{is_stream};
+ghost use Rattle.command_streams.specs.Inputs.{IsUnread};
 ghost use Rattle.key_hashes.specs.Hashes.{fnv_1a};
 ghost use Rattle.hash_agg.specs.Ran.{Ran};
 ghost use Rattle.replies.specs.Refusals.{refusal_ended};
 ghost use Rattle.command_files.specs.Taking.{Takes, TakeIsCounted};
 
-use crate::texts::{TextOption, read_text};
+use crate::texts::{TextOption, Told, read_text};
 use clap::ArgMatches;
 use command_replicas::SummaryFile;
 use command_streams::{Inputs, Problem};
@@ -25,7 +31,12 @@ use std::rt::Files;
 pub(crate) fn open_replica<'p, R: Files + AllocGlobal, I: Read>(
     inputs: &mut Inputs<'_, R, I>,
     path: &'p str,
-) -> Result<(Replica, Vec<u8>), Problem<'p>> {
+) -> Result<(Replica, Vec<u8>), Problem<'p>>
+    ensures loaded { IfOk result (λ opened. IsLoaded opened.1.items opened.0) }
+    ensures standard { is_stream path.entry.now ≡ true → IfOk result (λ opened. Consumes (unread I.remaining inputs.old.reader.now)
+        (unread I.remaining inputs.new.reader.now) opened.1.items × IsAtEnd (unread I.remaining inputs.new.reader.now)) }
+    ensures why { IfErr result (λ problem. IsUnread problem.why ⊎ ((file : List ℕ) × IsNoSummary file problem.why)) }
+{
     let alloc = inputs.rt.alloc();
     let file = inputs.read(path)?;
     match command_replicas::load(alloc, &file) {
@@ -51,14 +62,16 @@ const QUERY_TEXT: TextOption = TextOption {
     file: QUERY_FILE,
 };
 
-/// The replica of the texts that a command line tells, or files that it names, which knows nothing.
-pub(crate) fn new_replica<'p, R: Files + AllocGlobal, I: Read>(
-    inputs: &mut Inputs<'_, R, I>,
-    matches: &ArgMatches<'p>,
-) -> Result<Replica, Problem<'p>> {
-    let columns = read_text(inputs, matches, COLUMNS_TEXT)?;
-    let query = read_text(inputs, matches, QUERY_TEXT)?;
-    let alloc = inputs.rt.alloc();
+/// The replica of two texts, which knows nothing.
+fn replica_of<'p>(
+    alloc: Global,
+    columns: &Told<'p>,
+    query: &Told<'p>,
+) -> Result<Replica, Problem<'p>>
+    ensures made { IfOk result (IsNew (string_bytes columns.now.text) (string_bytes query.now.text)) }
+    ensures why { IfErr result (λ problem. problem.why ≢ NoMemory →
+        IsNotNew (string_bytes columns.now.text) (string_bytes query.now.text) problem.why) }
+{
     match command_replicas::create(alloc, columns.text(), query.text()) {
         Ok(replica) => Ok(replica),
         Err(Refusal::BadSchema) => {
@@ -70,6 +83,18 @@ pub(crate) fn new_replica<'p, R: Files + AllocGlobal, I: Read>(
             Err(Problem::because(query.subject, why, reason))
         }
     }
+}
+
+/// The replica of the texts that a command line tells, or files that it names, which knows nothing.
+pub(crate) fn new_replica<'p, R: Files + AllocGlobal, I: Read>(
+    inputs: &mut Inputs<'_, R, I>,
+    matches: &ArgMatches<'p>,
+) -> Result<Replica, Problem<'p>>
+    ensures made { IfOk result (λ replica. (columns query : List ℕ) × IsNew columns query replica) }
+{
+    let columns = read_text(inputs, matches, COLUMNS_TEXT)?;
+    let query = read_text(inputs, matches, QUERY_TEXT)?;
+    replica_of(inputs.rt.alloc(), &columns, &query)
 }
 
 /// Takes the bytes of a file into a replica, and gives the reply: its batch is fed, or the replica of its summary is merged.

@@ -1,6 +1,16 @@
 //! What a command replies and says while it runs.
 
-ghost use Rattle.command_streams.specs.Stopping.{EndsRefused};
+ghost use Rattle.std.specs.Prelude.{◌≡◌, ◌≢◌, ℕ, List, [], true, false, IfErr, OnOk};
+ghost use Rattle.std.specs.Io.KnownBytes.{Keeps};
+ghost use Rattle.script_io.specs.Fused.{has_failed};
+ghost use Rattle.replies.specs.Text.{said_text};
+ghost use Rattle.replies.specs.declared.ending.ExitKind.TheVariants.{Fault};
+ghost use Rattle.replies.specs.declared.error.RunError.TheVariants.{WriteFault};
+ghost use Rattle.replies.specs.declared.refusal.Refusal.TheVariants.{Run};
+ghost use Rattle.replies.specs.declared.reply.Reply.TheVariants.{Refused};
+ghost use Rattle.replies.specs.declared.showing.Format.TheVariants.{Aligned};
+ghost use Rattle.command_streams.specs.Stopping.{ending_of, EndsRefused, RepliesRefused};
+ghost use Rattle.command_files.specs.Reporting.{output_of, reply_on_output, OnlySays, Prints};
 
 use command_replicas::SummaryFile;
 use command_streams::{
@@ -41,7 +51,10 @@ pub(crate) struct Reporter<'c, W, E> {
 
 impl<'c, W: Write, E: Write> Reporter<'c, W, E> {
     /// Nothing was said yet.
-    pub(crate) fn new(streams: Streams<'c, W, E>) -> Reporter<'c, W, E> {
+    pub(crate) fn new(streams: Streams<'c, W, E>) -> Reporter<'c, W, E>
+        ensures streams { result.streams ≡ streams.entry }
+        ensures piped { result.is_piped ≡ false }
+    {
         Reporter {
             streams,
             is_piped: false,
@@ -52,12 +65,17 @@ impl<'c, W: Write, E: Write> Reporter<'c, W, E> {
     }
 
     /// Whether OUT is standard output.
-    pub(crate) fn is_piped(&self) -> bool {
+    pub(crate) fn is_piped(&self) -> bool
+        ensures { result ≡ self.now.is_piped }
+    {
         self.is_piped
     }
 
     /// OUT is standard output, or not.
-    pub(crate) fn set_piped(&mut self, is_piped: bool) {
+    pub(crate) fn set_piped(&mut self, is_piped: bool)
+        ensures piped { self.new.is_piped ≡ is_piped }
+        ensures output { self.new.streams.writer.now ≡ self.old.streams.writer.now }
+    {
         self.is_piped = is_piped;
     }
 
@@ -72,12 +90,16 @@ impl<'c, W: Write, E: Write> Reporter<'c, W, E> {
     }
 
     /// So many files are to be taken.
-    pub(crate) fn set_files(&mut self, files: usize) {
+    pub(crate) fn set_files(&mut self, files: usize)
+        ensures says { OnlySays self.old self.new }
+    {
         self.files = files;
     }
 
     /// Progress is told where it was asked for, or where standard error is a terminal and the replies are not seen there.
-    pub(crate) fn set_progress(&mut self, is_asked: bool) {
+    pub(crate) fn set_progress(&mut self, is_asked: bool)
+        ensures says { OnlySays self.old self.new }
+    {
         let terminals = self.streams.terminals;
         // Replies on the same terminal tell as much.
         let are_replies_seen = terminals.output || self.is_piped;
@@ -85,12 +107,17 @@ impl<'c, W: Write, E: Write> Reporter<'c, W, E> {
     }
 
     /// Writes a sentence.
-    pub(crate) fn say<T: Display>(&mut self, sentence: &T) {
+    pub(crate) fn say<T: Display>(&mut self, sentence: &T)
+        ensures says { OnlySays self.old self.new }
+    {
         self.streams.say(sentence);
     }
 
     /// Writes a reply: to standard error, where OUT is standard output.
-    pub(crate) fn reply(&mut self, reply: &Reply<'_>) -> Result<(), Problem<'static>> {
+    pub(crate) fn reply(&mut self, reply: &Reply<'_>) -> Result<(), Problem<'static>>
+        ensures replied { OnOk result (Prints W.contents self.old self.new (reply_on_output self.old.is_piped reply.now)) }
+        ensures fault { IfErr result (λ problem. problem.why ≡ Run WriteFault) }
+    {
         if self.is_piped {
             put_beside(self.streams.errors, reply);
             return Ok(());
@@ -102,7 +129,10 @@ impl<'c, W: Write, E: Write> Reporter<'c, W, E> {
     }
 
     /// Writes a text.
-    pub(crate) fn print(&mut self, text: &[u8]) -> Result<(), Problem<'static>> {
+    pub(crate) fn print(&mut self, text: &[u8]) -> Result<(), Problem<'static>>
+        ensures printed { OnOk result (Prints W.contents self.old self.new text.now) }
+        ensures fault { IfErr result (λ problem. problem.why ≡ Run WriteFault) }
+    {
         match put_all(self.streams.writer, text) {
             Ok(()) => Ok(()),
             Err(_) => Err(self.streams.output_fault()),
@@ -110,7 +140,10 @@ impl<'c, W: Write, E: Write> Reporter<'c, W, E> {
     }
 
     /// Writes a summary file to standard output, and sends it out.
-    pub(crate) fn print_summary(&mut self, file: &SummaryFile) -> Result<(), Problem<'static>> {
+    pub(crate) fn print_summary(&mut self, file: &SummaryFile) -> Result<(), Problem<'static>>
+        ensures printed { OnOk result (Prints W.contents self.old self.new file.now) }
+        ensures fault { IfErr result (λ problem. problem.why ≡ Run WriteFault) }
+    {
         self.print(file.bytes())?;
         match self.streams.writer.flush() {
             Ok(()) => Ok(()),
@@ -123,45 +156,78 @@ impl<'c, W: Write, E: Write> Reporter<'c, W, E> {
         &mut self,
         problem: &'t Problem<'_>,
         output: Option<OutputStatus<'t>>,
-    ) {
-        if !problem.is_unread() {
-            self.streams.say(&Diagnostic { problem, output });
+    )
+        ensures says { OnlySays self.old self.new }
+    {
+        if problem.is_unread() {
+            return;
         }
+        self.streams.say(&Diagnostic { problem, output });
     }
 
     /// Says that the last line of a batch file has no end, where a reply tells that it was taken.
-    pub(crate) fn tell_cut(&mut self, path: &str, file: &[u8], reply: &Reply<'_>) {
-        if is_cut(file, reply) {
-            self.streams.say(&CutShort { path });
+    pub(crate) fn tell_cut(&mut self, path: &str, file: &[u8], reply: &Reply<'_>)
+        ensures says { OnlySays self.old self.new }
+    {
+        if !is_cut(file, reply) {
+            return;
         }
+        self.streams.say(&CutShort { path });
     }
 
     /// Tells how far the command is: the reply to a file.
-    fn tell_progress(&mut self, path: &str, reply: &Reply<'_>) {
+    fn tell_progress(&mut self, path: &str, reply: &Reply<'_>)
+        ensures says { OnlySays self.old self.new }
+    {
         self.taken = self.taken.saturating_add(1);
         if !self.tells_progress {
             return;
         }
-        // Nothing is left to do where there is no memory for the line.
-        if let Ok(text) = text_of(self.streams.alloc, reply) {
-            self.streams.say(&Progress {
-                place: self.taken,
-                files: self.files,
-                path,
-                reply: &text,
-            });
-        }
+        let Ok(text) = text_of(self.streams.alloc, reply) else {
+            // Nothing is left to do where there is no memory for the line.
+            return;
+        };
+        self.streams.say(&Progress {
+            place: self.taken,
+            files: self.files,
+            path,
+            reply: &text,
+        });
     }
 
     /// Replies to a file, and tells how far the command is.
-    pub(crate) fn reply_to(
-        &mut self,
-        path: &str,
-        reply: &Reply<'_>,
-    ) -> Result<(), Problem<'static>> {
+    pub(crate) fn reply_to(&mut self, path: &str, reply: &Reply<'_>) -> Result<(), Problem<'static>>
+        ensures replied { OnOk result (Prints W.contents self.old self.new (reply_on_output self.old.is_piped reply.now)) }
+        ensures fault { IfErr result (λ problem. problem.why ≡ Run WriteFault) }
+    {
         self.reply(reply)?;
         self.tell_progress(path, reply);
         Ok(())
+    }
+
+    /// Puts a line at the foot of an aligned table. Another table has no foot.
+    fn put_foot(&mut self, line: &str, format: Format) -> Result<(), Problem<'static>>
+        ensures put { OnOk result ((foot : List ℕ) × Prints W.contents self.old self.new foot × (format ≢ Aligned → foot ≡ [])) }
+        ensures fault { IfErr result (λ problem. problem.why ≡ Run WriteFault) }
+    {
+        match format {
+            Format::Aligned => {
+                self.print(line.as_bytes())?;
+                self.print(b"\n")?;
+                Ok(())
+            }
+            Format::Csv | Format::Tsv | Format::Json => Ok(()),
+        }
+    }
+
+    /// Writes a sentence, unless it is seen already.
+    fn say_unseen(&mut self, line: &String, is_seen: bool)
+        ensures says { OnlySays self.old self.new }
+    {
+        if is_seen {
+            return;
+        }
+        self.streams.say(line);
     }
 
     /// Tells which batches an answer does not count, since they wait for others: on standard error, and at the foot of an aligned table.
@@ -170,23 +236,23 @@ impl<'c, W: Write, E: Write> Reporter<'c, W, E> {
         &mut self,
         lines: &[String],
         format: Format,
-    ) -> Result<(), Problem<'static>> {
+    ) -> Result<(), Problem<'static>>
+        ensures told { OnOk result ((foot : List ℕ) × Prints W.contents self.old self.new foot × (format ≢ Aligned → foot ≡ [])) }
+        ensures fault { IfErr result (λ problem. problem.why ≡ Run WriteFault) }
+    {
         let has_foot = matches!(format, Format::Aligned);
         let is_seen = has_foot && self.streams.terminals.output && self.streams.terminals.errors;
         for line in lines {
-            if has_foot {
-                self.print(line.as_bytes())?;
-                self.print(b"\n")?;
-            }
-            if !is_seen {
-                self.streams.say(line);
-            }
+            self.put_foot(line, format)?;
+            self.say_unseen(line, is_seen);
         }
         Ok(())
     }
 
     /// Removes the file in which the tapes lay. If it can't be removed, a sentence says so.
-    pub(crate) fn remove_disk<R: Files>(&mut self, rt: &R, spill: Option<&str>) {
+    pub(crate) fn remove_disk<R: Files>(&mut self, rt: &R, spill: Option<&str>)
+        ensures says { OnlySays self.old self.new }
+    {
         remove_disk(rt, self.streams.alloc, spill, self.streams.errors);
     }
 
@@ -196,7 +262,10 @@ impl<'c, W: Write, E: Write> Reporter<'c, W, E> {
         problem: Problem<'_>,
         output: Option<OutputStatus<'_>>,
     ) -> ExitKind
-        ensures { EndsRefused problem.entry.why result }
+        ensures ends { EndsRefused problem.entry.why result }
+        ensures piped { self.old.is_piped ≡ true → result ≡ ending_of problem.entry.why }
+        ensures replied { self.old.is_piped ≡ false → RepliesRefused (said_text (Refused problem.entry.why))
+            (output_of W.contents self.old) (output_of W.contents self.new) problem.entry.why result }
     {
         self.complain(&problem, output);
         if self.is_piped {
@@ -209,14 +278,19 @@ impl<'c, W: Write, E: Write> Reporter<'c, W, E> {
     }
 
     /// Sends out what was gathered, and tells how the command ended.
-    pub(crate) fn finish(&mut self, exit: ExitKind, output: Option<OutputStatus<'_>>) -> ExitKind {
+    pub(crate) fn finish(&mut self, exit: ExitKind, output: Option<OutputStatus<'_>>) -> ExitKind
+        ensures sent { has_failed self.new.streams.writer.now ≡ false → result ≡ exit }
+        ensures failed { has_failed self.new.streams.writer.now ≡ true → result ≡ Fault }
+        ensures keeps { Keeps (output_of W.contents self.old) (output_of W.contents self.new) }
+    {
         match self.streams.writer.flush() {
             Ok(()) => exit,
             Err(_) => {
-                if exit != ExitKind::Fault {
-                    let problem = self.streams.output_fault();
-                    self.complain(&problem, output);
+                if exit == ExitKind::Fault {
+                    return ExitKind::Fault;
                 }
+                let problem = self.streams.output_fault();
+                self.complain(&problem, output);
                 ExitKind::Fault
             }
         }

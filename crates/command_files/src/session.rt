@@ -1,16 +1,26 @@
 //! The commands on files.
 
-ghost use Rattle.std.specs.Prelude.{◌≡◌, ◌≢◌, ◌+◌, ◌^◌, ◌<◌, ℕ, false, List, Option, Some, length, OnOk};
-ghost use Rattle.command_files.specs.Formats.{format_told, known_format_told};
-ghost use Rattle.command_files.specs.Taking.{TakesFile, TakesAll, is_in_memory, taken};
-ghost use Rattle.command_streams.specs.Stopping.{ending_of};
+ghost use Rattle.std.specs.Prelude.{◌≡◌, ◌≢◌, ◌+◌, ◌^◌, ◌<◌, ◌≤◌, ℕ, false, List, Option, Some, length, IfOk, IfErr, OnOk};
+ghost use Rattle.grouping_model.specs.Replies.{known_list};
+ghost use Rattle.replica_merge.specs.Replicas.{told};
+ghost use Rattle.script_io.specs.Fused.{written};
+ghost use Rattle.replies.specs.KnownTables.{known_in};
 ghost use Rattle.replies.specs.declared.ending.ExitKind.TheVariants.{Done, Fault};
+ghost use Rattle.replies.specs.declared.reply.Reply.TheVariants.{Refused};
+ghost use Rattle.command_streams.specs.Disks.{is_in_memory};
+ghost use Rattle.command_streams.specs.Stopping.{ending_of, EndsRefused};
+ghost use Rattle.command_files.specs.Ending.{ending_beside};
+ghost use Rattle.command_files.specs.Formats.{format_told, known_format_told};
+ghost use Rattle.command_files.specs.Reporting.{output_of, file_on_output, reply_on_output, OnlySays, Prints, PrintsTable, Saves};
+ghost use Rattle.command_files.specs.Running.{session_failed, session_output, standpoint_of, BeginsWith, IsDone, Performs, RunsCommand, TakesAndSaves};
+ghost use Rattle.command_files.specs.Taking.{manner_of, state_of, taken, RanFile, StopsAt, TakesFile, TakesAll};
 
 use crate::limit::{means_of, said_of_limit};
 use crate::replicas::{new_replica, open_replica, summary_of, take};
 use crate::reporter::Reporter;
 use crate::target::Target;
 use clap::ArgMatches;
+use command_replicas::SummaryFile;
 use command_streams::{
     Inputs, OutputStatus, Problem, Streams, open_disk, reason_of, system_seed, tape_reason,
 };
@@ -80,7 +90,9 @@ impl<'c, R: Files + AllocGlobal + RandomSource, I: Read, W: Write, E: Write> Ses
     E,
 > {
     /// A command that has done nothing yet. It spills to memory.
-    pub fn new(inputs: Inputs<'c, R, I>, streams: Streams<'c, W, E>) -> Session<'c, R, I, W, E> {
+    pub fn new(inputs: Inputs<'c, R, I>, streams: Streams<'c, W, E>) -> Session<'c, R, I, W, E>
+        ensures { session_output W.contents result ≡ written W.contents streams.entry.writer.now }
+    {
         let alloc = inputs.rt.alloc();
         Session {
             inputs,
@@ -100,7 +112,12 @@ impl<'c, R: Files + AllocGlobal + RandomSource, I: Read, W: Write, E: Write> Ses
         ensures goes_on { OnOk result (ending_of problem.entry.why ≢ Fault) }
         ensures spares { OnOk result (self.old.target.listed ≢ Some place) }
         ensures counted { OnOk result (self.old.passed + 1 < 2 ^ 64 → self.new.passed ≡ self.old.passed + 1) }
+        ensures stops { IfErr result (λ stopped. StopsAt self.old.target.listed place stopped.why) }
+        ensures told { OnOk result (Prints W.contents self.old.reporter self.new.reporter
+            (reply_on_output self.old.reporter.is_piped (Refused problem.entry.why))) }
         ensures disk { self.new.disk ≡ self.old.disk }
+        ensures work { self.new.work ≡ self.old.work }
+        ensures target { self.new.target ≡ self.old.target }
     {
         if problem.is_fault() || self.target.is_at(place) {
             return Err(problem);
@@ -112,25 +129,46 @@ impl<'c, R: Files + AllocGlobal + RandomSource, I: Read, W: Write, E: Write> Ses
     }
 
     /// Removes the file in which the tapes lay, when nothing is spilled any more.
-    fn remove_spill(&mut self, subcommand: Subcommand, matches: &ArgMatches<'_>) {
-        if self.in_file {
-            self.in_file = false;
-            let spill = subcommand.spill(matches);
-            self.reporter.remove_disk(self.inputs.rt, spill);
+    fn remove_spill(&mut self, subcommand: Subcommand, matches: &ArgMatches<'_>)
+        ensures says { OnlySays self.old.reporter self.new.reporter }
+        ensures counts { (self.new.passed ≡ self.old.passed) × (self.new.is_short ≡ self.old.is_short) }
+    {
+        if !self.in_file {
+            return;
         }
+        self.in_file = false;
+        let spill = subcommand.spill(matches);
+        self.reporter.remove_disk(self.inputs.rt, spill);
     }
 
-    /// Writes the summary file of a replica.
-    fn save<'p>(&mut self, replica: &Replica, path: &'p str) -> Result<(), Problem<'p>> {
-        let rt = self.inputs.rt;
-        let file = summary_of(rt.alloc(), replica, path)?;
+    /// Writes a summary file to OUT.
+    fn put_file<'p>(&mut self, file: &SummaryFile, path: &'p str) -> Result<(), Problem<'p>>
+        ensures put { OnOk result (Prints W.contents self.old.reporter self.new.reporter
+            (file_on_output self.old.reporter.is_piped file.now)) }
+        ensures passed { self.new.passed ≡ self.old.passed }
+    {
         if self.reporter.is_piped() {
-            self.reporter.print_summary(&file)?;
-        } else if self.target.write(rt, path, &file)? {
-            self.reporter.say(&WrittenOver { out: path });
+            self.reporter.print_summary(file)?;
+            return Ok(());
         }
+        if !self.target.write(self.inputs.rt, path, file)? {
+            return Ok(());
+        }
+        self.reporter.say(&WrittenOver { out: path });
+        Ok(())
+    }
+
+    /// Writes the summary file of a replica, and replies how long it is.
+    fn save<'p>(&mut self, replica: &Replica, path: &'p str) -> Result<(), Problem<'p>>
+        ensures saves { OnOk result (Saves W.contents replica.now self.old.reporter self.new.reporter) }
+        ensures passed { self.new.passed ≡ self.old.passed }
+    {
+        let file = summary_of(self.inputs.rt.alloc(), replica, path)?;
+        self.put_file(&file, path)?;
         self.is_written = true;
-        self.reporter.reply(&Reply::Saved(file.bytes().len()))
+        let length = file.bytes().len();
+        self.reporter.reply(&Reply::Saved(length))?;
+        Ok(())
     }
 
     /// Says why a file is refused: of its bytes, or of the file of tapes.
@@ -162,9 +200,13 @@ impl<'c, R: Files + AllocGlobal + RandomSource, I: Read, W: Write, E: Write> Ses
         means: &Means<Fnv1a>,
         spill: Option<&str>,
     ) -> Result<Reply<'static>, Problem<'p>>
-        ensures takes { (file : Option (List ℕ)) × TakesFile kind (is_in_memory self.old.disk) file replica.old replica.new (taken result) }
+        ensures takes { (file : Option (List ℕ))
+            × TakesFile kind (is_in_memory self.old.disk) file replica.old replica.new (taken result)
+            × RanFile kind file replica.old means.now (taken result) self.old.disk self.old.work self.new.disk self.new.work }
         ensures passed { self.new.passed ≡ self.old.passed }
         ensures disk { is_in_memory self.new.disk ≡ is_in_memory self.old.disk }
+        ensures says { OnlySays self.old.reporter self.new.reporter }
+        ensures listed { self.new.target.listed ≡ self.old.target.listed }
     {
         let file = match self.inputs.read(path) {
             Ok(file) => file,
@@ -192,9 +234,15 @@ impl<'c, R: Files + AllocGlobal + RandomSource, I: Read, W: Write, E: Write> Ses
         means: &Means<Fnv1a>,
         spill: Option<&str>,
     ) -> Result<(), Problem<'p>>
-        ensures takes { OnOk result (TakesAll kind (is_in_memory self.old.disk) 1 replica.old replica.new self.old.passed
-            self.new.passed) }
+        ensures takes { OnOk result (TakesAll (manner_of kind means.now self.old.disk
+            self.old.reporter.is_piped self.old.target.listed) place 1
+            (state_of replica.old self.old.disk self.old.work (output_of W.contents self.old.reporter))
+            (state_of replica.new self.new.disk self.new.work (output_of W.contents self.new.reporter))
+            self.old.passed self.new.passed) }
+        ensures stops { IfErr result (λ stopped. StopsAt self.old.target.listed place stopped.why) }
         ensures disk { is_in_memory self.new.disk ≡ is_in_memory self.old.disk }
+        ensures piped { OnOk result (self.new.reporter.is_piped ≡ self.old.reporter.is_piped) }
+        ensures listed { self.new.target.listed ≡ self.old.target.listed }
     {
         let reply = match self.take_file(kind, replica, path, place, means, spill) {
             Ok(reply) => reply,
@@ -213,8 +261,14 @@ impl<'c, R: Files + AllocGlobal + RandomSource, I: Read, W: Write, E: Write> Ses
         means: &Means<Fnv1a>,
         spill: Option<&str>,
     ) -> Result<(), Problem<'p>>
-        ensures { OnOk result (TakesAll kind (is_in_memory self.old.disk) (length paths.now) replica.old replica.new self.old.passed
-            self.new.passed) }
+        ensures takes { OnOk result (TakesAll (manner_of kind means.now self.old.disk
+            self.old.reporter.is_piped self.old.target.listed) 1 (length paths.now)
+            (state_of replica.old self.old.disk self.old.work (output_of W.contents self.old.reporter))
+            (state_of replica.new self.new.disk self.new.work (output_of W.contents self.new.reporter))
+            self.old.passed self.new.passed) }
+        ensures stops { IfErr result (λ stopped. (place : ℕ) × (place ≤ length paths.now)
+            × StopsAt self.old.target.listed place stopped.why) }
+        ensures piped { OnOk result (self.new.reporter.is_piped ≡ self.old.reporter.is_piped) }
     {
         self.reporter.set_files(paths.len());
         let mut place: usize = 0;
@@ -225,48 +279,98 @@ impl<'c, R: Files + AllocGlobal + RandomSource, I: Read, W: Write, E: Write> Ses
         Ok(())
     }
 
-    /// Lists what a replica knows.
-    fn list<'p>(&mut self, replica: &Replica, matches: &ArgMatches<'p>) -> Result<(), Problem<'p>> {
-        let format = known_format_named(value(matches, FORMAT));
-        match known_table(self.inputs.rt.alloc(), replica, format) {
-            Ok(lines) => self.reporter.print(&lines),
-            Err(_) => Err(no_memory_for(matches)),
+    /// Tells what a replica holds, where that is asked for. Nothing is told where there is no memory for that.
+    fn explain_holding(&mut self, replica: &Replica, is_told: bool)
+        ensures says { OnlySays self.old.reporter self.new.reporter }
+    {
+        if !is_told {
+            return;
+        }
+        let Ok(lines) = holding_lines(self.inputs.rt.alloc(), replica) else {
+            return;
+        };
+        for line in &lines {
+            self.reporter.say(line);
         }
     }
 
-    /// Tells what a replica holds. Nothing is told where there is no memory for that.
-    fn explain_holding(&mut self, replica: &Replica) {
-        if let Ok(lines) = holding_lines(self.inputs.rt.alloc(), replica) {
-            for line in &lines {
-                self.reporter.say(line);
-            }
+    /// Tells what an answer was made of, where that is asked for. Nothing is told where there is no memory for that.
+    fn explain_answer(&mut self, replica: &Replica, is_told: bool)
+        ensures says { OnlySays self.old.reporter self.new.reporter }
+    {
+        if !is_told {
+            return;
         }
+        let Ok(Some(line)) = answer_line(self.inputs.rt.alloc(), replica) else {
+            return;
+        };
+        self.reporter.say(&line);
     }
 
-    /// Tells what an answer was made of. Nothing is told where there is no memory for that.
-    fn explain_answer(&mut self, replica: &Replica) {
-        if let Ok(Some(line)) = answer_line(self.inputs.rt.alloc(), replica) {
-            self.reporter.say(&line);
-        }
+    /// Lists what a replica knows, and tells what it holds, where that is asked for.
+    fn list<'p>(
+        &mut self,
+        replica: &Replica,
+        format: KnownFormat,
+        matches: &ArgMatches<'p>,
+        is_told: bool,
+    ) -> Result<(), Problem<'p>>
+        ensures listed { OnOk result (Prints W.contents self.old.reporter self.new.reporter
+            (known_in format (known_list (told replica.now.parts)))) }
+    {
+        let Ok(lines) = known_table(self.inputs.rt.alloc(), replica, format) else {
+            return Err(no_memory_for(matches));
+        };
+        self.reporter.print(&lines)?;
+        self.explain_holding(replica, is_told);
+        Ok(())
     }
 
-    /// Prints the answer of a replica.
+    /// Prints the answer of a replica, and tells what it was made of, where that is asked for.
     fn answer<'p>(
         &mut self,
         replica: &Replica,
+        format: Format,
         matches: &ArgMatches<'p>,
-    ) -> Result<(), Problem<'p>> {
-        let (alloc, format) = (self.inputs.rt.alloc(), format_named(value(matches, FORMAT)));
+        is_told: bool,
+    ) -> Result<(), Problem<'p>>
+        ensures answered { OnOk result (PrintsTable W.contents format replica.now self.old.reporter self.new.reporter) }
+    {
+        let alloc = self.inputs.rt.alloc();
         // Nothing is printed before there was memory for all.
         match (waiting_lines(alloc, replica), table(alloc, replica, format)) {
-            (Ok(lines), Ok((_, table))) => {
-                self.reporter.print(&table)?;
+            (Ok(lines), Ok(found)) => {
+                self.reporter.print(&found.1)?;
                 self.reporter.tell_waiting(&lines, format)?;
+                self.explain_answer(replica, is_told);
                 self.is_short = !lines.is_empty() && Subcommand::Answer.is_told(matches, COMPLETE);
                 Ok(())
             }
             _ => Err(no_memory_for(matches)),
         }
+    }
+
+    /// Takes files into a replica, and saves it.
+    fn take_and_save<'p>(
+        &mut self,
+        kind: FileKind,
+        replica: &mut Replica,
+        paths: &[&'p str],
+        subcommand: Subcommand,
+        matches: &ArgMatches<'p>,
+        means: &Means<Fnv1a>,
+    ) -> Result<(), Problem<'p>>
+        ensures { OnOk result (TakesAndSaves (manner_of kind means.now self.old.disk
+            self.old.reporter.is_piped self.old.target.listed) (length paths.now) (state_of replica.old self.old.disk self.old.work
+            (output_of W.contents self.old.reporter))
+            self.old.passed self.new.passed (output_of W.contents self.new.reporter)) }
+    {
+        let spill = subcommand.spill(matches);
+        self.take_files(kind, replica, paths, means, spill)?;
+        // OUT may have the path of the file for what is spilled, which is no longer wanted.
+        self.remove_spill(subcommand, matches);
+        self.save(replica, value(matches, OUT))?;
+        Ok(())
     }
 
     /// Does what a command asks of its replica.
@@ -276,38 +380,37 @@ impl<'c, R: Files + AllocGlobal + RandomSource, I: Read, W: Write, E: Write> Ses
         subcommand: Subcommand,
         matches: &ArgMatches<'p>,
         means: &Means<Fnv1a>,
-    ) -> Result<(), Problem<'p>> {
-        let spill = subcommand.spill(matches);
+    ) -> Result<(), Problem<'p>>
+        ensures { OnOk result (Performs subcommand means.now replica.old
+            (standpoint_of W.contents self.old.disk self.old.work self.old.target.listed self.old.passed self.old.reporter)
+            self.new.passed (output_of W.contents self.new.reporter)) }
+    {
+        let format = value(matches, FORMAT);
+        let is_told = subcommand.is_told(matches, EXPLAIN);
         match subcommand {
             Subcommand::Known => {
-                self.list(replica, matches)?;
-                if subcommand.is_told(matches, EXPLAIN) {
-                    self.explain_holding(replica);
-                }
-                return Ok(());
+                self.list(replica, known_format_named(format), matches, is_told)
             }
-            Subcommand::Answer => {
-                self.answer(replica, matches)?;
-                if subcommand.is_told(matches, EXPLAIN) {
-                    self.explain_answer(replica);
-                }
-                return Ok(());
-            }
+            Subcommand::Answer => self.answer(replica, format_named(format), matches, is_told),
             Subcommand::Feed => {
                 let paths = matches.get_strs(BATCH).unwrap_or_default();
-                self.take_files(FileKind::Batch, replica, paths, means, spill)?;
+                self.take_and_save(FileKind::Batch, replica, paths, subcommand, matches, means)
             }
             Subcommand::Merge => {
                 // The replica is that of the first.
                 let paths = matches.get_strs(IN).unwrap_or_default();
                 let others = paths.get(1..).unwrap_or_default();
-                self.take_files(FileKind::Summary, replica, others, means, spill)?;
+                self.take_and_save(
+                    FileKind::Summary,
+                    replica,
+                    others,
+                    subcommand,
+                    matches,
+                    means,
+                )
             }
-            Subcommand::New => {}
+            Subcommand::New => self.save(replica, value(matches, OUT)),
         }
-        // OUT may have the path of the file for what is spilled, which is no longer wanted.
-        self.remove_spill(subcommand, matches);
-        self.save(replica, value(matches, OUT))
     }
 
     /// The replica that a command begins with.
@@ -315,7 +418,14 @@ impl<'c, R: Files + AllocGlobal + RandomSource, I: Read, W: Write, E: Write> Ses
         &mut self,
         subcommand: Subcommand,
         matches: &ArgMatches<'p>,
-    ) -> Result<Replica, Problem<'p>> {
+    ) -> Result<Replica, Problem<'p>>
+        ensures begins { IfOk result (BeginsWith subcommand) }
+        ensures says { OnlySays self.old.reporter self.new.reporter }
+        ensures disk { self.new.disk ≡ self.old.disk }
+        ensures work { self.new.work ≡ self.old.work }
+        ensures listed { self.new.target.listed ≡ self.old.target.listed }
+        ensures passed { self.new.passed ≡ self.old.passed }
+    {
         if matches!(subcommand, Subcommand::New) {
             let replica = new_replica(&mut self.inputs, matches)?;
             return match self.try_first(subcommand, matches) {
@@ -334,15 +444,25 @@ impl<'c, R: Files + AllocGlobal + RandomSource, I: Read, W: Write, E: Write> Ses
         subcommand: Subcommand,
         matches: &ArgMatches<'p>,
         means: &Means<Fnv1a>,
-    ) -> Result<(), Problem<'p>> {
+    ) -> Result<(), Problem<'p>>
+        ensures { OnOk result (RunsCommand subcommand means.now
+            (standpoint_of W.contents self.old.disk self.old.work self.old.target.listed self.old.passed self.old.reporter)
+            self.new.passed (output_of W.contents self.new.reporter)) }
+    {
         let mut replica = self.first_replica(subcommand, matches)?;
         let done = self.perform(&mut replica, subcommand, matches, means);
         drop(replica);
         done
     }
 
-    /// Tells what the grouping took, beside the limit.
-    fn explain(&mut self, limit: u64) {
+    /// Tells what the grouping took, beside the limit, where that is asked for.
+    fn explain(&mut self, is_told: bool, limit: u64)
+        ensures says { OnlySays self.old.reporter self.new.reporter }
+        ensures counts { (self.new.passed ≡ self.old.passed) × (self.new.is_short ≡ self.old.is_short) }
+    {
+        if !is_told {
+            return;
+        }
         self.reporter.say(&Explained {
             passes: self.work.passes,
             spilled: self.work.spilled,
@@ -373,7 +493,9 @@ impl<'c, R: Files + AllocGlobal + RandomSource, I: Read, W: Write, E: Write> Ses
         subcommand: Subcommand,
         matches: &ArgMatches<'_>,
         why: Refusal,
-    ) -> ExitKind {
+    ) -> ExitKind
+        ensures { result ≢ Done }
+    {
         let alloc = self.inputs.rt.alloc();
         let reason = match said_of_limit(alloc, matches, why) {
             Ok(said) => Ok(reason_of(alloc, Some(said))),
@@ -388,36 +510,69 @@ impl<'c, R: Files + AllocGlobal + RandomSource, I: Read, W: Write, E: Write> Ses
         self.reporter.stop(problem, output)
     }
 
+    /// Ends a command that stopped.
+    fn refuse(
+        &mut self,
+        subcommand: Subcommand,
+        matches: &ArgMatches<'_>,
+        problem: Problem<'_>,
+    ) -> ExitKind
+        ensures { EndsRefused problem.entry.why result }
+    {
+        let output = self.output_status(subcommand, matches);
+        self.reporter.stop(problem, output)
+    }
+
     /// Runs a command on files which may write OUT, and tells how it ended.
     fn run_beside(
         &mut self,
         subcommand: Subcommand,
         matches: &ArgMatches<'_>,
         standing: Option<Standing<'_>>,
-    ) -> ExitKind {
+    ) -> ExitKind
+        ensures { result ≡ Done → (limit : ℕ) × IsDone R.File subcommand limit (output_of W.contents self.old.reporter)
+            (output_of W.contents self.new.reporter) }
+    {
         match means_of(subcommand, matches) {
             Ok(means) => self.run_with(subcommand, matches, means, standing),
             Err(why) => self.refuse_limit(subcommand, matches, why),
         }
     }
 
+    /// Runs a command on files whose OUT was looked at, and tells how it ended.
+    fn run_looked(
+        &mut self,
+        subcommand: Subcommand,
+        matches: &ArgMatches<'_>,
+        looked: Result<Option<Standing<'_>>, Problem<'_>>,
+    ) -> ExitKind
+        ensures { result ≡ Done → (limit : ℕ) × IsDone R.File subcommand limit (output_of W.contents self.old.reporter)
+            (output_of W.contents self.new.reporter) }
+    {
+        match looked {
+            Ok(standing) => self.run_beside(subcommand, matches, standing),
+            Err(problem) => self.refuse(subcommand, matches, problem),
+        }
+    }
+
     /// Runs a command on files, and answers how it ended.
-    pub fn run(mut self, subcommand: Subcommand, matches: &ArgMatches<'_>) -> ExitKind {
+    pub fn run(&mut self, subcommand: Subcommand, matches: &ArgMatches<'_>) -> ExitKind
+        ensures done { result ≡ Done → (limit : ℕ) × IsDone R.File subcommand limit (session_output W.contents self.old)
+            (session_output W.contents self.new) }
+        ensures sent { result ≡ Done → session_failed self.new ≡ false }
+    {
         let rt = self.inputs.rt;
         let is_piped = matches!(subcommand.out(matches), Some(out) if is_stream(out));
         self.reporter.set_piped(is_piped);
         let is_terminal = self.reporter.terminals().output;
-        let exit = match self.target.look(rt, subcommand, matches, is_terminal) {
-            Ok(Some(standing)) if standing.fate.stops() => {
-                self.reporter.say(&standing);
+        let looked = self.target.look(rt, subcommand, matches, is_terminal);
+        if let Ok(Some(standing)) = &looked {
+            if standing.fate.stops() {
+                self.reporter.say(standing);
                 return ExitKind::BadUsage;
             }
-            Ok(standing) => self.run_beside(subcommand, matches, standing),
-            Err(problem) => {
-                let output = self.output_status(subcommand, matches);
-                self.reporter.stop(problem, output)
-            }
-        };
+        }
+        let exit = self.run_looked(subcommand, matches, looked);
         let output = self.output_status(subcommand, matches);
         self.reporter.finish(exit, output)
     }
@@ -427,7 +582,9 @@ impl<'c, R: Files + AllocGlobal + RandomSource, I: Read, W: Write, E: Write> Ses
         &self,
         subcommand: Subcommand,
         means: Means<Fnv1a>,
-    ) -> Result<Means<Fnv1a>, Problem<'static>> {
+    ) -> Result<Means<Fnv1a>, Problem<'static>>
+        ensures limit { IfOk result (λ seeded. seeded.limit ≡ means.limit) }
+    {
         if !subcommand.aggregates() {
             return Ok(means);
         }
@@ -441,7 +598,13 @@ impl<'c, R: Files + AllocGlobal + RandomSource, I: Read, W: Write, E: Write> Ses
         &mut self,
         subcommand: Subcommand,
         matches: &ArgMatches<'p>,
-    ) -> Result<(), Problem<'p>> {
+    ) -> Result<(), Problem<'p>>
+        ensures says { OnlySays self.old.reporter self.new.reporter }
+        ensures disk { self.new.disk ≡ self.old.disk }
+        ensures work { self.new.work ≡ self.old.work }
+        ensures listed { self.new.target.listed ≡ self.old.target.listed }
+        ensures passed { self.new.passed ≡ self.old.passed }
+    {
         let Some(out) = subcommand.out(matches) else {
             return Ok(());
         };
@@ -454,6 +617,46 @@ impl<'c, R: Files + AllocGlobal + RandomSource, I: Read, W: Write, E: Write> Ses
         Ok(())
     }
 
+    /// Tries the files of a command that aggregates: before its work.
+    fn try_before<'p>(
+        &mut self,
+        subcommand: Subcommand,
+        matches: &ArgMatches<'p>,
+    ) -> Result<(), Problem<'p>>
+        ensures says { OnlySays self.old.reporter self.new.reporter }
+    {
+        if !subcommand.aggregates() {
+            return Ok(());
+        }
+        self.try_first(subcommand, matches)
+    }
+
+    /// Says what becomes of what is there in the place of OUT, if that is to be told.
+    fn tell_standing(&mut self, standing: Option<Standing<'_>>)
+        ensures says { OnlySays self.old.reporter self.new.reporter }
+    {
+        match standing {
+            Some(standing) => self.reporter.say(&standing),
+            None => {}
+        }
+    }
+
+    /// Runs a command on files by means, with a seed if it aggregates, and tells how it ended.
+    fn run_seeded(
+        &mut self,
+        subcommand: Subcommand,
+        matches: &ArgMatches<'_>,
+        means: Means<Fnv1a>,
+    ) -> ExitKind
+        ensures { result ≡ Done → IsDone R.File subcommand means.limit (output_of W.contents self.old.reporter)
+            (output_of W.contents self.new.reporter) }
+    {
+        match self.seeded(subcommand, means) {
+            Ok(means) => self.run_by(subcommand, matches, &means),
+            Err(problem) => self.refuse(subcommand, matches, problem),
+        }
+    }
+
     /// Runs a command on files by means, with the disk of tapes that it tells, and tells how it ended.
     fn run_with(
         &mut self,
@@ -461,34 +664,24 @@ impl<'c, R: Files + AllocGlobal + RandomSource, I: Read, W: Write, E: Write> Ses
         matches: &ArgMatches<'_>,
         means: Means<Fnv1a>,
         standing: Option<Standing<'_>>,
-    ) -> ExitKind {
+    ) -> ExitKind
+        ensures { result ≡ Done → IsDone R.File subcommand means.limit (output_of W.contents self.old.reporter)
+            (output_of W.contents self.new.reporter) }
+    {
         let is_asked = subcommand.is_told(matches, PROGRESS);
         self.reporter.set_progress(is_asked);
-        if subcommand.aggregates() {
-            if let Err(problem) = self.try_first(subcommand, matches) {
-                let output = self.output_status(subcommand, matches);
-                return self.reporter.stop(problem, output);
-            }
+        if let Err(problem) = self.try_before(subcommand, matches) {
+            return self.refuse(subcommand, matches, problem);
         }
         let spill = subcommand.spill(matches);
-        match open_disk(self.inputs.rt, spill) {
-            Ok(disk) => self.disk = disk,
-            Err(problem) => {
-                let output = self.output_status(subcommand, matches);
-                return self.reporter.stop(problem, output);
-            }
-        }
-        self.in_file = spill.is_some();
-        if let Some(standing) = standing {
-            self.reporter.say(&standing);
-        }
-        let exit = match self.seeded(subcommand, means) {
-            Ok(means) => self.run_by(subcommand, matches, &means),
-            Err(problem) => {
-                let output = self.output_status(subcommand, matches);
-                self.reporter.stop(problem, output)
-            }
+        let disk = match open_disk(self.inputs.rt, spill) {
+            Ok(disk) => disk,
+            Err(problem) => return self.refuse(subcommand, matches, problem),
         };
+        self.disk = disk;
+        self.in_file = spill.is_some();
+        self.tell_standing(standing);
+        let exit = self.run_seeded(subcommand, matches, means);
         self.remove_spill(subcommand, matches);
         exit
     }
@@ -505,20 +698,17 @@ impl<'c, R: Files + AllocGlobal + RandomSource, I: Read, W: Write, E: Write> Ses
         }
     }
 
-    /// Runs a command on files by means, and tells how it ended.
-    fn run_by(
+    /// Tells how a command ended, by whether it did its work.
+    fn end(
         &mut self,
         subcommand: Subcommand,
         matches: &ArgMatches<'_>,
-        means: &Means<Fnv1a>,
+        done: Result<(), Problem<'_>>,
     ) -> ExitKind
-        ensures passed { result ≡ Done → self.new.passed ≡ 0 }
-        ensures short { result ≡ Done → self.new.is_short ≡ false }
+        ensures done { OnOk done.entry (result ≡ ending_beside self.old.passed self.old.is_short) }
+        ensures refused { IfErr done.entry (λ problem. EndsRefused problem.why result) }
+        ensures stays { result ≡ Done → self.new ≡ self.old }
     {
-        let done = self.run_command(subcommand, matches, means);
-        if done.is_ok() && subcommand.aggregates() && subcommand.is_told(matches, EXPLAIN) {
-            self.explain(means.limit());
-        }
         match done {
             Ok(()) if self.passed > 0 => {
                 self.tell_passed(subcommand, matches);
@@ -531,5 +721,26 @@ impl<'c, R: Files + AllocGlobal + RandomSource, I: Read, W: Write, E: Write> Ses
                 self.reporter.stop(problem, output)
             }
         }
+    }
+
+    /// Runs a command on files by means, and tells how it ended.
+    fn run_by(
+        &mut self,
+        subcommand: Subcommand,
+        matches: &ArgMatches<'_>,
+        means: &Means<Fnv1a>,
+    ) -> ExitKind
+        ensures ran { result ≡ Done → RunsCommand subcommand means.now
+            (standpoint_of W.contents self.old.disk self.old.work self.old.target.listed self.old.passed self.old.reporter)
+            0 (output_of W.contents self.new.reporter) }
+        ensures passed { result ≡ Done → self.new.passed ≡ 0 }
+        ensures short { result ≡ Done → self.new.is_short ≡ false }
+    {
+        let done = self.run_command(subcommand, matches, means);
+        let is_told = done.is_ok()
+            && subcommand.aggregates()
+            && subcommand.is_told(matches, EXPLAIN);
+        self.explain(is_told, means.limit());
+        self.end(subcommand, matches, done)
     }
 }

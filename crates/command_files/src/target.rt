@@ -1,10 +1,12 @@
 //! OUT, beside the files that a command reads.
 
-ghost use Rattle.std.specs.Prelude.{◌≡◌, ◌≢◌, ◌↔◌, None, Some, true, false, IfOk, IsTrue};
+ghost use Rattle.std.specs.Prelude.{◌≡◌, ◌≢◌, ◌↔◌, ◌⊎◌, ℕ, None, Some, true, false, Result, Ok, IfOk, IsTrue};
 ghost use Rattle.file_sentences.specs.Standing.{is_foreign};
 ghost use Rattle.file_sentences.specs.declared.out.Fate.TheVariants.{Forced, Kept, Spared};
-ghost use Rattle.out_files.specs.declared.occupant.Occupant.TheVariants.{Another};
-ghost use Rattle.command_files.specs.Fates.{fate_where_read};
+ghost use Rattle.out_files.specs.declared.occupant.Occupant.TheVariants.{Another, Listed, Nothing, Special};
+ghost use Rattle.file_sentences.specs.declared.out.FrontKind.{FrontKind};
+ghost use Rattle.command_streams.specs.declared.problem.Problem.{Problem};
+ghost use Rattle.command_files.specs.Fates.{fate_by, fate_by_force, fate_where_read, IsFateBy, IsFile};
 
 use crate::files::{front_kind, occupant_of_out, try_files, write_out};
 use clap::ArgMatches;
@@ -22,7 +24,7 @@ use std::rt::Files;
 pub(crate) struct Target {
     is_new: bool,
     listed: Option<usize>,
-    old: Option<Vec<u8>>,
+    bytes: Option<Vec<u8>>,
     is_over: bool,
 }
 
@@ -36,22 +38,35 @@ fn fate_where_read(listed: Option<usize>) -> Option<Fate>
     }
 }
 
+/// What becomes of a foreign file in the place of OUT by force. The first of the files that are read is to be a summary: where it is
+/// none, nothing is written.
+fn fate_by_force(listed: Option<usize>) -> Option<Fate>
+    ensures { result ≡ fate_by_force listed }
+{
+    match listed {
+        Some(place) => { if place == 0 { None } else { Some(Fate::Forced) } }
+        None => Some(Fate::Forced),
+    }
+}
+
 /// What becomes of a file in the place of OUT. It depends on what its first bytes tell, on whether the command is forced, and on its place
-/// among the files that are read. The first of these is to be a summary: where it is none, nothing is written.
+/// among the files that are read.
 fn fate_by(kind: FrontKind, is_forced: bool, listed: Option<usize>) -> Option<Fate>
     ensures spared { IsTrue (is_foreign kind) → is_forced ≡ false → result ≡ Some (Spared kind) }
     ensures forced { IsTrue (is_foreign kind) → is_forced ≡ true → listed ≢ Some 0 → result ≡ Some Forced }
     ensures first { is_forced ≡ true → listed ≡ Some 0 → result ≡ None }
     ensures replaced { is_foreign kind ≡ false → result ≡ fate_where_read listed }
     ensures unforced { is_forced ≡ false → result ≢ Some Forced }
+    ensures fate { result ≡ fate_by kind is_forced listed }
 {
-    if kind.is_foreign() && !is_forced {
-        return Some(Fate::Spared(kind));
+    if !kind.is_foreign() {
+        return fate_where_read(listed);
     }
-    if kind.is_foreign() && listed != Some(0) {
-        return Some(Fate::Forced);
+    if is_forced {
+        fate_by_force(listed)
+    } else {
+        Some(Fate::Spared(kind))
     }
-    fate_where_read(listed)
 }
 
 impl Target {
@@ -60,7 +75,7 @@ impl Target {
         Target {
             is_new: false,
             listed: None,
-            old: None,
+            bytes: None,
             is_over: false,
         }
     }
@@ -73,22 +88,26 @@ impl Target {
     }
 
     /// Keeps the bytes that were read of the file of a place, where it is OUT.
-    pub(crate) fn keep_old(&mut self, place: usize, file: Vec<u8>) {
+    pub(crate) fn keep_old(&mut self, place: usize, file: Vec<u8>)
+        ensures kept { self.old.listed ≡ Some place → self.new ≡ record self.old { bytes = Some file } }
+        ensures others { self.old.listed ≢ Some place → self.new ≡ self.old }
+        ensures listed { self.new.listed ≡ self.old.listed }
+    {
         if self.is_at(place) {
-            self.old = Some(file);
+            self.bytes = Some(file);
         }
     }
 
-    /// What becomes of a file in the place of OUT by its first bytes.
-    fn fate_by_front<'p, R: Files>(
+    /// What becomes of a file in the place of OUT by what its first bytes tell, where they could be read.
+    fn fate_by_front<'p>(
         &self,
-        rt: &R,
+        front: Result<FrontKind, Problem<'p>>,
         is_forced: bool,
-        out: &'p str,
     ) -> Result<Option<Fate>, Problem<'p>>
+        ensures fate { IsFateBy front.entry is_forced self.now.listed result }
         ensures unforced { is_forced ≡ false → IfOk result (λ fate. fate ≢ Some Forced) }
     {
-        match front_kind(rt, out) {
+        match front {
             Ok(kind) => Ok(fate_by(kind, is_forced, self.listed)),
             Err(problem) if !is_forced => Err(problem),
             Err(_) => Ok(fate_where_read(self.listed)),
@@ -107,6 +126,10 @@ impl Target {
     ) -> Result<Option<Fate>, Problem<'p>>
         ensures kept { occupant ≡ Another → IsTrue keeps → IfOk result (λ fate. fate ≡ Some Kept) }
         ensures unforced { is_forced ≡ false → IfOk result (λ fate. fate ≢ Some Forced) }
+        ensures listed { (place : ℕ) → occupant ≡ Listed place → self.new ≡ record self.old { listed = Some place } }
+        ensures new { occupant ≡ Nothing → self.new ≡ record self.old { is_new = keeps } }
+        ensures untold { (occupant ≡ Nothing) ⊎ (occupant ≡ Special) → result ≡ Ok None }
+        ensures found { IsFile occupant keeps → (front : Result FrontKind Problem) × IsFateBy front is_forced self.new.listed result }
     {
         match occupant {
             Occupant::Nothing => {
@@ -115,10 +138,10 @@ impl Target {
             }
             Occupant::Special => Ok(None),
             Occupant::Another if keeps => Ok(Some(Fate::Kept)),
-            Occupant::Another => self.fate_by_front(rt, is_forced, out),
+            Occupant::Another => self.fate_by_front(front_kind(rt, out), is_forced),
             Occupant::Listed(place) => {
                 self.listed = Some(place);
-                self.fate_by_front(rt, is_forced, out)
+                self.fate_by_front(front_kind(rt, out), is_forced)
             }
         }
     }
@@ -166,7 +189,9 @@ impl Target {
         subcommand: Subcommand,
         matches: &ArgMatches<'p>,
         out: &'p str,
-    ) -> Result<bool, Problem<'p>> {
+    ) -> Result<bool, Problem<'p>>
+        ensures listed { self.new.listed ≡ self.old.listed }
+    {
         self.is_over = try_files(rt, subcommand, matches, out)? == Place::Over;
         Ok(self.is_over)
     }
@@ -178,7 +203,7 @@ impl Target {
         path: &'p str,
         file: &SummaryFile,
     ) -> Result<bool, Problem<'p>> {
-        let place = write_out(rt, path, file, self.is_new, self.old.as_deref())?;
+        let place = write_out(rt, path, file, self.is_new, self.bytes.as_deref())?;
         Ok(place == Place::Over && !self.is_over)
     }
 }

@@ -1,5 +1,8 @@
 //! The texts of a command line that a file may have in their place.
 
+ghost use Rattle.std.specs.Prelude.{◌≡◌, IfOk, string_bytes};
+ghost use Rattle.command_words.specs.LineEnd.{DropsLineEnd};
+
 use clap::ArgMatches;
 use command_streams::{Inputs, Problem, reason_of};
 use command_words::{input_name, value, without_line_end};
@@ -18,7 +21,9 @@ pub(crate) struct Told<'p> {
 
 impl Told<'_> {
     /// The text.
-    pub(crate) fn text(&self) -> &str {
+    pub(crate) fn text(&self) -> &str
+        ensures { result.now ≡ string_bytes self.now.text }
+    {
         &self.text
     }
 }
@@ -29,7 +34,9 @@ fn no_text(alloc: Global, place: usize) -> Result<String, AllocError> {
 }
 
 /// The text that the bytes of a file are, without the line end behind it.
-fn text_of<'p>(alloc: Global, subject: &'p str, bytes: &[u8]) -> Result<Told<'p>, Problem<'p>> {
+fn text_of<'p>(alloc: Global, subject: &'p str, bytes: &[u8]) -> Result<Told<'p>, Problem<'p>>
+    ensures { IfOk result (λ told. DropsLineEnd bytes.now (string_bytes told.text)) }
+{
     match str::from_utf8(bytes) {
         Ok(text) => copied(alloc, subject, without_line_end(text)),
         Err(error) => {
@@ -43,7 +50,9 @@ fn text_of<'p>(alloc: Global, subject: &'p str, bytes: &[u8]) -> Result<Told<'p>
 }
 
 /// A copy of a text.
-fn copied<'p>(alloc: Global, subject: &'p str, text: &str) -> Result<Told<'p>, Problem<'p>> {
+fn copied<'p>(alloc: Global, subject: &'p str, text: &str) -> Result<Told<'p>, Problem<'p>>
+    ensures { IfOk result (λ told. string_bytes told.text ≡ text.now) }
+{
     match String::from_str(alloc, text) {
         Ok(text) => Ok(Told { subject, text }),
         Err(_) => Err(Problem::refused(subject, Refusal::NoMemory)),

@@ -4,9 +4,11 @@
 
 mod hint;
 
-ghost use Rattle.std.specs.Prelude.{◌≡◌};
+ghost use Rattle.std.specs.Prelude.{◌≡◌, true, false};
+ghost use Rattle.script_io.specs.Fused.{has_failed};
 ghost use Rattle.replies.specs.Status.{status_of};
 ghost use Rattle.replies.specs.declared.ending.ExitKind.{ExitKind};
+ghost use Rattle.replies.specs.declared.ending.ExitKind.TheVariants.{Fault};
 
 use crate::hint::{Hint, hint_of};
 use clap::error::ErrorKind;
@@ -111,7 +113,10 @@ fn run_subcommand<'c, R: Files + AllocGlobal + RandomSource, I: Read, W: Write, 
     let inputs = Inputs { rt, reader };
     let streams = streams_of(rt, writer, errors, terminals);
     match Subcommand::named(name) {
-        Some(subcommand) => Session::new(inputs, streams).run(subcommand, matches),
+        Some(subcommand) => {
+            let mut session = Session::new(inputs, streams);
+            session.run(subcommand, matches)
+        }
         // The parser knows no other.
         None => ExitKind::BadUsage,
     }
@@ -200,7 +205,10 @@ fn send_out<W: Write, E: Write>(
     gathered: &mut Fused<W>,
     exit: ExitKind,
     errors: &mut E,
-) -> ExitKind {
+) -> ExitKind
+    ensures sent { has_failed gathered.new ≡ false → result ≡ exit }
+    ensures failed { has_failed gathered.new ≡ true → result ≡ Fault }
+{
     match gathered.flush() {
         Ok(()) => exit,
         Err(cause) => {

@@ -1,7 +1,10 @@
 -- The options of `pack`. All of this is our own.
-use Rattle.std.specs.Prelude.{◌==◌, ◌&&◌, ◌||◌, not, Bool, ℕ, List, [], ◌∷◌, Option, Some, None, codes, if◌then◌else◌}
+use Rattle.std.specs.Prelude.{◌≡◌, ◌==◌, ◌&&◌, ◌||◌, not, Bool, ℕ, List, [], ◌∷◌, Option, Some, None, codes, if◌then◌else◌}
 use Rattle.std.specs.Char.{is_ascii_punctuation}
 use Rattle.std.specs.Str.{bytes_eq}
+use Rattle.batch_reader.specs.Head.{ReadsOrigin, ReadsBatchNumber}
+use Rattle.plain_batches.specs.declared.layout.Layout.{Layout}
+use Rattle.command_packs.specs.declared.options.Words.{Words}
 
 -- a byte that may stand between fields: a tab (9), or one of ASCII that is neither in a name or a number nor a quote (34)
 abbrev pub is_delimiter : ℕ → Bool
@@ -14,3 +17,15 @@ delimiter_of_one text = None
 -- the delimiter that a text tells: a tab by its name, or as \t, or else a byte by itself
 abbrev pub delimiter_told : List ℕ → Option ℕ
 delimiter_told text = if bytes_eq text (codes "tab") || bytes_eq text (92 ∷ 116 ∷ []) then Some 9 else delimiter_of_one text
+
+-- a plain CSV is written as these words tell
+pub record IsLayoutOf (words : Words) (layout : Layout) : Type 0 where
+  pub delimiter : delimiter_told words.delimiter.now ≡ Some layout.delimiter
+  pub null : layout.null.now ≡ words.null.now
+  pub header : layout.has_header ≡ words.has_header
+  pub skips : layout.skips_columns ≡ words.skips_columns
+
+-- the batch is the one that these words tell
+pub record IsHeadOf (words : Words) (origin number : ℕ) : Type 0 where
+  pub origin_is : ReadsOrigin words.origin.now origin
+  pub number_is : ReadsBatchNumber words.number.now number

@@ -1,5 +1,5 @@
 -- What `pack` writes, and why it is refused. All of this is our own.
-use Rattle.std.specs.Prelude.{◌≡◌, ◌⊎◌, ℕ, List}
+use Rattle.std.specs.Prelude.{◌≡◌, ◌⊎◌, ℕ, Bool, true, false, List, []}
 use Rattle.batch_reader.specs.declared.error.BatchError.TheVariants as batch
 use Rattle.packed_rows.specs.Columns.{Column}
 use Rattle.plain_batches.specs.Packed.{PacksPlain}
@@ -34,25 +34,32 @@ pub record AreOfSummary (columns : List Column) : Type 0 where
   pub loaded : IsLoaded file held
   pub same : columns ≡ held.query.columns
 
--- bytes are the batch file of a plain CSV, by the columns of a summary file
-pub record IsPacked (layout : Layout) (origin number : ℕ) (file : List ℕ) : Type 0 where
+-- bytes are the batch file of a plain CSV, by the columns of a summary file. A CSV of no byte is one
+-- only where that is allowed, or where a header is wanted
+pub record IsPacked (layout : Layout) (allows : Bool) (origin number : ℕ) (file : List ℕ) : Type 0 where
   pub columns : List Column
   pub of_summary : AreOfSummary columns
   pub csv : List ℕ
+  pub some : csv ≡ [] → (allows ≡ true) ⊎ (layout.has_header ≡ true)
   pub packs : PacksPlain columns layout origin number csv file
 
 -- why columns are not found: a file is not read, or is no summary
 abbrev pub IsWithoutColumns : Refusal → Type 0
 IsWithoutColumns why = IsUnread why ⊎ ((file : List ℕ) × IsNoSummary file why)
 
--- a plain CSV is refused by its first fault
+-- a plain CSV is refused by its first fault, by the columns of a summary file
 pub record RefusesPlain (layout : Layout) (origin number : ℕ) (why : Refusal) : Type 0 where
   pub columns : List Column
+  pub of_summary : AreOfSummary columns
   pub csv : List ℕ
   pub error : PackError
   pub fault : PackFault columns layout origin number csv error
   pub named : why ≡ pack_refusal error
 
+-- a CSV of no byte is refused where it is not allowed
+abbrev pub RefusesEmpty : (allows : Bool) → Refusal → Type 0
+RefusesEmpty allows why = (allows ≡ false) × (why ≡ Batch batch.RowCount)
+
 -- why there is no batch file
-abbrev pub IsNotPacked : Layout → (origin number : ℕ) → Refusal → Type 0
-IsNotPacked layout origin number why = IsWithoutColumns why ⊎ RefusesPlain layout origin number why
+abbrev pub IsNotPacked : Layout → (allows : Bool) → (origin number : ℕ) → Refusal → Type 0
+IsNotPacked layout allows origin number why = IsWithoutColumns why ⊎ (RefusesEmpty allows why ⊎ RefusesPlain layout origin number why)

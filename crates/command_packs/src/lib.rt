@@ -2,29 +2,34 @@
 #![tactic(auto)]
 
 mod options;
+mod sentences;
 
-ghost use Rattle.std.specs.Prelude.{◌≡◌, ◌≤◌, ℕ, List, IfOk, IfErr};
+ghost use Rattle.std.specs.Prelude.{◌≡◌, ◌≤◌, ℕ, Bool, List, IfOk, IfErr};
 ghost use Rattle.std.specs.Io.KnownBytes.{Appends};
+ghost use Rattle.batch_reader.specs.declared.error.BatchError.TheVariants.{RowCount};
 ghost use Rattle.grouping_model.specs.declared.limits.TheConstants.{LAST_ORIGIN};
 ghost use Rattle.plain_batches.specs.declared.layout.Layout.{Layout};
 ghost use Rattle.replies.specs.Text.{said_text};
 ghost use Rattle.replies.specs.declared.ending.ExitKind.TheVariants.{BadUsage, Done};
+ghost use Rattle.replies.specs.declared.refusal.Refusal.TheVariants.{Batch};
 ghost use Rattle.replies.specs.declared.reply.Reply.TheVariants.{Refused};
 ghost use Rattle.script_io.specs.Fused.{written};
 ghost use Rattle.command_streams.specs.Stopping.{RepliesRefused};
+ghost use Rattle.command_packs.specs.Options.{IsHeadOf, IsLayoutOf};
 ghost use Rattle.command_packs.specs.Packing.{pack_refusal, AreOfSummary, IsNotPacked, IsPacked, IsWithoutColumns};
 
-use crate::options::{files_of, head_of, layout_of};
+use crate::options::{Words, head_of, layout_of, words_of};
+use crate::sentences::PlainText;
 use batch_reader::BatchError;
 use clap::ArgMatches;
-use command_streams::{Inputs, Problem, Streams, reply_refused, say};
-use command_words::{NUMBER, ORIGIN, input_name, value};
-use file_sentences::summary_reason;
-use pack_sentences::PlainText;
+use command_streams::{Inputs, Problem, Streams, reason_of, reply_refused, say};
+use command_words::{ALLOW_EMPTY, input_name};
+use file_sentences::{CutShort, summary_reason};
 use packed_rows::Schema;
 use plain_batches::{Layout, PackError, pack_batch};
 use replies::{ExitKind, Refusal, RunError};
 use script_io::put_all;
+use std::alloc::Global;
 use std::io::{Read, Write};
 use std::rt::Files;
 
@@ -65,25 +70,49 @@ fn refusal_of(why: PackError) -> Refusal
     }
 }
 
-/// The batch file of the plain CSV of a path, by the columns of a summary.
+/// Why a CSV of no byte is refused: a program before this one in a pipe may have failed.
+fn empty<'p>(alloc: Global, path: &'p str) -> Problem<'p>
+    ensures { result.why ≡ Batch RowCount }
+{
+    let reason = match format!(in alloc;
+        "it is empty: did the program that writes it fail? --{ALLOW_EMPTY} makes a batch of no row"
+    ) {
+        Ok(said) => Ok(reason_of(alloc, Some(said))),
+        Err(error) => Err(error),
+    };
+    Problem::because(
+        input_name(path),
+        Refusal::Batch(BatchError::RowCount),
+        reason,
+    )
+}
+
+/// Whether the last line of a CSV has no end.
+fn is_cut(csv: &[u8]) -> bool {
+    !csv.is_empty() && !matches!(csv.last(), Some(b'\n' | b'\r'))
+}
+
+/// The batch file that words tell, by the columns of their summary, and whether the last line of their CSV has no end.
 fn pack<'p, R: Files + AllocGlobal, I: Read>(
     inputs: &mut Inputs<'_, R, I>,
-    summary: &'p str,
-    path: &'p str,
+    words: Words<'p>,
     layout: Layout<'_>,
     origin: u16,
     number: u32,
-) -> Result<Vec<u8>, Problem<'p>>
+) -> Result<(Vec<u8>, bool), Problem<'p>>
     requires origin { origin ≤ LAST_ORIGIN }
     requires number { 1 ≤ number }
-    ensures packed { IfOk result (λ file. IsPacked layout.entry origin number file.items) }
-    ensures why { IfErr result (λ problem. IsNotPacked layout.entry origin number problem.why) }
+    ensures packed { IfOk result (λ made. IsPacked layout.entry words.entry.allows_empty origin number made.0.items) }
+    ensures why { IfErr result (λ problem. IsNotPacked layout.entry words.entry.allows_empty origin number problem.why) }
 {
     let alloc = inputs.rt.alloc();
-    let schema = schema_of(inputs, summary)?;
-    let csv = inputs.read(path)?;
+    let schema = schema_of(inputs, words.summary)?;
+    let csv = inputs.read(words.csv)?;
+    if csv.is_empty() && !layout.has_header && !words.allows_empty {
+        return Err(empty(alloc, words.csv));
+    }
     match pack_batch(alloc, &schema, layout, origin, number, &csv) {
-        Ok(file) => Ok(file),
+        Ok(file) => Ok((file, is_cut(&csv))),
         Err(why) => {
             let text = PlainText {
                 schema: &schema,
@@ -91,7 +120,8 @@ fn pack<'p, R: Files + AllocGlobal, I: Read>(
                 csv: &csv,
             };
             let reason = text.reason(alloc, why);
-            Err(Problem::because(input_name(path), refusal_of(why), reason))
+            let subject = input_name(words.csv);
+            Err(Problem::because(subject, refusal_of(why), reason))
         }
     }
 }
@@ -118,30 +148,49 @@ fn end_unread<W: Write, E: Write>(
     ExitKind::BadUsage
 }
 
-/// Writes the batch file of a plain CSV to standard output. A summary tells its columns.
-pub fn run_pack<R: Files + AllocGlobal, I: Read, W: Write, E: Write>(
+/// Writes the batch file that words tell to standard output.
+fn write_packed<R: Files + AllocGlobal, I: Read, W: Write, E: Write>(
     mut inputs: Inputs<'_, R, I>,
-    matches: &ArgMatches<'_>,
+    words: Words<'_>,
     streams: &mut Streams<'_, W, E>,
 ) -> ExitKind
-    ensures { result ≡ Done → (layout : Layout) × (origin number : ℕ) × (file : List ℕ) × IsPacked layout origin number file
+    ensures { result ≡ Done → (layout : Layout) × (origin number : ℕ) × (file : List ℕ) × IsLayoutOf words.entry layout
+        × IsHeadOf words.entry origin number × IsPacked layout words.entry.allows_empty origin number file
         × Appends (written W.contents streams.old.writer.now) (written W.contents streams.new.writer.now) file }
 {
     let alloc = inputs.rt.alloc();
-    let (summary, path) = files_of(matches);
-    let (origin, number) = match head_of(alloc, value(matches, ORIGIN), value(matches, NUMBER)) {
+    let (origin, number) = match head_of(alloc, words.origin, words.number) {
         Ok(head) => head,
         Err(problem) => return end_unread(&problem, streams),
     };
-    let layout = match layout_of(alloc, matches) {
+    let layout = match layout_of(alloc, words) {
         Ok(layout) => layout,
         Err(problem) => return end_unread(&problem, streams),
     };
-    match pack(&mut inputs, summary, path, layout, origin, number) {
-        Ok(file) => match put_all(streams.writer, &file) {
-            Ok(()) => ExitKind::Done,
-            Err(_) => stop(streams.output_fault(), streams),
-        },
+    match pack(&mut inputs, words, layout, origin, number) {
+        Ok((file, is_cut)) => {
+            if is_cut {
+                let path = input_name(words.csv);
+                say(streams.alloc, streams.errors, &CutShort { path });
+            }
+            match put_all(streams.writer, &file) {
+                Ok(()) => ExitKind::Done,
+                Err(_) => stop(streams.output_fault(), streams),
+            }
+        }
         Err(problem) => stop(problem, streams),
     }
+}
+
+/// Writes the batch file of a plain CSV to standard output. A summary tells its columns.
+pub fn run_pack<R: Files + AllocGlobal, I: Read, W: Write, E: Write>(
+    inputs: Inputs<'_, R, I>,
+    matches: &ArgMatches<'_>,
+    streams: &mut Streams<'_, W, E>,
+) -> ExitKind
+    ensures { result ≡ Done → (layout : Layout) × (allows : Bool) × (origin number : ℕ) × (file : List ℕ)
+        × IsPacked layout allows origin number file
+        × Appends (written W.contents streams.old.writer.now) (written W.contents streams.new.writer.now) file }
+{
+    write_packed(inputs, words_of(matches), streams)
 }

@@ -1,14 +1,16 @@
 //! The options of the command that makes a batch file.
 
-ghost use Rattle.std.specs.Prelude.{◌≡◌, ◌≤◌, ℕ, Some, IfOk, IfErr, IfSome, IfNone, OnErr};
+ghost use Rattle.std.specs.Prelude.{◌≡◌, ◌≤◌, ℕ, Some, None, IfOk, IfErr, IfSome, IfNone, OnErr};
 ghost use Rattle.batch_reader.specs.Head.{ReadsOrigin, ReadsBatchNumber};
 ghost use Rattle.replies.specs.declared.refusal.Refusal.TheVariants.{BadCommand};
 ghost use Rattle.script_io.specs.Digits.{number_of};
-ghost use Rattle.command_packs.specs.Options.{delimiter_told};
+ghost use Rattle.command_packs.specs.Options.{delimiter_told, IsLayoutOf};
 
 use clap::ArgMatches;
 use command_streams::{Problem, reason_of};
-use command_words::{DELIMITER, HEADER, IN, NULL, PLAIN, SKIP_COLUMNS, STREAM, value};
+use command_words::{
+    ALLOW_EMPTY, DELIMITER, HEADER, IN, NULL, NUMBER, ORIGIN, PLAIN, SKIP_COLUMNS, STREAM, value,
+};
 use fault_sentences::Quoted;
 use grouping_model::limits::{LAST_NUMBER, LAST_ORIGIN};
 use plain_batches::Layout;
@@ -21,6 +23,24 @@ const MAX_DIGITS: usize = 10;
 
 /// The least number of a batch.
 const FIRST_NUMBER: u64 = 1;
+
+/// What the words of the command tell.
+#[derive(Clone, Copy)]
+pub(crate) struct Words<'p> {
+    /// The summary whose columns the rows have.
+    pub(crate) summary: &'p str,
+    /// The plain CSV.
+    pub(crate) csv: &'p str,
+    pub(crate) origin: &'p str,
+    pub(crate) number: &'p str,
+    pub(crate) delimiter: &'p str,
+    /// The field that is null.
+    pub(crate) null: &'p str,
+    pub(crate) has_header: bool,
+    pub(crate) skips_columns: bool,
+    /// Whether a CSV of no byte is a batch of no row.
+    pub(crate) allows_empty: bool,
+}
 
 /// The number that 1 to 10 digits stand for, leading zeros included, if it lies in a range.
 fn read_between(text: &str, least: u64, most: u64) -> Option<u64>
@@ -74,9 +94,19 @@ fn refused<'p>(alloc: Global, option: &'static str, said: Result<String, AllocEr
     Problem::because(option, Refusal::BadCommand, reason)
 }
 
-/// The summary and the plain CSV, which is standard input where it is not told.
-pub(crate) fn files_of<'p>(matches: &ArgMatches<'p>) -> (&'p str, &'p str) {
-    (value(matches, IN), matches.get_str(PLAIN).unwrap_or(STREAM))
+/// The words of the command. The plain CSV is standard input if no word tells it.
+pub(crate) fn words_of<'p>(matches: &ArgMatches<'p>) -> Words<'p> {
+    Words {
+        summary: value(matches, IN),
+        csv: matches.get_str(PLAIN).unwrap_or(STREAM),
+        origin: value(matches, ORIGIN),
+        number: value(matches, NUMBER),
+        delimiter: value(matches, DELIMITER),
+        null: value(matches, NULL),
+        has_header: matches.get_flag(HEADER),
+        skips_columns: matches.get_flag(SKIP_COLUMNS),
+        allows_empty: matches.get_flag(ALLOW_EMPTY),
+    }
 }
 
 /// The origin and the number of the batch, by the texts of their options.
@@ -104,11 +134,12 @@ pub(crate) fn head_of<'p>(
 }
 
 /// How the plain CSV is written.
-pub(crate) fn layout_of<'p>(
-    alloc: Global,
-    matches: &ArgMatches<'p>,
-) -> Result<Layout<'p>, Problem<'p>> {
-    let told = value(matches, DELIMITER);
+pub(crate) fn layout_of<'p>(alloc: Global, words: Words<'p>) -> Result<Layout<'p>, Problem<'p>>
+    ensures layout { IfOk result (IsLayoutOf words.entry) }
+    ensures none { OnErr result (delimiter_told words.entry.delimiter.now ≡ None) }
+    ensures why { IfErr result (λ problem. problem.why ≡ BadCommand) }
+{
+    let told = words.delimiter;
     let Some(delimiter) = read_delimiter(told) else {
         let shown = Quoted(told.as_bytes());
         let said = format!(in alloc;
@@ -118,8 +149,8 @@ pub(crate) fn layout_of<'p>(
     };
     Ok(Layout {
         delimiter,
-        has_header: matches.get_flag(HEADER),
-        null: value(matches, NULL).as_bytes(),
-        skips_columns: matches.get_flag(SKIP_COLUMNS),
+        has_header: words.has_header,
+        null: words.null.as_bytes(),
+        skips_columns: words.skips_columns,
     })
 }

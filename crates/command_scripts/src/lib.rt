@@ -1,11 +1,14 @@
 //! The command `script`, with a sentence for each refused command.
 #![tactic(auto)]
 
+ghost use Rattle.std.specs.Prelude.{◌≡◌, true, is_none};
 ghost use Rattle.replies.specs.Text.{said_text};
+ghost use Rattle.replies.specs.declared.ending.ExitKind.TheVariants.{Done};
 ghost use Rattle.replies.specs.declared.reply.Reply.TheVariants.{Refused};
 ghost use Rattle.script_io.specs.Fused.{written};
+ghost use Rattle.script_machine.specs.Headline.{WritesRight};
 ghost use Rattle.command_streams.specs.Stopping.{RepliesRefused};
-ghost use Rattle.command_scripts.specs.Runs.{RunEnds};
+ghost use Rattle.command_scripts.specs.Runs.{streams_over, RunEnds, ScriptEnds, SeededEnds};
 
 use command_streams::{
     Problem, Streams, is_closed, open_disk, reason_of, remove_disk, reply_refused, say,
@@ -158,7 +161,7 @@ fn run_over<R: Files + AllocGlobal, I: Read, W: Write, E: Write, D: TapeDisk>(
     disk: &mut D,
     seed: Seed,
 ) -> ExitKind
-    ensures { RunEnds D.TapeDisk I.remaining W.contents script.old script.new writer.old writer.new disk.old disk.new result }
+    ensures { RunEnds D.TapeDisk seed I.remaining W.contents script.old script.new writer.old writer.new disk.old disk.new result }
 {
     let alloc = rt.alloc();
     let mut complaints = Complaints {
@@ -189,7 +192,10 @@ fn run_seeded<R: Files + AllocGlobal + RandomSource, I: Read, W: Write, E: Write
     reader: &mut I,
     streams: &mut Streams<'_, W, E>,
     disk: &mut D,
-) -> ExitKind {
+) -> ExitKind
+    ensures { SeededEnds D.TapeDisk (I.remaining reader.old) W.contents streams.old.writer.now streams.new.writer.now disk.old disk.new
+        result }
+{
     match system_seed(rt) {
         Ok(seed) => {
             let mut script = Fused::new(&mut *reader);
@@ -216,7 +222,12 @@ pub fn run_script<R: Files + AllocGlobal + RandomSource, I: Read, W: Write, E: W
     spill: Option<&str>,
     reader: &mut I,
     streams: &mut Streams<'_, W, E>,
-) -> ExitKind {
+) -> ExitKind
+    ensures ends { ScriptEnds (is_none spill.entry) (I.remaining reader.old) W.contents streams.old.writer.now streams.new.writer.now
+        result }
+    ensures right { is_none spill.entry ≡ true → result ≡ Done →
+        WritesRight (streams_over W.contents (I.remaining reader.old) streams.old.writer.now streams.new.writer.now) }
+{
     let mut disk = match open_disk(rt, spill) {
         Ok(disk) => disk,
         Err(problem) => return stop(problem, streams),

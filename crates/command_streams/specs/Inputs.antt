@@ -1,4 +1,9 @@
 -- Why a file is not read. All of this is our own.
+use Rattle.std.specs.Prelude.{◌≡◌, ℕ, Bool, List, Option}
+use Rattle.grouping_model.specs.declared.limits.TheConstants.{MAX_INPUT_LEN}
+use Rattle.script_io.specs.Input.{StopsReading, is_read_fault}
+use Rattle.script_io.specs.declared.input.InputError.{InputError}
+use Rattle.replies.specs.Refusals.{run_error, run_refusal}
 use Rattle.replies.specs.declared.error.RunError.TheVariants.{InputTooLong, ReadFault}
 use Rattle.replies.specs.declared.refusal.Refusal.{Refusal}
 use Rattle.replies.specs.declared.refusal.Refusal.TheVariants.{NoMemory, Run}
@@ -9,3 +14,9 @@ IsUnread NoMemory = Unit {0}
 IsUnread (Run InputTooLong) = Unit {0}
 IsUnread (Run ReadFault) = Unit {0}
 IsUnread why = ⊥
+
+-- why standard input was not read, by what it had left before and after that: it is too long where it gave one byte more than are read,
+-- and a fault exactly where it failed
+abbrev pub StopsInput : (old new : Option (List ℕ)) → (has_failed : Bool) → Refusal → Type 0
+StopsInput old new has_failed why = (error : InputError) × (why ≡ run_refusal (run_error error)) × StopsReading old new MAX_INPUT_LEN error
+    × (is_read_fault error ≡ has_failed)

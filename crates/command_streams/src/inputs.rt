@@ -3,9 +3,11 @@
 ghost use Rattle.std.specs.Prelude.{◌≡◌, ◌≤◌, ℕ, IfOk, IfErr, true, length};
 ghost use Rattle.std.specs.Io.KnownBytes.{Consumes, IsAtEnd};
 ghost use Rattle.grouping_model.specs.declared.limits.TheConstants.{MAX_INPUT_LEN};
-ghost use Rattle.script_io.specs.Fused.{unread};
+ghost use Rattle.script_io.specs.Fused.{has_failed, unread};
 ghost use Rattle.command_words.specs.Streams.{is_stream};
-ghost use Rattle.command_streams.specs.Inputs.{IsUnread};
+ghost use Rattle.command_streams.specs.Inputs.{IsUnread, StopsInput};
+ghost use Rattle.replies.specs.declared.error.RunError.TheVariants.{InputTooLong};
+ghost use Rattle.replies.specs.declared.refusal.Refusal.TheVariants.{Run};
 
 use crate::problem::Problem;
 use command_words::{input_name, is_stream};
@@ -19,7 +21,7 @@ use std::rt::Files;
 
 /// That a file has more bytes than 67,108,864: so many, where that is known.
 fn too_long(alloc: Global, subject: &str, length: Option<u64>) -> Problem<'_>
-    ensures { IsUnread result.why }
+    ensures { result.why ≡ Run InputTooLong }
 {
     let why = Refusal::Run(RunError::InputTooLong);
     Problem::because(subject, why, length_reason(alloc, length))
@@ -48,6 +50,8 @@ fn read_standard<'p, I: Read>(
     ensures whole { IfOk result (λ bytes. Consumes (unread I.remaining reader.old) (unread I.remaining reader.new) bytes.items
         × IsAtEnd (unread I.remaining reader.new)) }
     ensures why { IfErr result (λ problem. IsUnread problem.why) }
+    ensures stopped { IfErr result (λ problem. StopsInput (unread I.remaining reader.old) (unread I.remaining reader.new)
+        (has_failed reader.new) problem.why) }
 {
     let subject = input_name(path);
     match (read_input(alloc, reader, MAX_INPUT_LEN), reader.fault()) {
@@ -73,6 +77,9 @@ impl<R: Files + AllocGlobal, I: Read> Inputs<'_, R, I> {
             Consumes (unread I.remaining self.old.reader.now) (unread I.remaining self.new.reader.now) bytes.items
             × IsAtEnd (unread I.remaining self.new.reader.now)) }
         ensures why { IfErr result (λ problem. IsUnread problem.why) }
+        ensures stopped { is_stream path.entry.now ≡ true → IfErr result (λ problem.
+            StopsInput (unread I.remaining self.old.reader.now) (unread I.remaining self.new.reader.now)
+            (has_failed self.new.reader.now) problem.why) }
     {
         if is_stream(path) {
             read_standard(self.rt.alloc(), path, self.reader)

@@ -1,5 +1,9 @@
 //! The seed of the group tables of a command.
 
+ghost use Rattle.std.specs.Prelude.{◌≡◌, IfErr};
+ghost use Rattle.replies.specs.declared.error.RunError.TheVariants.{ReadFault};
+ghost use Rattle.replies.specs.declared.refusal.Refusal.TheVariants.{Run};
+
 use crate::problem::Problem;
 use fault_sentences::Reason;
 use hash_agg::Seed;
@@ -15,7 +19,9 @@ fn seed_reason(alloc: Global, cause: io::Error) -> Result<Option<Reason>, AllocE
 }
 
 /// A seed of random bytes of the system, so that nobody can choose keys that collide in a table.
-pub fn system_seed<R: RandomSource + AllocGlobal>(rt: &R) -> Result<Seed, Problem<'static>> {
+pub fn system_seed<R: RandomSource + AllocGlobal>(rt: &R) -> Result<Seed, Problem<'static>>
+    ensures why { IfErr result (λ problem. problem.why ≡ Run ReadFault) }
+{
     let mut bytes = [0; 16];
     match rt.fill_bytes(&mut bytes) {
         Ok(()) => {

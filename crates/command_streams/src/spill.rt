@@ -1,5 +1,10 @@
 //! The tape disk that a command takes.
 
+ghost use Rattle.std.specs.Prelude.{◌≡◌, IfOk, IfErr, IsSome, is_none};
+ghost use Rattle.replies.specs.declared.error.RunError.TheVariants.{WriteFault};
+ghost use Rattle.replies.specs.declared.refusal.Refusal.TheVariants.{Run};
+ghost use Rattle.command_streams.specs.Disks.{is_in_memory};
+
 use crate::problem::Problem;
 use crate::streams::say;
 use fault_sentences::{Plain, Reason};
@@ -21,7 +26,11 @@ fn spill_reason(alloc: Global, cause: io::Error) -> Result<Option<Reason>, Alloc
 pub fn open_disk<'p, R: Files + AllocGlobal>(
     rt: &R,
     path: Option<&'p str>,
-) -> Result<SpillDisk<SystemFile<R::File>>, Problem<'p>> {
+) -> Result<SpillDisk<SystemFile<R::File>>, Problem<'p>>
+    ensures place { IfOk result (λ disk. is_in_memory disk ≡ is_none path.entry) }
+    ensures asked { IfErr result (λ problem. IsSome path.entry) }
+    ensures why { IfErr result (λ problem. problem.why ≡ Run WriteFault) }
+{
     let Some(path) = path else {
         return Ok(SpillDisk::Memory(MemDisk::new(rt.alloc())));
     };

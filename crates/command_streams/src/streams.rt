@@ -1,5 +1,9 @@
 //! The streams of a command, and the sentences on them.
 
+ghost use Rattle.std.specs.Prelude.{◌≡◌};
+ghost use Rattle.replies.specs.declared.error.RunError.TheVariants.{WriteFault};
+ghost use Rattle.replies.specs.declared.refusal.Refusal.TheVariants.{Run};
+
 use crate::problem::Problem;
 use script_io::Fused;
 use std::alloc::Global;
@@ -48,13 +52,17 @@ pub struct Streams<'s, W, E> {
 }
 
 impl<W: Write, E: Write> Streams<'_, W, E> {
-    /// Writes a sentence.
-    pub fn say<T: Display>(&mut self, sentence: &T) {
+    /// Writes a sentence, and nothing to standard output.
+    pub fn say<T: Display>(&mut self, sentence: &T)
+        ensures { self.new.writer.now ≡ self.old.writer.now }
+    {
         say(self.alloc, self.errors, sentence);
     }
 
     /// Standard output could not be written.
-    pub fn output_fault(&self) -> Problem<'static> {
+    pub fn output_fault(&self) -> Problem<'static>
+        ensures { result.why ≡ Run WriteFault }
+    {
         Problem::output(self.writer.fault())
     }
 }

@@ -80,6 +80,8 @@ pub const NULL: &str = "null";
 /// Whether to ignore columns of a plain CSV that the summary does not have.
 pub const SKIP_COLUMNS: &str = "skip-columns";
 
+pub const ALLOW_EMPTY: &str = "allow-empty";
+
 /// The plain CSV to read.
 pub const PLAIN: &str = "CSV";
 
@@ -346,8 +348,10 @@ the first record names the columns, in any order and in either case. A name that
 IN does not have is refused, unless --skip-columns ignores its fields. Fields
 are separated by commas, or by the one byte of --delimiter, as ';', or tab. An
 empty field is null, or with --null TEXT the field TEXT; \\N is always null.
-Other fields are as in a batch file: see agg_tool feed --help. A batch has at
-most 1,048,576 rows; agg_make_batches splits a longer file into batches.
+Other fields are as in a batch file: see agg_tool feed --help. Blank lines are
+skipped: a null that stands alone is \\N. A batch has at most 1,048,576 rows;
+agg_make_batches splits a longer file into batches. An empty CSV is refused, as
+the program that writes it may have failed; --allow-empty makes it a batch.
 
 If something is wrong, 'refused NAME' is printed in the place of the batch, and
 standard error names the line and the column.
@@ -530,6 +534,11 @@ fn plain_options<'a>(alloc: Global, command: Command<'a>) -> Result<Command<'a>,
             alloc,
             SKIP_COLUMNS,
             "Ignores columns that the summary does not have",
+        ))?
+        .arg(flag(
+            alloc,
+            ALLOW_EMPTY,
+            "Makes a batch without rows of an empty CSV",
         ))
 }
 

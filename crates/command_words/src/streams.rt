@@ -1,7 +1,8 @@
 //! The words that name streams.
 
-ghost use Rattle.std.specs.Prelude.{◌≡◌, ◌≤◌, ◌↔◌, None};
-ghost use Rattle.command_words.specs.Streams.{is_stream, streams_of};
+ghost use Rattle.std.specs.Prelude.{◌≡◌, ◌≤◌, ◌↔◌, None, Some, Ok, true, false};
+ghost use Rattle.command_words.specs.Streams.{is_stream, input_name, output_name, streams_of, spills_to_stream};
+ghost use Rattle.command_words.specs.declared.streams.StreamFault.TheVariants.{Spilled};
 
 use crate::{BATCH, COLUMNS_FILE, IN, PLAIN, QUERY_FILE, SPILL};
 use clap::ArgMatches;
@@ -20,7 +21,9 @@ pub fn is_stream(path: &str) -> bool
 }
 
 /// What a file that is read is called in sentences.
-pub fn input_name(path: &str) -> &str {
+pub fn input_name(path: &str) -> &str
+    ensures { result.now ≡ input_name path.now }
+{
     if is_stream(path) {
         "standard input"
     } else {
@@ -29,7 +32,9 @@ pub fn input_name(path: &str) -> &str {
 }
 
 /// What OUT is called in sentences.
-pub fn output_name(out: &str) -> &str {
+pub fn output_name(out: &str) -> &str
+    ensures { result.now ≡ output_name out.now }
+{
     if is_stream(out) {
         "standard output"
     } else {
@@ -120,7 +125,10 @@ pub fn stream_fault(
     alloc: Global,
     name: &str,
     matches: &ArgMatches<'_>,
-) -> Result<Option<StreamFault>, AllocError> {
+) -> Result<Option<StreamFault>, AllocError>
+    ensures none { result ≡ Ok None → spills_to_stream matches.now ≡ false }
+    ensures spilled { result ≡ Ok (Some Spilled) → spills_to_stream matches.now ≡ true }
+{
     if let Some((first, second)) = read_twice(&inputs_of(alloc, name, matches)?) {
         return Ok(Some(StreamFault::ReadTwice(first, second)));
     }

@@ -1,24 +1,32 @@
 -- What the calls of a session do, each by what a command does. All of this is our own.
 use Rattle.std.specs.Prelude.{◌≡◌, ◌≢◌, ◌<◌, ◌≤◌, ◌⊎◌, ℕ, true, List, length, decimal, Option, Some, Result, Ok, Err}
-use Rattle.std.specs.Prelude.{IfErr, IsUtf8}
+use Rattle.std.specs.Prelude.{IfErr, OnOk, OnErr, IsUtf8}
+use Rattle.aggregation_cost.specs.Space.{Setting}
 use Rattle.grouping_model.specs.Answer.{answer}
+use Rattle.grouping_model.specs.Query.{Query}
 use Rattle.grouping_model.specs.Replies.{known_list}
 use Rattle.grouping_model.specs.World.{World}
 pub use Rattle.grouping_model.specs.declared.delivered.Delivered.{Delivered}
 pub use Rattle.grouping_model.specs.declared.delivered.Delivered.TheVariants.{Folded, Early, Known}
 use Rattle.grouping_model.specs.declared.limits.TheConstants.{MAX_INPUT_LEN}
 use Rattle.batch_reader.specs.File.{BatchFile, read_file}
+use Rattle.key_hashes.specs.Hashes.{fnv_1a}
 use Rattle.key_hashes.specs.declared.sip_hash.Seed.{Seed}
 use Rattle.having_filter.specs.Kept.{by_names}
+use Rattle.having_filter.specs.Meaning.{meaning}
 use Rattle.packed_rows.specs.Columns.{printed}
 use Rattle.query_checks.specs.Spelling.{spelling}
+use Rattle.hash_agg.specs.Counting.{no_work}
 use Rattle.hash_agg.specs.Means.{AreMeans}
+use Rattle.hash_agg.specs.Passes.{setting_for}
 use Rattle.hash_agg.specs.declared.means.TheConstants.{MIN_LIMIT, MAX_LIMIT}
+use Rattle.hash_agg.specs.declared.work.Work.{Work}
 use Rattle.summary_codec.specs.Reading.{IsSaved}
 use Rattle.summary_codec.specs.WorldFile.{world_file}
 use Rattle.script_io.specs.Records as csv
 use Rattle.replica_merge.specs.Replicas.{told, Fits}
 pub use Rattle.replica_merge.specs.Replicas.{Held}
+use Rattle.replica_merge.specs.Counting.{MergeIsCounted}
 use Rattle.replica_merge.specs.Results.{MergesHeld}
 use Rattle.replies.specs.Refusals.{limit_out_of_range, IsApart}
 use Rattle.replies.specs.Printed.{PrintsAnswer}
@@ -28,7 +36,7 @@ pub use Rattle.replies.specs.declared.refusal.Refusal.{Refusal}
 pub use Rattle.replies.specs.declared.refusal.Refusal.TheVariants.{NoMemory}
 pub use Rattle.replies.specs.declared.showing.Format.{Format}
 pub use Rattle.replies.specs.declared.showing.Format.TheVariants.{Csv, Aligned}
-use Rattle.command_replicas.specs.Commands.{IsNew, IsNotNew}
+use Rattle.command_replicas.specs.Commands.{IsNew, IsNotNew, FeedIsCounted, FileMergeIsCounted}
 pub use Rattle.command_replicas.specs.Commands.{IsTooLong}
 use Rattle.command_replicas.specs.Results.{Feeds, LoadsFile, MergesFile}
 use Rattle.engine.specs.Sessions.{SessionState}
@@ -47,11 +55,12 @@ pub record IsNoText (columns query : List ℕ) (why : Refusal) : Type 0 where
   pub named : why ≡ BadCommand
   pub bytes : ¬ (AreTexts columns query)
 
--- a session is opened by a limit, which is within its range, and a seed
+-- a session is opened by a limit, which is within its range, and a seed, and has taken nothing yet
 pub record OpensWith (limit : ℕ) (seed : Seed) (opened : SessionState) : Type 0 where
   pub within : AreMeans limit
   pub by_limit : opened.limit ≡ limit
   pub by_seed : opened.seed ≡ seed
+  pub idle : opened.work ≡ no_work
 
 -- why no session is made of two texts by a limit, in this order
 abbrev pub IsNotCreated : (columns query : List ℕ) (limit : ℕ) → Refusal → Type 0
@@ -77,6 +86,15 @@ pub record KeepsMeans (old new : SessionState) : Type 0 where
   pub limit : new.limit ≡ old.limit
   pub seed : new.seed ≡ old.seed
 
+-- what the call took was added to the work of a session: aggregations by the session's own limit, over tapes that nothing was written to
+-- before. A refused call took nothing. No table of groups holds more bytes of blocks than the limit
+pub record RunsByLimit {T : Type 0} (Counts : Query → Setting → Work → ℕ → Work → ℕ → Type 0) (old new : SessionState)
+    (result : Result T Refusal) : Type 0 where
+  pub counted : OnOk result ((pages : ℕ) × Counts (meaning old.held.query) (setting_for (meaning old.held.query) old.limit fnv_1a) old.work
+      0 new.work pages)
+  pub uncounted : OnErr result (new.work ≡ old.work)
+  pub within : old.work.most_held ≤ old.limit → new.work.most_held ≤ old.limit
+
 -- no refusal of a session is one of tapes, which lie in memory: they neither fail nor give back what was not written to them
 abbrev pub IsUntaped : Refusal → Type 0
 IsUntaped why = (why ≢ TapeFault) × (why ≢ TapeDamaged)
@@ -93,6 +111,7 @@ batch_of origin number count rows = file_of (decimal origin) (decimal number) co
 -- a batch file is fed as `feed` feeds it, over honest tapes
 pub record FeedsSession (file : Option BatchFile) (old new : SessionState) (result : Result Delivered Refusal) : Type 0 where
   pub feeds : Feeds true file old.held new.held result
+  pub ran : RunsByLimit (FeedIsCounted file old.held) old new result
   pub means : KeepsMeans old new
   pub untaped : IfErr result IsUntaped
 
@@ -111,12 +130,14 @@ MergesReplica old other new (Err why) = (new ≡ old) × IsApart old other why
 
 pub record MergesSession {T : Type 0} (other old new : SessionState) (result : Result T Refusal) : Type 0 where
   pub merges : MergesReplica old.held other.held new.held result
+  pub ran : RunsByLimit (MergeIsCounted old.held.parts other.held.parts) old new result
   pub means : KeepsMeans old new
   pub untaped : IfErr result IsUntaped
 
 -- a summary file is merged as `merge` merges it, over honest tapes
 pub record MergesFileSession {T : Type 0} (file : List ℕ) (old new : SessionState) (result : Result T Refusal) : Type 0 where
   pub merges : MergesFile true file old.held new.held result
+  pub ran : RunsByLimit (FileMergeIsCounted file old.held) old new result
   pub means : KeepsMeans old new
   pub untaped : IfErr result IsUntaped
 

@@ -6,7 +6,7 @@ mod rows;
 mod session;
 mod status;
 
-pub use hash_agg::Seed;
+pub use hash_agg::{Seed, Work};
 pub use place::Place;
 pub use replica_merge::{Delivered, Replica};
 pub use replies::{Format, Refusal};

@@ -15,13 +15,14 @@ use std::alloc::{AllocError, Global};
 use std::marker::Model;
 use std::str::from_utf8;
 
-/// A replica, and the limit and seed of its aggregations. Groups beyond the limit are spilled to tapes in memory, which each call takes
-/// and frees.
+/// A replica, the limit and seed of its aggregations, and what they took. Groups beyond the limit are spilled to tapes in memory, which
+/// each call takes and frees.
 #[derive(Drop)]
 pub struct Session {
     alloc: Global,
     replica: Replica,
     means: Means<Fnv1a>,
+    work: Work,
 }
 
 impl Model for Session {
@@ -32,7 +33,7 @@ impl Model for Session {
 
     ghost coded = { coded_session };
 
-    ghost view = { λ s. record { held = s.replica; limit = s.means.limit; seed = s.means.seed } };
+    ghost view = { λ s. record { held = s.replica; limit = s.means.limit; seed = s.means.seed; work = s.work } };
 }
 
 /// The means of a limit and a seed.
@@ -76,6 +77,7 @@ impl Session {
                 alloc,
                 replica,
                 means,
+                work: Work::none(),
             }),
             Err(why) => Err(why),
         }
@@ -95,6 +97,7 @@ impl Session {
                 alloc,
                 replica,
                 means,
+                work: Work::none(),
             }),
             Err(why) => Err(why),
         }
@@ -105,6 +108,13 @@ impl Session {
         ensures { result.now ≡ self.now.held }
     {
         &self.replica
+    }
+
+    /// What the aggregations of the calls took that were done, all together.
+    pub fn work(&self) -> Work
+        ensures { result ≡ self.now.work }
+    {
+        self.work
     }
 
     /// Feeds the batch of a batch file, as `feed` does in a script and on files.
@@ -123,7 +133,7 @@ impl Session {
             file,
             &self.means,
             &mut disk,
-            &mut Work::none(),
+            &mut self.work,
         )
     }
 
@@ -152,7 +162,7 @@ impl Session {
         };
         match self
             .replica
-            .deliver(batch, &self.means, &mut disk, &mut Work::none())
+            .deliver(batch, &self.means, &mut disk, &mut self.work)
         {
             Ok(delivered) => Ok(delivered),
             Err(refused) => Err(Refusal::from(refused)),
@@ -171,7 +181,7 @@ impl Session {
         let mut disk = MemDisk::new(self.alloc);
         match self
             .replica
-            .merge(&other.replica, &self.means, &mut disk, &mut Work::none())
+            .merge(&other.replica, &self.means, &mut disk, &mut self.work)
         {
             Ok(()) => Ok(()),
             Err(error) => Err(Refusal::from(error)),
@@ -194,7 +204,7 @@ impl Session {
             file,
             &self.means,
             &mut disk,
-            &mut Work::none(),
+            &mut self.work,
         )
     }
 

@@ -1,75 +1,66 @@
 -- What the exports do to slots that are empty, and to those that stay as they are.
 use Rattle.std.specs.Prelude.{◌≡◌, ℕ, List, Option, Some, None, Result, Ok, Err, IfOk, OnErr, refl}
-use Rattle.std.proofs.Common.{ap, subst, sym}
-use Rattle.key_hashes.specs.declared.sip_hash.Seed.{Seed}
-use Rattle.engine.specs.Calls.{Held, Refusal, NoMemory, Creates, Loads}
+use Rattle.std.proofs.Common.{ap, subst, sym, ◌∙◌}
+use Rattle.engine.specs.Calls.{Held, Refusal}
 use Rattle.engine.specs.Sessions.{SessionState}
 use Rattle.engine.specs.Statuses.{number_told, status_number}
 use Rattle.engine.specs.declared.status.Status.{Status}
 use Rattle.engine.specs.declared.status.Status.TheVariants as says
-use Rattle.engine_calls.specs.Calls.{OnSession, OpensBy, Asks, MergesWith}
-use Rattle.engine_calls.specs.Keeping.{KeptState}
+use Rattle.engine_calls.specs.Calls.{OnSession, Asks, MergesWith}
+use Rattle.engine_calls.specs.Keeping.{KeptState, Unchanged, nothing}
 use Rattle.engine_c.specs.Exports.{kept_by, CallsSlot, AsksSlot}
 
--- memory ran out, and no session is made
-pub unmade_for_memory : (columns query : List ℕ) (limit : ℕ) (seed : Seed)
-    → OpensBy {T = Unit {0}} (Creates columns query limit seed) None None (Err says.NoMemory)
-unmade_for_memory columns query limit seed = (NoMemory, (λ other. absurd (other refl)), refl)
-
-pub unloaded_for_memory : (file : List ℕ) (limit : ℕ) (seed : Seed)
-    → OpensBy {T = Unit {0}} (Loads file limit seed) None None (Err says.NoMemory)
-unloaded_for_memory file limit seed = (NoMemory, (λ other. absurd (other refl)), refl)
-
 -- nothing is merged where a side has no session
-pub merges_into_none : (other : Option SessionState) → MergesWith {T = Unit {0}} other None None (Err says.NotOpen)
-merges_into_none None = (refl, refl)
-merges_into_none (Some s) = (refl, refl)
+pub merges_into_none : (other : Option SessionState) → MergesWith {T = Unit {0}} other nothing nothing (Err says.NotOpen)
+merges_into_none None = (refl, refl, refl)
+merges_into_none (Some s) = (refl, refl, refl)
 
-merges_none : (other own : Option SessionState) → other ≡ None → MergesWith {T = Unit {0}} other own own (Err says.NotOpen)
-merges_none other own e = subst (λ (o : Option SessionState). MergesWith {T = Unit {0}} o own own (Err says.NotOpen)) (sym e) (refl, refl)
+merges_none : (other : Option SessionState) (own : KeptState) → other ≡ None → MergesWith {T = Unit {0}} other own own (Err says.NotOpen)
+merges_none other own e =
+    subst (λ (o : Option SessionState). MergesWith {T = Unit {0}} o own own (Err says.NotOpen)) (sym e) (refl, refl, refl)
 
-module _ {T : Type 0} (does : (old new : Option SessionState) → Result T Status → Type 0) (gives : T → Type 0) where
-  -- a slot that stays empty keeps nothing, before and after
-  pub empty_slot : (old new : Option KeptState) (status : Status) (number : ℕ) → old ≡ None → new ≡ None → does None None (Err status)
-      → number ≡ status_number status → CallsSlot does gives old new number
-  empty_slot old new status number was is calls ended =
-      let before = ap kept_by was in let after = ap kept_by is in
+-- what stays equal is unchanged
+pub stays : (old new : KeptState) → new ≡ old → Unchanged old new
+stays old new e = record { session = ap (λ (x : KeptState). x.session) e; told = ap (λ (x : KeptState). x.told) e }
+
+module _ {T : Type 0} (does : (old new : KeptState) → Result T Status → Type 0) (gives : T → Type 0) where
+  -- a slot that kept this, and keeps it still
+  still : (k : KeptState) (old new : Option KeptState) (status : Status) (number : ℕ) → kept_by old ≡ k → kept_by new ≡ k
+      → does k k (Err status) → number ≡ status_number status → CallsSlot does gives old new number
+  still k old new status number before after calls ended =
+      let same = after ∙ sym before in
       record {
         outcome = Err status;
-        calls = subst (λ (x : KeptState). does x.session (kept_by new).session (Err status)) (sym before)
-            (subst (λ (x : KeptState). does None x.session (Err status)) (sym after) calls);
+        calls = subst (λ (x : KeptState). does x (kept_by new) (Err status)) (sym before)
+            (subst (λ (x : KeptState). does k x (Err status)) (sym after) calls);
         ended = ended;
         given = tt;
-        told = subst (λ (x : KeptState). x.told ≡ (kept_by old).told) (sym after) (sym (ap (λ (x : KeptState). x.told) before));
-        same = subst (λ (x : KeptState). x ≡ kept_by old) (sym after) (sym before);
+        told = ap (λ (x : KeptState). x.told) same;
+        same = stays (kept_by old) (kept_by new) same;
       }
+
+  -- a slot that stays empty keeps nothing, before and after
+  pub empty_slot : (old new : Option KeptState) (status : Status) (number : ℕ) → old ≡ None → new ≡ None → does nothing nothing (Err status)
+      → number ≡ status_number status → CallsSlot does gives old new number
+  empty_slot old new status number was is calls ended = still nothing old new status number (ap kept_by was) (ap kept_by is) calls ended
 
   -- a full slot is filled with what it kept
   full_slot : (k : KeptState) (old new : Option KeptState) (status : Status) (number : ℕ) → old ≡ Some k → new ≡ Some k
-      → does k.session k.session (Err status) → number ≡ status_number status → CallsSlot does gives old new number
-  full_slot k old new status number was is calls ended =
-      let before = ap kept_by was in let after = ap kept_by is in
-      record {
-        outcome = Err status;
-        calls = subst (λ (x : KeptState). does x.session (kept_by new).session (Err status)) (sym before)
-            (subst (λ (x : KeptState). does k.session x.session (Err status)) (sym after) calls);
-        ended = ended;
-        given = tt;
-        told = subst (λ (x : KeptState). x.told ≡ (kept_by old).told) (sym after) (sym (ap (λ (x : KeptState). x.told) before));
-        same = subst (λ (x : KeptState). x ≡ kept_by old) (sym after) (sym before);
-      }
+      → does k k (Err status) → number ≡ status_number status → CallsSlot does gives old new number
+  full_slot k old new status number was is calls ended = still k old new status number (ap kept_by was) (ap kept_by is) calls ended
 
 -- an empty slot has no session that does anything
 pub closed_slot : {T : Type 0} (does : SessionState → SessionState → Result T Refusal → Type 0) (gives : T → Type 0) (old new : Option KeptState)
     (number : ℕ) → old ≡ None → new ≡ None → number ≡ status_number says.NotOpen → CallsSlot (OnSession does) gives old new number
-closed_slot does gives old new number was is ended = empty_slot (OnSession does) gives old new says.NotOpen number was is (refl, refl) ended
+closed_slot does gives old new number was is ended =
+    empty_slot (OnSession does) gives old new says.NotOpen number was is (refl, refl, refl) ended
 
 -- a slot stays, where the other one is empty
 pub unmerged_slot : (k : KeptState) (old new from : Option KeptState) (gives : Unit {0} → Type 0) (number : ℕ) → old ≡ Some k → new ≡ Some k
     → from ≡ None → number ≡ status_number says.NotOpen → CallsSlot (MergesWith {T = Unit {0}} (kept_by from).session) gives old new number
 unmerged_slot k old new from gives number was is none ended =
     full_slot (MergesWith (kept_by from).session) gives k old new says.NotOpen number was is
-    (merges_none (kept_by from).session k.session (ap (λ (x : Option KeptState). (kept_by x).session) none)) ended
+    (merges_none (kept_by from).session k (ap (λ (x : Option KeptState). (kept_by x).session) none)) ended
 
 -- an empty slot has no session that is asked
 pub unasked_slot : {T : Type 0} (tells : Held → List ℕ → T → Type 0) (refuses : Held → Refusal → Type 0) (gives : T → Type 0)
@@ -79,11 +70,11 @@ unasked_slot tells refuses gives old new wanted number was is ended =
     let before = ap kept_by was in let after = ap kept_by is in
     record {
       outcome = Err says.NotOpen;
-      asks = subst (λ (x : KeptState). OnSession (Asks tells refuses (kept_by new).told) x.session (kept_by new).session (Err says.NotOpen))
-          (sym before) (subst (λ (x : KeptState). OnSession (Asks tells refuses (kept_by new).told) None x.session (Err says.NotOpen))
-          (sym after) (refl, refl));
+      asks = subst (λ (x : KeptState). OnSession (Asks tells refuses (kept_by new).told) x (kept_by new) (Err says.NotOpen))
+          (sym before) (subst (λ (x : KeptState). OnSession (Asks tells refuses (kept_by new).told) nothing x (Err says.NotOpen))
+          (sym after) (refl, refl, refl));
       ended = ended;
       given = tt;
       long = tt;
-      same = subst (λ (x : KeptState). x ≡ kept_by old) (sym after) (sym before);
+      same = stays (kept_by old) (kept_by new) (after ∙ sym before);
     }

@@ -1,10 +1,10 @@
 -- What the exported functions do to slots, by what the calls of a session do. All of this is our own.
-use Rattle.std.specs.Prelude.{◌≡◌, ◌≢◌, ◌<◌, ◌≤◌, ◌++◌, ℕ, Bool, true, false, List, length, drop}
+use Rattle.std.specs.Prelude.{◌≡◌, ◌≢◌, ◌<◌, ◌≤◌, ◌++◌, ◌⊎◌, ℕ, Bool, true, false, List, length, drop}
 use Rattle.std.specs.Prelude.{Option, Some, None, is_some, IsSome, Result, IfOk, OnOk, OnErr}
 use Rattle.engine.specs.Calls.{Held, Refusal, Delivered, Folded, Early, Known, Format, Csv, Aligned}
-use Rattle.engine_calls.specs.Calls.{OnSession, Asks}
+use Rattle.engine_calls.specs.Calls.{OnSession, OpensBy, Asks}
 use Rattle.engine.specs.Sessions.{SessionState}
-use Rattle.engine_calls.specs.Keeping.{KeptState, nothing}
+use Rattle.engine_calls.specs.Keeping.{KeptState, Unchanged, nothing}
 use Rattle.engine.specs.Statuses.{status_number, status_name, number_told}
 use Rattle.engine.specs.declared.status.Status.{Status}
 use Rattle.engine.specs.declared.status.Status.TheVariants.{Done, NoMemory, TooShort, NotOpen, NoSuchName}
@@ -56,23 +56,34 @@ pub record FillsSlot (old new : Option KeptState) (status : ℕ) : Type 0 where
   pub filled : status ≢ status_number NoMemory → IsSome new
   pub full : IsSome old → IsSome new
 
--- a call on a slot does so, and returns the number of its status. On success it gives its result, and else nothing changed
-pub record CallsSlot {T : Type 0} (does : (old new : Option SessionState) → Result T Status → Type 0) (gives : T → Type 0)
+-- a call on a slot does so, and returns the number of its status. On success it gives its result, and else nothing changed, except
+-- which refusal was the last
+pub record CallsSlot {T : Type 0} (does : (old new : KeptState) → Result T Status → Type 0) (gives : T → Type 0)
     (old new : Option KeptState) (status : ℕ) : Type 0 where
   pub outcome : Result T Status
-  pub calls : does (kept_by old).session (kept_by new).session outcome
+  pub calls : does (kept_by old) (kept_by new) outcome
   pub ended : status ≡ number_told outcome
   pub given : IfOk outcome gives
   pub told : (kept_by new).told ≡ (kept_by old).told
-  pub same : OnErr outcome (kept_by new ≡ kept_by old)
+  pub same : OnErr outcome (Unchanged (kept_by old) (kept_by new))
+
+-- an empty slot stays empty, since memory ran out for what it would keep, even for why
+pub record StaysEmpty (old new : Option KeptState) (status : ℕ) : Type 0 where
+  pub was : old ≡ None
+  pub stays : new ≡ None
+  pub ended : status ≡ status_number NoMemory
+
+-- a call that opens a session does so to what its slot keeps, unless the slot stays empty for want of memory
+abbrev pub OpensSlot : (makes : Result SessionState Refusal → Type 0) → (old new : Option KeptState) → (status : ℕ) → Type 0
+OpensSlot makes old new status = CallsSlot (OpensBy makes) GivesNothing old new status ⊎ StaysEmpty old new status
 
 -- a call on a slot asks its session, and returns the number of its status. On success it gives the length of the result, and else nothing
--- changed
+-- changed, except which refusal was the last
 pub record AsksSlot {T : Type 0} (tells : Held → List ℕ → T → Type 0) (refuses : Held → Refusal → Type 0) (gives : T → Type 0)
     (old new : Option KeptState) (wanted : ℕ) (status : ℕ) : Type 0 where
   pub outcome : Result T Status
-  pub asks : OnSession (Asks tells refuses (kept_by new).told) (kept_by old).session (kept_by new).session outcome
+  pub asks : OnSession (Asks tells refuses (kept_by new).told) (kept_by old) (kept_by new) outcome
   pub ended : status ≡ number_told outcome
   pub given : IfOk outcome gives
   pub long : OnOk outcome (wanted ≡ length (kept_by new).told)
-  pub same : OnErr outcome (kept_by new ≡ kept_by old)
+  pub same : OnErr outcome (Unchanged (kept_by old) (kept_by new))

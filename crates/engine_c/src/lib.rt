@@ -1,14 +1,14 @@
 //! The library for C: a summary inside another program, behind a slot that C holds.
 #![tactic(auto)]
 
-ghost use Rattle.std.specs.Prelude.{◌≡◌, ◌≢◌, ◌⊎◌, None, IsSome, codes, length};
+ghost use Rattle.std.specs.Prelude.{◌≡◌, ◌≢◌, ◌⊎◌, [], None, IsSome, codes, length};
 ghost use Rattle.engine.specs.Calls.{Creates, Loads, FeedsFile, FeedsRows, MergesFileSession, IsFileOf, IsTooLong, IsTableOf};
 ghost use Rattle.engine.specs.Calls.{IsKnownText, IsQueryText, IsColumnsText};
 ghost use Rattle.engine.specs.Statuses.{status_number, status_at};
 ghost use Rattle.engine.specs.declared.status.Status.TheVariants.{Done, NoMemory, NotOpen};
-ghost use Rattle.engine_calls.specs.Calls.{OnSession, OpensBy, ForMemory, MergesWith};
-ghost use Rattle.engine_c.specs.Exports.{kept_by, delivery_of, format_by, CallsSlot, AsksSlot, FillsSlot, StaysFull, GivesNothing};
-ghost use Rattle.engine_c.specs.Exports.{HandsOut, Fetches, Names};
+ghost use Rattle.engine_calls.specs.Calls.{OnSession, ForMemory, MergesWith, last_place};
+ghost use Rattle.engine_c.specs.Exports.{kept_by, delivery_of, format_by, CallsSlot, AsksSlot, OpensSlot, FillsSlot, StaysFull};
+ghost use Rattle.engine_c.specs.Exports.{GivesNothing, HandsOut, Fetches, Names};
 
 mod crossing;
 mod delivery;
@@ -24,7 +24,8 @@ use outcomes::{delivery, format_by, hand_out, number_of};
 use slot::{Slot, filled, taken, taken_or_new};
 use std::alloc::Global;
 
-/// Opens an empty session of a query over columns, both given as texts.
+/// Opens an empty session of a query over columns, both given as texts. An empty slot stays empty, and keeps no refusal, where there is no
+/// memory for what it would keep.
 #[unsafe(no_mangle)]
 pub extern "C" fn agg_new(
     alloc: Global,
@@ -35,8 +36,8 @@ pub extern "C" fn agg_new(
     seed_low: u64,
     seed_high: u64,
 ) -> u32
-    ensures opens { CallsSlot (OpensBy (Creates columns.now query.now limit (record { low = seed_low; high = seed_high }))) GivesNothing
-        slot.old.handle.kept slot.new.handle.kept result }
+    ensures opens { OpensSlot (Creates columns.now query.now limit (record { low = seed_low; high = seed_high })) slot.old.handle.kept
+        slot.new.handle.kept result }
     ensures full { FillsSlot slot.old.handle.kept slot.new.handle.kept result }
 {
     let Ok(mut kept) = taken_or_new(alloc, slot) else {
@@ -51,7 +52,7 @@ pub extern "C" fn agg_new(
     number_of(outcome)
 }
 
-/// Opens a session of the replica of a summary file.
+/// Opens a session of the replica of a summary file. An empty slot stays empty as for [`agg_new`].
 #[unsafe(no_mangle)]
 pub extern "C" fn agg_load(
     alloc: Global,
@@ -61,8 +62,8 @@ pub extern "C" fn agg_load(
     seed_low: u64,
     seed_high: u64,
 ) -> u32
-    ensures opens { CallsSlot (OpensBy (Loads file.now limit (record { low = seed_low; high = seed_high }))) GivesNothing
-        slot.old.handle.kept slot.new.handle.kept result }
+    ensures opens { OpensSlot (Loads file.now limit (record { low = seed_low; high = seed_high })) slot.old.handle.kept
+        slot.new.handle.kept result }
     ensures full { FillsSlot slot.old.handle.kept slot.new.handle.kept result }
 {
     let Ok(mut kept) = taken_or_new(alloc, slot) else {
@@ -259,7 +260,7 @@ pub extern "C" fn agg_answer(
     Status::Done.number()
 }
 
-/// Makes the sentence of the last refusal, and gives its place: `agg_fetch` fetches the sentence.
+/// Makes the sentence of the last refusal, and gives its place: `agg_fetch` fetches the sentence. Neither has anything if there was none.
 #[unsafe(no_mangle)]
 pub extern "C" fn agg_reason(
     alloc: Global,
@@ -267,7 +268,10 @@ pub extern "C" fn agg_reason(
     place: &mut Place,
     wanted: &mut usize,
 ) -> u32
+    ensures place { result ≡ status_number Done → place.new ≡ last_place (kept_by slot.old.handle.kept).why }
+    ensures none { result ≡ status_number Done → (kept_by slot.old.handle.kept).why ≡ None → (kept_by slot.new.handle.kept).told ≡ [] }
     ensures session { (kept_by slot.new.handle.kept).session ≡ (kept_by slot.old.handle.kept).session }
+    ensures last { (kept_by slot.new.handle.kept).why ≡ (kept_by slot.old.handle.kept).why }
     ensures wanted { result ≡ status_number Done → wanted.new ≡ length (kept_by slot.new.handle.kept).told }
     ensures same { result ≢ status_number Done → kept_by slot.new.handle.kept ≡ kept_by slot.old.handle.kept }
     ensures ends { IsSome slot.old.handle.kept → (result ≡ status_number Done) ⊎ (result ≡ status_number NoMemory) }

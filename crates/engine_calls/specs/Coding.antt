@@ -3,10 +3,14 @@ use mathlib.Core.Path.{refl}
 use base.Stored.{Coded}
 use Rattle.std.specs.Prelude.{ℕ, List, Option}
 use Rattle.std.specs.Coded.{code_by, coded×, coded_list, coded_option, coded_ℕ}
+use Rattle.replies.specs.contracts.refusal.Refusal as refusal
+use Rattle.engine.specs.Calls.{Refusal}
 use Rattle.engine.specs.Coding.{coded_session}
 use Rattle.engine.specs.Sessions.{SessionState}
 use Rattle.engine_calls.specs.Keeping.{KeptState}
 
 abbrev pub coded_kept : Coded KeptState
-coded_kept = code_by (Option SessionState × List ℕ) (coded× (coded_option coded_session) (coded_list coded_ℕ)) (λ k. (k.session, k.told))
-    (λ p. record { session = p.0; told = p.1 }) (λ _. refl)
+coded_kept =
+    code_by (Option SessionState × (List ℕ × Option Refusal))
+    (coded× (coded_option coded_session) (coded× (coded_list coded_ℕ) (coded_option refusal.the_row.coded)))
+    (λ k. (k.session, (k.told, k.why))) (λ p. record { session = p.0; told = p.1.0; why = p.1.1 }) (λ _. refl)

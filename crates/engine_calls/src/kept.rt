@@ -1,11 +1,11 @@
 //! What is kept between calls.
 
-ghost use Rattle.std.specs.Prelude.{◌≡◌, IfOk, IfErr, OnErr};
+ghost use Rattle.std.specs.Prelude.{◌≡◌, [], None, Some, IfOk, IfErr, OnOk, OnErr};
 ghost use Rattle.engine.specs.Calls.{Creates, Loads, FeedsFile, FeedsRows, MergesFileSession, IsFileOf, IsTooLong, IsTableOf};
 ghost use Rattle.engine.specs.Calls.{IsKnownText, IsQueryText, IsColumnsText, NoMemory};
 ghost use Rattle.engine.specs.Statuses.{status_of};
-ghost use Rattle.engine_calls.specs.Calls.{OnSession, OpensBy, Asks, ForMemory, MergesWith};
-ghost use Rattle.engine_calls.specs.Keeping.{nothing};
+ghost use Rattle.engine_calls.specs.Calls.{OnSession, OpensBy, Asks, ForMemory, MergesWith, last_place};
+ghost use Rattle.engine_calls.specs.Keeping.{Unchanged, nothing};
 
 use crate::reasons::{merging_reason, opening_reason, rows_reason, sentence};
 use engine::{Delivered, Format, Place, Refusal, Seed, Session, Status};
@@ -32,7 +32,7 @@ impl Model for Kept {
 
     ghost coded = { coded_kept };
 
-    ghost view = { λ k. record { session = k.session; told = k.told.items } };
+    ghost view = { λ k. record { session = k.session; told = k.told.items; why = k.why } };
 }
 
 /// The bytes of a text.
@@ -59,7 +59,9 @@ impl Kept {
     /// Keeps why a call was refused, and the reason, if there was memory for it.
     fn refuse(&mut self, why: Refusal, reason: Result<Option<Reason>, AllocError>) -> Status
         ensures status { result ≡ status_of why }
-        ensures same { self.new ≡ self.old }
+        ensures last { self.new.why ≡ Some why }
+        ensures session { self.new.session ≡ self.old.session }
+        ensures told { self.new.told ≡ self.old.told }
     {
         self.why = Some(why);
         self.reason = reason.unwrap_or(None);
@@ -69,7 +71,9 @@ impl Kept {
     /// Keeps that memory ran out.
     fn refuse_for_memory(&mut self) -> Status
         ensures status { result ≡ status_of NoMemory }
-        ensures same { self.new ≡ self.old }
+        ensures last { self.new.why ≡ Some NoMemory }
+        ensures session { self.new.session ≡ self.old.session }
+        ensures told { self.new.told ≡ self.old.told }
     {
         self.refuse(Refusal::NoMemory, Ok(None))
     }
@@ -86,9 +90,9 @@ impl Kept {
         limit: u64,
         seed: Seed,
     ) -> Result<(), Status>
-        ensures opens { OpensBy (Creates columns.now query.now limit seed) self.old.session self.new.session result }
+        ensures opens { OpensBy (Creates columns.now query.now limit seed) self.old self.new result }
         ensures told { self.new.told ≡ self.old.told }
-        ensures same { OnErr result (self.new ≡ self.old) }
+        ensures same { OnErr result (Unchanged self.old self.new) }
     {
         if self.session.is_some() {
             return Err(Status::AlreadyOpen);
@@ -110,9 +114,9 @@ impl Kept {
     ///
     /// `AlreadyOpen`, and then those of [`Session::load`].
     pub fn load(&mut self, file: &[u8], limit: u64, seed: Seed) -> Result<(), Status>
-        ensures opens { OpensBy (Loads file.now limit seed) self.old.session self.new.session result }
+        ensures opens { OpensBy (Loads file.now limit seed) self.old self.new result }
         ensures told { self.new.told ≡ self.old.told }
-        ensures same { OnErr result (self.new ≡ self.old) }
+        ensures same { OnErr result (Unchanged self.old self.new) }
     {
         if self.session.is_some() {
             return Err(Status::AlreadyOpen);
@@ -134,9 +138,9 @@ impl Kept {
     ///
     /// `NotOpen`, and then those of [`Session::feed`]. Nothing changes then.
     pub fn feed(&mut self, file: &[u8]) -> Result<Delivered, Status>
-        ensures feeds { OnSession (FeedsFile file.now) self.old.session self.new.session result }
+        ensures feeds { OnSession (FeedsFile file.now) self.old self.new result }
         ensures told { self.new.told ≡ self.old.told }
-        ensures same { OnErr result (self.new ≡ self.old) }
+        ensures same { OnErr result (Unchanged self.old self.new) }
     {
         let Some(session) = &mut self.session else {
             return Err(Status::NotOpen);
@@ -161,9 +165,9 @@ impl Kept {
         count: u32,
         rows: &[u8],
     ) -> Result<Delivered, Status>
-        ensures feeds { OnSession (FeedsRows origin number count rows.now) self.old.session self.new.session result }
+        ensures feeds { OnSession (FeedsRows origin number count rows.now) self.old self.new result }
         ensures told { self.new.told ≡ self.old.told }
-        ensures same { OnErr result (self.new ≡ self.old) }
+        ensures same { OnErr result (Unchanged self.old self.new) }
     {
         let Some(session) = &mut self.session else {
             return Err(Status::NotOpen);
@@ -183,9 +187,9 @@ impl Kept {
     ///
     /// `NotOpen` if this or the other has no session, and then those of [`Session::merge`]. Nothing changes then.
     pub fn merge(&mut self, other: &Kept) -> Result<(), Status>
-        ensures merges { MergesWith other.now.session self.old.session self.new.session result }
+        ensures merges { MergesWith other.now.session self.old self.new result }
         ensures told { self.new.told ≡ self.old.told }
-        ensures same { OnErr result (self.new ≡ self.old) }
+        ensures same { OnErr result (Unchanged self.old self.new) }
     {
         let Some(theirs) = &other.session else {
             return Err(Status::NotOpen);
@@ -207,9 +211,9 @@ impl Kept {
     ///
     /// `NotOpen`, and then those of [`Session::merge_file`]. Nothing changes then.
     pub fn merge_file(&mut self, file: &[u8]) -> Result<(), Status>
-        ensures merges { OnSession (MergesFileSession file.now) self.old.session self.new.session result }
+        ensures merges { OnSession (MergesFileSession file.now) self.old self.new result }
         ensures told { self.new.told ≡ self.old.told }
-        ensures same { OnErr result (self.new ≡ self.old) }
+        ensures same { OnErr result (Unchanged self.old self.new) }
     {
         let Some(session) = &mut self.session else {
             return Err(Status::NotOpen);
@@ -228,9 +232,8 @@ impl Kept {
     ///
     /// `NotOpen`, and then those of [`Session::save`]. Nothing changes then.
     pub fn save(&mut self) -> Result<(), Status>
-        ensures asks { OnSession (Asks (λ held file _. IsFileOf held file) IsTooLong self.new.told) self.old.session self.new.session
-            result }
-        ensures same { OnErr result (self.new ≡ self.old) }
+        ensures asks { OnSession (Asks (λ held file _. IsFileOf held file) IsTooLong self.new.told) self.old self.new result }
+        ensures same { OnErr result (Unchanged self.old self.new) }
     {
         let Some(session) = &self.session else {
             return Err(Status::NotOpen);
@@ -252,9 +255,8 @@ impl Kept {
     ///
     /// `NotOpen`, and `NoMemory`. Nothing changes then.
     pub fn answer(&mut self, format: Format) -> Result<usize, Status>
-        ensures asks { OnSession (Asks (λ held text rows. IsTableOf format held rows text) ForMemory self.new.told) self.old.session
-            self.new.session result }
-        ensures same { OnErr result (self.new ≡ self.old) }
+        ensures asks { OnSession (Asks (λ held text rows. IsTableOf format held rows text) ForMemory self.new.told) self.old self.new result }
+        ensures same { OnErr result (Unchanged self.old self.new) }
     {
         let Some(session) = &self.session else {
             return Err(Status::NotOpen);
@@ -274,8 +276,8 @@ impl Kept {
     /// `NotOpen`, and `NoMemory`. Nothing changes then.
     pub fn known(&mut self) -> Result<(), Status>
         ensures asks { OnSession (Asks (λ held text _. IsKnownText held text) ForMemory self.new.told)
-            self.old.session self.new.session result }
-        ensures same { OnErr result (self.new ≡ self.old) }
+            self.old self.new result }
+        ensures same { OnErr result (Unchanged self.old self.new) }
     {
         let Some(session) = &self.session else {
             return Err(Status::NotOpen);
@@ -295,8 +297,8 @@ impl Kept {
     /// `NotOpen`, and `NoMemory`. Nothing changes then.
     pub fn query(&mut self) -> Result<(), Status>
         ensures asks { OnSession (Asks (λ held text _. IsQueryText held text) ForMemory self.new.told)
-            self.old.session self.new.session result }
-        ensures same { OnErr result (self.new ≡ self.old) }
+            self.old self.new result }
+        ensures same { OnErr result (Unchanged self.old self.new) }
     {
         let Some(session) = &self.session else {
             return Err(Status::NotOpen);
@@ -316,8 +318,8 @@ impl Kept {
     /// `NotOpen`, and `NoMemory`. Nothing changes then.
     pub fn columns(&mut self) -> Result<(), Status>
         ensures asks { OnSession (Asks (λ held text _. IsColumnsText held text) ForMemory self.new.told)
-            self.old.session self.new.session result }
-        ensures same { OnErr result (self.new ≡ self.old) }
+            self.old self.new result }
+        ensures same { OnErr result (Unchanged self.old self.new) }
     {
         let Some(session) = &self.session else {
             return Err(Status::NotOpen);
@@ -333,7 +335,10 @@ impl Kept {
     /// Keeps the sentence of the last refusal as the result, empty if there was none, and gives its place. The only error is out of memory,
     /// and nothing changes then.
     pub fn explain(&mut self) -> Result<Place, Status>
+        ensures place { IfOk result (λ place. place ≡ last_place self.old.why) }
+        ensures none { self.old.why ≡ None → OnOk result (self.new.told ≡ []) }
         ensures session { self.new.session ≡ self.old.session }
+        ensures last { self.new.why ≡ self.old.why }
         ensures why { IfErr result (λ status. status ≡ status_of NoMemory) }
         ensures same { OnErr result (self.new ≡ self.old) }
     {

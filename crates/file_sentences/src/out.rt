@@ -1,32 +1,49 @@
 //! Sentences on OUT: an existing file, and how it is written.
 
-ghost use Rattle.std.specs.Prelude.{◌≡◌, ◌↔◌, []};
+ghost use Rattle.std.specs.Prelude.{◌≡◌};
+ghost use Rattle.file_sentences.specs.Fronts.{begins_as_batch, begins_as_summary, begins_as_version, kind_by_opening, kind_of_front};
 ghost use Rattle.file_sentences.specs.Standing.{is_foreign, stops};
-ghost use Rattle.file_sentences.specs.declared.out.FrontKind.TheVariants.{Empty};
 
 use fault_sentences::Plain;
 use std::fmt;
 
-/// What summary files begin with, by their version.
-const OPENINGS: [&[u8]; 2] = [b"AGGSUM01", b"AGGSUM02"];
-
-/// What those of all versions begin with.
-const OPENING: &[u8] = b"AGGSUM";
-
 /// How many bytes of a file tell whether it begins as a summary does.
 pub const FRONT_BYTES: usize = 8;
 
-/// What batch files begin with: with the first word in quotes or not.
-const BATCHES: [&[u8]; 2] = [b"batch,", b"\"batch\","];
+/// Whether bytes begin as a summary file does of a version that is read.
+fn is_summary(front: &[u8]) -> bool
+    ensures { result ≡ begins_as_summary front.now }
+{
+    front.starts_with(b"AGGSUM01") || front.starts_with(b"AGGSUM02")
+}
 
-/// Whether the first bytes of a file are those of one.
-fn begins_by(front: &[u8], beginnings: &[&[u8]]) -> bool {
-    for beginning in beginnings {
-        if front.starts_with(beginning) {
-            return true;
-        }
+/// Whether bytes begin as a summary file does of any version.
+fn is_versioned(front: &[u8]) -> bool
+    ensures { result ≡ begins_as_version front.now }
+{
+    front.len() >= FRONT_BYTES && front.starts_with(b"AGGSUM")
+}
+
+/// Whether bytes begin as a batch file does: with the first word in quotes or not.
+fn is_batch(front: &[u8]) -> bool
+    ensures { result ≡ begins_as_batch front.now }
+{
+    front.starts_with(b"batch,") || front.starts_with(b"\"batch\",")
+}
+
+/// What bytes tell of a file that has some.
+fn kind_by_opening(front: &[u8]) -> FrontKind
+    ensures { result ≡ kind_by_opening front.now }
+{
+    if is_summary(front) {
+        FrontKind::Summary
+    } else if is_versioned(front) {
+        FrontKind::OtherVersion
+    } else if is_batch(front) {
+        FrontKind::Batch
+    } else {
+        FrontKind::Other
     }
-    false
 }
 
 /// What the first 8 bytes of a file tell of it, or all where it has fewer.
@@ -47,18 +64,12 @@ pub enum FrontKind {
 impl FrontKind {
     /// What first bytes tell.
     pub fn of_front(front: &[u8]) -> FrontKind
-        ensures empty { (result ≡ Empty) ↔ (front.now ≡ []) }
+        ensures kind { result ≡ kind_of_front front.now }
     {
         if front.is_empty() {
             FrontKind::Empty
-        } else if begins_by(front, OPENINGS.as_slice()) {
-            FrontKind::Summary
-        } else if front.len() >= FRONT_BYTES && front.starts_with(OPENING) {
-            FrontKind::OtherVersion
-        } else if begins_by(front, BATCHES.as_slice()) {
-            FrontKind::Batch
         } else {
-            FrontKind::Other
+            kind_by_opening(front)
         }
     }
 

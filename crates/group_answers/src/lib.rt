@@ -5,4 +5,4 @@ mod row_sink;
 mod showing;
 
 pub use row_sink::RowSink;
-pub use showing::{finalize_and_project, project_into};
+pub use showing::{finalize_and_project, project_into, rows_of_run};

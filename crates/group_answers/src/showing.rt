@@ -150,8 +150,9 @@ fn rows_of_none<S: RowSink>(alloc: Global, query: &Query, rows: &mut S) -> Resul
     push_group(query, &[], &states, &mut Scratch::new(alloc), rows)
 }
 
-/// Gives a sink the rows of the groups of a run, in their order.
-fn rows_of_run<S: RowSink>(
+/// Gives a sink the rows of the groups of a run, in their order: one for each group for which HAVING is true. The only error is a failed
+/// allocation.
+pub fn rows_of_run<S: RowSink>(
     alloc: Global,
     query: &Query,
     run: &Run,

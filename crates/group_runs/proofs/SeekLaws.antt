@@ -20,7 +20,7 @@ dropped_in segments at segment i place is long low =
     ∙ drop-append-add (concatenated (take at segments)) (segment ++ concatenated (drop (at + 1) segments)) i
     ∙ drop-append-le i segment (concatenated (drop (at + 1) segments)) low
 
-range_in : (segments : List (List Entry)) (at : ℕ) (segment : List Entry) (i j low place : ℕ) → slice_get segments at ≡ Some segment
+pub range_in : (segments : List (List Entry)) (at : ℕ) (segment : List Entry) (i j low place : ℕ) → slice_get segments at ≡ Some segment
     → length (concatenated (take at segments)) + i ≡ low → length (concatenated (take at segments)) + j ≡ place → i ≤ j → j ≤ length segment
     → slice_range (concatenated segments) low place ≡ slice_range segment i j
 range_in segments at segment i j low place is first second order within =

@@ -1,8 +1,10 @@
 //! Runs of groups.
 
-ghost use Rattle.std.specs.Prelude.{◌≡◌, ◌<◌, ◌++◌, ◌∷◌, [], length, slice_get, Some, IsTrue, ◌↔◌, IfOk, OnOk, OnErr};
+ghost use Rattle.std.specs.Prelude.{◌≡◌, ◌^◌, ◌<◌, ◌≤◌, ◌++◌, ◌∷◌, [], length, slice_get, slice_range, Some, IsTrue, ◌↔◌};
+ghost use Rattle.std.specs.Prelude.{IfOk, OnOk, OnErr};
 ghost use Rattle.having_filter.specs.Meaning.{meaning};
 ghost use Rattle.group_runs.specs.Runs.{Rises};
+ghost use Rattle.group_runs.specs.Places.{IsPlaceOf};
 ghost use Rattle.group_runs.specs.Steps.{HasRoomForRun, AddsRun};
 
 use crate::segments::Segments;
@@ -92,6 +94,28 @@ impl Run {
     {
         Ok(Run {
             segments: self.segments.try_clone(alloc)?,
+        })
+    }
+
+    /// The place of a key among the groups from a place on: that of the first one whose key is not below it. `step` is a guess of
+    /// how far it is.
+    pub fn seek(&self, from: usize, step: usize, key: &[u8]) -> usize
+        requires { from ≤ length self.now }
+        ensures place { IsPlaceOf self.now from key.now result }
+        ensures rises { Rises self.now }
+        ensures few { length self.now < 2 ^ 64 }
+    {
+        self.segments.seek(from, step, key)
+    }
+
+    /// A copy of the groups from a place up to another. The only error is a failed allocation.
+    pub fn piece(&self, alloc: Global, from: usize, to: usize) -> Result<Run, AllocError>
+        requires order { from ≤ to }
+        requires within { to ≤ length self.now }
+        ensures { IfOk result (λ piece. piece ≡ slice_range self.now from to) }
+    {
+        Ok(Run {
+            segments: self.segments.piece(alloc, from, to)?,
         })
     }
 

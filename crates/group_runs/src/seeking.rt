@@ -75,6 +75,9 @@ impl Segments {
         ensures begun { length (concatenated (take result.2 self.now)) ≤ result.0 }
         ensures ended { result.1 ≤ length (concatenated (take (result.2 + 1) self.now)) }
     {
+        if self.count() == 1 {
+            return (from, self.len(), 0);
+        }
         let mut low = from;
         let mut high = self.len();
         let mut last = self.count();

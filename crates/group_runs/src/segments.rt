@@ -1,7 +1,7 @@
 //! The segments of a run.
 
 ghost use Rattle.std.specs.Prelude.{◌≡◌, ℕ, ◌+◌, ◌^◌, ◌<◌, ◌≤◌, ◌++◌, ◌∷◌, List, [], length, take, slice_get, slice_index_or, Some};
-ghost use Rattle.std.specs.Prelude.{IsTrue, ◌↔◌};
+ghost use Rattle.std.specs.Prelude.{IsTrue, ◌↔◌, slice_range};
 ghost use Rattle.std.specs.Prelude.{IfOk, OnOk, OnErr};
 ghost use Rattle.std.specs.List.{AllByRecursion, Any};
 ghost use Rattle.std.specs.Vec.{vec_len, vec_capacity};
@@ -298,6 +298,44 @@ impl Segments {
         let at = self.segment_of(place);
         let start = self.start(at);
         self.segments[at].combine_at(query, place - start, more);
+    }
+
+    /// The groups from a place up to another, in a segment of their own. The only error is a failed allocation.
+    fn joined(&self, alloc: Global, from: usize, to: usize) -> Result<Segment, AllocError>
+        requires order { from ≤ to }
+        requires within { to ≤ length (concatenated self.now) }
+        ensures { IfOk result (λ segment. segment ≡ slice_range (concatenated self.now) from to) }
+    {
+        let _few_segments = self.count();
+        let _few_groups = self.len();
+        let mut joined = Segment::with_capacity(alloc, 0, 0, 0)?;
+        let mut left = from;
+        while left < to {
+            let at = self.segment_of(left);
+            let start = self.start(at);
+            let end = self.start(at + 1).min(to);
+            joined.push_range(self.segment(at), left - start, end - start)?;
+            left = end;
+        }
+        Ok(joined)
+    }
+
+    /// A copy of the groups from a place up to another. The only error is a failed allocation.
+    pub(crate) fn piece(
+        &self,
+        alloc: Global,
+        from: usize,
+        to: usize,
+    ) -> Result<Segments, AllocError>
+        requires order { from ≤ to }
+        requires within { to ≤ length (concatenated self.now) }
+        ensures { IfOk result (λ piece. concatenated piece ≡ slice_range (concatenated self.now) from to) }
+    {
+        let mut piece = Segments::new(alloc);
+        if from < to {
+            piece.push_segment(self.joined(alloc, from, to)?)?;
+        }
+        Ok(piece)
     }
 
     /// A copy of the segments. The only error is a failed allocation.

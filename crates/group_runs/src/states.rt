@@ -103,7 +103,7 @@ pub fn initial_states(alloc: Global, query: &Query) -> Result<Vec<u8>, AllocErro
 }
 
 /// Combines the states of a group with others of its key, which come after. The error is `BadState` if either are not
-/// states of the query, or if they would then count more than `most` rows.
+/// states of the query, or if they would then count more than `most` rows. Then the states are unchanged.
 pub fn combine_within(
     query: &Query,
     states: &mut [u8],
@@ -113,6 +113,7 @@ pub fn combine_within(
     requires most { most ≤ most_rows }
     ensures combined { OnOk result (AreCombined (functions (meaning query.now)) most states.old more.now states.new) }
     ensures refused { OnErr result (¬ HaveRoomWithin (functions (meaning query.now)) most states.old more.now) }
+    ensures unchanged { OnErr result (states.new ≡ states.old) }
 {
     StateRow::combine_into(query.agg_kinds(), states, more, most)
 }

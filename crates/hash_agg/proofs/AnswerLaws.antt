@@ -13,7 +13,7 @@ use Rattle.query_checks.specs.Checks.{Checked}
 use Rattle.spill_partitions.specs.declared.error.SpillError.{SpillError}
 use Rattle.hash_agg.specs.Counting.{HasFewPasses, IsCounted, Took, cost_given, no_work, told_work, setting_by}
 use Rattle.hash_agg.specs.Inputs.{Aggregated, Aggregation}
-use Rattle.hash_agg.specs.Lemmas.RanLaws.{Counting, reason_is}
+use Rattle.hash_agg.specs.Lemmas.RanLaws.{Counting, none_grown, reason_is}
 use Rattle.hash_agg.specs.Means.{MeansState}
 use Rattle.hash_agg.specs.Ran.{Ran, Done, Refused, ended}
 use Rattle.hash_agg.proofs.CountLaws.{all_made, made_rise, all_few, keys_give, few_keys}
@@ -73,7 +73,7 @@ refused_ran g hash_of query means Counts r e before after given leaves undamaged
       undamaged = λ honest same. undamaged honest (sym p.2 ∙ error_is p.0 TapeDamaged (reason_is same));
       counted = tt;
       uncounted = refl;
-      held = λ low. low;
+      grown = none_grown means.limit no_work;
     })
   where
     error_is : (one other : SpillError) → Some one ≡ Some other → one ≡ other
@@ -185,7 +185,9 @@ module _ {H D : Type 0} (hash_of : H → List ℕ → ℕ) (g : Ghosts D) (query
         undamaged = λ honest same. absurd cc;
         counted = answer_took;
         uncounted = tt;
-        held = answer_held no_work run after work made;
+        grown =
+            let within : work.most_held ≤ means.limit = answer_held no_work run after work made (omega arith) in
+            record { passes = omega arith; spilled = omega arith; held = omega arith; within = omega (arith, within) };
       }
 
 -- ---- a run that more is folded into
@@ -204,8 +206,9 @@ pub fold_ran : {D H : Type 0} (g : Ghosts D) (hash_of : H → List ℕ → ℕ) 
     (before after : D) (old told new : Work) → Ran g hash_of query means (Took inputs) Done before no_work after told
     → new.passes ≡ min (old.passes + told.passes) 18446744073709551615
     → new.spilled ≡ min (old.spilled + told.spilled) 340282366920938463463374607431768211455
-    → new.most_held ≡ max old.most_held told.most_held → Ran g hash_of query means (IsCounted inputs) Done before old after new
-fold_ran g hash_of query means inputs before after old told new ran passes spilled held = record {
+    → new.most_held ≡ max old.most_held told.most_held → (old.passes ≤ new.passes) × (old.spilled ≤ new.spilled)
+    → Ran g hash_of query means (IsCounted inputs) Done before old after new
+fold_ran g hash_of query means inputs before after old told new ran passes spilled held up = record {
   disk = ran.disk;
   undamaged = λ honest same. absurd cc;
   counted = λ honest.
@@ -215,5 +218,7 @@ fold_ran g hash_of query means inputs before after old told new ran passes spill
         pages = took.counted.pages;
       };
   uncounted = tt;
-  held = λ low. let mine = ran.held (omega arith) in omega (arith, held, low, mine);
+  grown =
+      let mine = ran.grown.within in
+      record { passes = up.0; spilled = up.1; held = omega (arith, held); within = omega (arith, held, mine) };
 }

@@ -33,6 +33,14 @@ abbrev pub told_work : {Answer Error : Type 0} → Result (Answer × Work) Error
 told_work (Ok done) = done.1
 told_work (Err error) = no_work
 
+-- the work that is counted went from one to another, under a limit of bytes of blocks. No counter went down, and what was counted since
+-- held no more blocks than the limit
+pub record HasGrown (limit : ℕ) (begun done : Work) : Type 0 where
+  pub passes : begun.passes ≤ done.passes
+  pub spilled : begun.spilled ≤ done.spilled
+  pub held : begun.most_held ≤ done.most_held
+  pub within : done.most_held ≤ max begun.most_held limit
+
 -- an aggregation of inputs was counted: what it costs was added to the work, and its pages to those that were written
 pub record IsCounted (inputs : List Brought) (query : Query) (setting : Setting) (old : Work) (writes : ℕ) (new : Work) (written : ℕ) :
     Type 0 where

@@ -1,6 +1,6 @@
 -- What a call that aggregates leaves of the disk of tapes and of the work that is counted, apart from what it answers. All of this is our
 -- own; PostgreSQL 17 keeps the like in one struct for all nodes of a query (execnodes.h, EState).
-use Rattle.std.specs.Prelude.{◌≡◌, ◌≢◌, ℕ, ◌≤◌, List, Option, Some, None, Result, Ok, Err, IsTrue}
+use Rattle.std.specs.Prelude.{◌≡◌, ◌≢◌, ℕ, List, Option, Some, None, Result, Ok, Err, IsTrue}
 use Rattle.aggregation_cost.specs.Space.{Setting}
 use Rattle.grouping_model.specs.Query.{Query}
 use Rattle.having_filter.specs.Meaning.{meaning}
@@ -10,7 +10,7 @@ use Rattle.spill_partitions.specs.declared.error.SpillError.{SpillError}
 use Rattle.spill_partitions.specs.declared.error.SpillError.TheVariants.{TapeDamaged}
 use Rattle.tape_disks.specs.Disk.{DiskFrame}
 use Rattle.tape_disks.specs.declared.disk.TapeDisk.{Ghosts}
-use Rattle.hash_agg.specs.Counting.{setting_by}
+use Rattle.hash_agg.specs.Counting.{setting_by, HasGrown}
 use Rattle.hash_agg.specs.Means.{MeansState}
 use Rattle.hash_agg.specs.declared.work.Work.{Work}
 
@@ -42,8 +42,8 @@ WhereRefused Done Fact = Unit {0}
 WhereRefused (Refused reason) Fact = Fact
 
 -- a call aggregated for a query by some means, and ended so. The disk failed as often as its end says, and an honest one is never said to
--- be damaged. Where it is done, what it aggregated was counted, over an honest disk; where it is refused, nothing was. The blocks that are
--- counted are within the limit over any disk
+-- be damaged. Where it is done, what it aggregated was counted, over an honest disk; where it is refused, nothing was. Over any disk the
+-- counters only grow, and the blocks that it counts are within the limit, whatever was counted before
 pub record Ran {D H : Type 0} (g : Ghosts D) (hash_of : H → List ℕ → ℕ) (query : Checked) (means : MeansState H)
     (Counts : Query → Setting → Work → ℕ → Work → ℕ → Type 0) (ended : Ended) (before : D) (begun : Work) (after : D) (done : Work) :
     Type 0 where
@@ -52,4 +52,4 @@ pub record Ran {D H : Type 0} (g : Ghosts D) (hash_of : H → List ℕ → ℕ) 
   pub counted : WhereDone ended (IsTrue (g.honest before) → Counts (meaning query) (setting_by hash_of (meaning query) means) begun
       (g.writes before) done (g.writes after))
   pub uncounted : WhereRefused ended (done ≡ begun)
-  pub held : begun.most_held ≤ means.limit → done.most_held ≤ means.limit
+  pub grown : HasGrown means.limit begun done

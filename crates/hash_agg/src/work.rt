@@ -1,6 +1,6 @@
 //! What an aggregation took.
 
-ghost use Rattle.std.specs.Prelude.{◌≡◌, ◌+◌, min, max};
+ghost use Rattle.std.specs.Prelude.{◌≡◌, ◌+◌, ◌≤◌, min, max};
 ghost use Rattle.hash_agg.specs.Counting.{no_work};
 
 /// What an aggregation took: its passes, the records that these spilled, and the most bytes of blocks that its table of groups held at
@@ -25,11 +25,12 @@ impl Work {
         }
     }
 
-    /// Adds the work of another aggregation. Counters saturate: they stop at their greatest number.
+    /// Adds the work of another aggregation. Counters saturate: they stop at their greatest number, and so they never go down.
     pub(crate) fn add(&mut self, more: Work)
         ensures passes { self.new.passes ≡ min (self.old.passes + more.passes) 18446744073709551615 }
         ensures spilled { self.new.spilled ≡ min (self.old.spilled + more.spilled) 340282366920938463463374607431768211455 }
         ensures most_held { self.new.most_held ≡ max self.old.most_held more.most_held }
+        ensures grown { (self.old.passes ≤ self.new.passes) × (self.old.spilled ≤ self.new.spilled) }
     {
         self.passes = self.passes.saturating_add(more.passes);
         self.spilled = self.spilled.saturating_add(more.spilled);

@@ -56,6 +56,8 @@ impl OriginPart {
         requires part { IsPartOf query.now self.now }
         requires other { IsPartOf query.now other.now }
         ensures joining { JoiningAside (D.honest disk.old) query.now self.now other.now result }
+        // Where this part keeps its prefix and its groups, there stand early batches alone. No number follows the greatest one.
+        ensures aside { self.now.prefix ≢ LAST_NUMBER → KeepsGroups self.now other.now → IfOk result (StandAside self.now other.now) }
         ensures ran { Ran D.TapeDisk H.hash_of query.now means.now (JoinIsCounted self.now other.now) (join_ended result) disk.old
             work.old disk.new work.new }
     {

@@ -1,8 +1,7 @@
 //! The bytes of a file.
 
 ghost use Rattle.std.specs.Prelude.{◌≡◌, ◌≤◌, IfOk, length, true, false};
-ghost use Rattle.std.specs.Io.KnownBytes.{ReadConsumes};
-ghost use Rattle.out_files.specs.Reading.{GaveAll, HadOthers};
+ghost use Rattle.out_files.specs.Reading.{GaveAll, HadOthers, ReadsFront};
 
 use std::fs::File;
 use std::io::Read;
@@ -40,13 +39,21 @@ pub(crate) fn has_bytes<R: Files>(rt: &R, path: &str, bytes: &[u8]) -> io::Resul
     }
 }
 
-/// Reads the first bytes that a reader has left, by one call of `read`, and answers how many it gave: none only at its end, or where there
-/// is no room for one.
+/// Reads the first bytes that a reader has left, as many as there is room for, in as many calls of `read` as that needs, and answers how
+/// many it gave: fewer only where it has no more. After an error those that it gave are lost.
 pub fn front_from<F: Read>(reader: &mut F, front: &mut [u8]) -> io::Result<usize>
     ensures bound { IfOk result (λ count. count ≤ length front.new) }
-    ensures read { ReadConsumes (F.remaining reader.old) (F.remaining reader.new) result front.new }
+    ensures read { ReadsFront (F.remaining reader.old) (F.remaining reader.new) result front.new }
 {
-    reader.read(front)
+    let mut count = 0;
+    while count < front.len() {
+        let more = reader.read(&mut front[count..])?;
+        if more == 0 {
+            return Ok(count);
+        }
+        count += more;
+    }
+    Ok(count)
 }
 
 /// Reads the first bytes of a file, as [`front_from`] reads them of a reader, and answers how many they are.

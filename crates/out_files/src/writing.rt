@@ -1,5 +1,8 @@
 //! Writes files.
 
+ghost use Rattle.std.specs.Prelude.{OnOk};
+ghost use Rattle.std.specs.Io.KnownBytes.{Appends};
+
 use crate::beside::create_beside;
 use crate::reading::has_bytes;
 use crate::trial::{Place, open_over};
@@ -24,7 +27,9 @@ impl From<io::Error> for Unwritten {
 }
 
 /// Writes bytes to an opened file, and waits until the system has them on its disk.
-fn fill<F: Write + OpenFile>(file: &mut F, bytes: &[u8]) -> io::Result<()> {
+fn fill<F: Write + OpenFile>(file: &mut F, bytes: &[u8]) -> io::Result<()>
+    ensures { OnOk result (Appends (F.contents file.old) (F.contents file.new) bytes.now) }
+{
     file.write_all(bytes)?;
     file.sync_all()
 }
@@ -162,8 +167,14 @@ fn write_at<R: Files + AllocGlobal>(
     }
 }
 
-/// Creates the target of a dangling link.
-fn write_new<R: Files>(rt: &R, link: &str, bytes: &[u8]) -> Result<Place, Unwritten> {
+/// Creates the target of a dangling link. Where old bytes are known, its target had them and is gone by now, and nothing is created.
+fn write_new<R: Files>(
+    rt: &R,
+    link: &str,
+    bytes: &[u8],
+    old: Option<&[u8]>,
+) -> Result<Place, Unwritten> {
+    keep_others(rt, link, old)?;
     fs::write(rt, link, bytes)?;
     Ok(Place::Beside)
 }
@@ -178,7 +189,7 @@ fn write_through<R: Files + AllocGlobal>(
 ) -> Result<Place, Unwritten> {
     match fs::canonicalize(rt, link) {
         Ok(target) => write_at(rt, target.as_str(), bytes, old),
-        Err(error) if error.kind() == ErrorKind::NotFound => write_new(rt, link, bytes),
+        Err(error) if error.kind() == ErrorKind::NotFound => write_new(rt, link, bytes, old),
         Err(error) => Err(Unwritten::Failed(error)),
     }
 }

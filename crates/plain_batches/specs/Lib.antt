@@ -1,6 +1,5 @@
 pub mod Plain
 pub mod Left
 pub mod Columns
-pub mod Writer
 pub mod Packed
 pub mod Refusal

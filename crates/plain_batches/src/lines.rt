@@ -5,7 +5,7 @@ ghost use Rattle.csv.specs.Records.{fields_of, partial_of};
 ghost use Rattle.csv.specs.Writing.{default_writer, row_text};
 ghost use Rattle.plain_batches.specs.Columns.{arranged, plain_field};
 ghost use Rattle.plain_batches.specs.Packed.{head_fields, head_of};
-ghost use Rattle.plain_batches.specs.Writer.{IsBetween, Writes, written};
+ghost use Rattle.script_io.specs.LineWriter.{IsBetween, Writes, written};
 
 use csv::{ByteRecord, Writer};
 use itoa::Buffer;

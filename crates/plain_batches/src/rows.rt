@@ -5,7 +5,7 @@ ghost use Rattle.csv.specs.Writing.{default_writer, row_text};
 ghost use Rattle.grouping_model.specs.declared.limits.TheConstants.{MAX_ROWS};
 ghost use Rattle.plain_batches.specs.Columns.{arranged};
 ghost use Rattle.plain_batches.specs.Refusal.{WidthFault};
-ghost use Rattle.plain_batches.specs.Writer.{IsBetween, Writes};
+ghost use Rattle.script_io.specs.LineWriter.{IsBetween, Writes};
 
 use crate::error::PackError;
 use crate::lines::{arrange, finish, put_line};

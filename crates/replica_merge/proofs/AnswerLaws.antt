@@ -1,6 +1,6 @@
 -- The inputs of an answer, and the answer that their groups give.
 use Rattle.std.specs.Borrow.{Bor}
-use Rattle.std.specs.Prelude.{◌≡◌, refl, ℕ, ◌+◌, ◌*◌, ◌<◌, ◌≤◌, true, false, cond, List, [], ◌∷◌, ◌++◌, map, filter, flat_map, length, Bool}
+use Rattle.std.specs.Prelude.{◌≡◌, ◌≢◌, refl, ℕ, ◌+◌, ◌*◌, ◌<◌, ◌≤◌, true, false, cond, List, [], ◌∷◌, ◌++◌, map, filter, flat_map, length, Bool}
 use Rattle.std.specs.Prelude.{All, Some}
 use Rattle.std.proofs.Common.{sym, ◌∙◌, ap, subst, arith}
 use Rattle.std.proofs.lemmas.List.{length-map}
@@ -12,7 +12,7 @@ use Rattle.std.proofs.lemmas.List.Sorted.{All-permutation}
 use Rattle.std.specs.Ordering.{nat_cmp}
 use Rattle.replica_merge.specs.Lemmas.Words.{each_weaker, each_both, LAST_ORIGIN, LAST_NUMBER, MAX_ROWS, Row, Query, Group, part, World}
 use Rattle.replica_merge.specs.Lemmas.Words.{origin_rows, known_rows, rows_upto, Checked, meaning, AreGroups, Part, FitsOrigin, Parts}
-use Rattle.replica_merge.specs.Lemmas.Words.{part_at}
+use Rattle.replica_merge.specs.Lemmas.Words.{counted, part_at}
 use Rattle.replica_merge.specs.Lemmas.Words.{part_of, told, Held, Fits, IsHeldPart, AreHeldParts, counted_part, brought_by, IsRunAlone}
 use Rattle.replica_merge.specs.Lemmas.Words.{IsAnswerOf, IsShown, IsUnion}
 use Rattle.grouping_model.specs.Sorting.{sorted_moves}
@@ -24,9 +24,11 @@ use Rattle.grouping_model.specs.Answer.{source_in, answered, rows_of, answer_of,
 use Rattle.agg_protocol.specs.States.{most_rows}
 use Rattle.group_runs.specs.Runs.{Entry}
 use Rattle.packed_rows.specs.ConcatenatedRows.{concatenated}
-use Rattle.hash_agg.specs.Inputs.{Brought, IsInput, AreInputsOf, all_rows, rows_in}
+use Rattle.hash_agg.specs.Inputs.{Brought, Counted, IsInput, AreInputsOf, all_rows, rows_in}
 use Rattle.origin_prefix.specs.Lemmas.ByNumber.{numbers, above_first, rising_rest}
 use Rattle.replica_merge.specs.Lemmas.ToldLaws.{HasGap, part_gap, prefix_told, origins_told, each_at, part_here}
+use Rattle.replica_merge.specs.declared.pieces.Span.{Span}
+use Rattle.replica_merge.specs.Pieces.{left_by, ShowLeft}
 use Rattle.replica_merge.proofs.UnionLaws.{one_part}
 
 -- ---- inputs
@@ -204,13 +206,33 @@ pub shown_answer : (held : Held) (run : List Entry) (rows : List (List Outcome))
 shown_answer held run rows of shown world fits =
     shown of.most (part (meaning held.query) (known_rows world (told held.parts))) of.few (of.known world fits)
 
+-- a run is the only part's, if there is one part
+abbrev pub IsOnlyRun : Held → List Entry → Type 0
+IsOnlyRun held run = (only : ℕ × Part) → held.parts ≡ only ∷ [] → run ≡ only.1.run
+
+pub run_only : (held : Held) (parts : List (Bor Part)) (run : List Entry) → brought_by parts ≡ map counted_part held.parts
+    → IsRunAlone parts run → IsOnlyRun held run
+run_only held parts run all alone only one =
+    alone.run_is ∙ same_run alone.only.now.run only.1.run (alone.only.now.prefix * MAX_ROWS) (only.1.prefix * MAX_ROWS)
+    (sym (ap brought_by alone.alone) ∙ all ∙ ap (map counted_part) one)
+  where
+    same_run : (a b : List Entry) (m n : ℕ) → Counted a m ∷ [] ≡ Counted b n ∷ [] → a ≡ b
+    same_run a b m n same = cc
+
+pub not_only : (held : Held) (parts : List (Bor Part)) (run : List Entry) → brought_by parts ≡ map counted_part held.parts
+    → length parts ≢ 1 → IsOnlyRun held run
+not_only held parts run all many only one =
+    absurd (many (sym (length-map parts (λ (p : Bor Part). counted p.now)) ∙ ap length all
+    ∙ ap (λ (parts : Parts). length (map counted_part parts)) one))
+
 -- they are those of the groups of all parts
 pub shown_rows : (held : Held) (inputs : List Brought) (run : List Entry) (rows : List (List Outcome))
     → AreHeldParts held.query held.parts → inputs ≡ map counted_part held.parts → IsUnion (meaning held.query) inputs run
-    → ShownBy (meaning held.query) run rows → IsShown held rows
-shown_rows held inputs run rows is all union shown = record {
+    → IsOnlyRun held run → ShownBy (meaning held.query) run rows → IsShown held rows
+shown_rows held inputs run rows is all union alone shown = record {
   run = run;
   union = subst (λ those. IsUnion (meaning held.query) those run) all union;
+  alone = alone;
   shown = λ groups are. shown (all_rows (map counted_part held.parts)) groups (few_parts held.query held.parts is) are;
 }
 
@@ -219,7 +241,8 @@ pub alone_rows : (held : Held) (parts : List (Bor Part)) (run : List Entry) (row
     → ShownBy (meaning held.query) run rows → IsShown held rows
 alone_rows held parts run rows is all alone shown =
     shown_rows held (brought_by parts) run rows is all
-    (one_part (meaning held.query) parts run (listed_inputs held.query held.parts (brought_by parts) is all) alone) shown
+    (one_part (meaning held.query) parts run (listed_inputs held.query held.parts (brought_by parts) is all) alone)
+    (run_only held parts run all alone) shown
 
 -- ---- rows that nothing arranges
 
@@ -239,13 +262,13 @@ as_given q run rows none given =
 pub whole_answer : (held : Held) (inputs : List Brought) (run : List Entry) (rows : List (List Outcome))
     → (meaning held.query).arrangement ≡ unarranged
     → AreHeldParts held.query held.parts → inputs ≡ map counted_part held.parts → IsUnion (meaning held.query) inputs run
-    → GivenBy (meaning held.query) run rows → IsAnswerOf held rows
-whole_answer held inputs run rows none is all union given =
+    → IsOnlyRun held run → GivenBy (meaning held.query) run rows → IsAnswerOf held rows
+whole_answer held inputs run rows none is all union alone given =
     let of : IsOfParts held run = whole_run held inputs run is all union in
     let shown : ShownBy (meaning held.query) run rows = as_given (meaning held.query) run rows none given in
     record {
       width = shown_wide held run rows of shown;
-      shown = shown_rows held inputs run rows is all union shown;
+      shown = shown_rows held inputs run rows is all union alone shown;
       of_world = λ world is fits. shown_answer held run rows of shown world fits;
     }
 
@@ -255,4 +278,20 @@ pub alone_answer : (held : Held) (parts : List (Bor Part)) (run : List Entry) (r
     → GivenBy (meaning held.query) run rows → IsAnswerOf held rows
 alone_answer held parts run rows none is all alone given =
     whole_answer held (brought_by parts) run rows none is all
-    (one_part (meaning held.query) parts run (listed_inputs held.query held.parts (brought_by parts) is all) alone) given
+    (one_part (meaning held.query) parts run (listed_inputs held.query held.parts (brought_by parts) is all) alone)
+    (run_only held parts run all alone) given
+
+-- ---- pieces
+
+-- the answer that pieces give, before ORDER BY arranges it
+pub pieces_answer : (held : Held) (spans : List Span) (rows : List (List Outcome)) → (meaning held.query).arrangement ≡ unarranged
+    → AreHeldParts held.query held.parts → left_by spans ≡ map counted_part held.parts
+    → (show : ShowLeft (meaning held.query) spans rows) → IsOnlyRun held show.run → IsAnswerOf held rows
+pieces_answer held spans rows none is all show alone =
+    whole_answer held (left_by spans) show.run rows none is all show.union alone show.shown
+
+-- rows of pieces that are arranged are what the groups of their run show
+pub arranged_shown : (q : Query) (spans : List Span) (given rows : List (List Outcome)) → rows ≡ arranged q.arrangement given
+    → (show : ShowLeft q spans given) → ShownBy q show.run rows
+arranged_shown q spans given rows is show =
+    λ most groups low are. is ∙ ap (arranged q.arrangement) (show.shown most groups low are)

@@ -2,4 +2,6 @@ pub mod AnswerLaws
 pub mod SavedLaws
 pub mod WorldLaws
 pub mod UnionLaws
+pub mod PartedLaws
+pub mod PieceLaws
 pub mod SameFiles

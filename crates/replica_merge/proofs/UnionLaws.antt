@@ -116,52 +116,9 @@ module _ (q : Query) (xs ys : List Brought) (a b c : List Entry) (few : all_rows
             };
       }
 
--- ---- parts that are halved
+-- ---- a single part
 
--- what two halves bring
-pub halves_bring : (parts front back : List (Bor Part)) → parts ≡ front ++ back → brought_by parts ≡ brought_by front ++ brought_by back
-halves_bring parts front back both = ap brought_by both ∙ map-append (λ (p : Bor Part). counted p.now) front back
-
-pub front_inputs : (q : Query) (parts front back : List (Bor Part)) → parts ≡ front ++ back → AllByRecursion (IsInput q) (brought_by parts)
-    → AllByRecursion (IsInput q) (brought_by front)
-front_inputs q parts front back both all = each_front (IsInput q) (brought_by front) (brought_by back)
-    (subst (AllByRecursion (IsInput q)) (halves_bring parts front back both) all)
-
-pub back_inputs : (q : Query) (parts front back : List (Bor Part)) → parts ≡ front ++ back → AllByRecursion (IsInput q) (brought_by parts)
-    → AllByRecursion (IsInput q) (brought_by back)
-back_inputs q parts front back both all = each_behind (IsInput q) (brought_by front) (brought_by back)
-    (subst (AllByRecursion (IsInput q)) (halves_bring parts front back both) all)
-
-rows_of_halves : (parts front back : List (Bor Part)) → parts ≡ front ++ back → all_rows (brought_by parts) ≡ all_rows (brought_by front)
-    + all_rows (brought_by back)
-rows_of_halves parts front back both = ap all_rows (halves_bring parts front back both)
-    ∙ sum_by-append rows_in (brought_by front) (brought_by back)
-
-pub front_few : (parts front back : List (Bor Part)) → parts ≡ front ++ back → all_rows (brought_by parts) ≤ most_rows
-    → all_rows (brought_by front) ≤ most_rows
-front_few parts front back both few = let sum = rows_of_halves parts front back both in omega (arith, few, sum)
-
-pub back_few : (parts front back : List (Bor Part)) → parts ≡ front ++ back → all_rows (brought_by parts) ≤ most_rows
-    → all_rows (brought_by back) ≤ most_rows
-back_few parts front back both few = let sum = rows_of_halves parts front back both in omega (arith, few, sum)
-
--- what is asked of the runs of both halves, and what becomes of them
-pub halves_room : (q : Query) (parts front back : List (Bor Part)) (a b : List Entry) → parts ≡ front ++ back
-    → all_rows (brought_by parts) ≤ most_rows
-    → IsUnion q (brought_by front) a → IsUnion q (brought_by back) b → HasRoomForRun q a b
-halves_room q parts front back a b both few left right =
-    union_room q (brought_by front) (brought_by back) a b a
-    (subst (λ inputs. all_rows inputs ≤ most_rows) (halves_bring parts front back both) few) left right
-
-pub halves_united : (q : Query) (parts front back : List (Bor Part)) (a b c : List Entry) → parts ≡ front ++ back
-    → all_rows (brought_by parts) ≤ most_rows
-    → IsUnion q (brought_by front) a → IsUnion q (brought_by back) b → AddsRun q a b c → IsUnion q (brought_by parts) c
-halves_united q parts front back a b c both few left right added =
-    subst (λ inputs. IsUnion q inputs c) (sym (halves_bring parts front back both))
-    (added_union q (brought_by front) (brought_by back) a b c
-    (subst (λ inputs. all_rows inputs ≤ most_rows) (halves_bring parts front back both) few) left right added)
-
--- a single part, and none
+-- a single part
 pub one_part : (q : Query) (parts : List (Bor Part)) (run : List Entry) → AllByRecursion (IsInput q) (brought_by parts)
     → IsRunAlone parts run → IsUnion q (brought_by parts) run
 one_part q parts run inputs is =

@@ -7,4 +7,5 @@ pub mod Coding
 pub mod Counting
 pub mod Errors
 pub mod Unions
+pub mod Pieces
 pub mod Lemmas

@@ -1,5 +1,5 @@
 -- The groups of several origins in one run. All of this is our own.
-use Rattle.std.specs.Prelude.{◌≡◌, All, List, [], ◌∷◌, length, map}
+use Rattle.std.specs.Prelude.{◌≡◌, ℕ, All, List, [], ◌∷◌, length, map}
 use Rattle.std.specs.Borrow.{Bor}
 use Rattle.grouping_model.specs.Datum.{Row}
 use Rattle.grouping_model.specs.Query.{Query}
@@ -20,8 +20,8 @@ use Rattle.replica_merge.specs.Replicas.{Held, Fits, told, counted, counted_part
 abbrev pub brought_by : List (Bor Part) → List Brought
 brought_by parts = map (λ (p : Bor Part). counted p.now) parts
 
--- a run has the groups of all of these inputs: it is a run of the query, and where they stand for lists of rows, it has the groups of
--- all of these rows
+-- a run has the groups of all of these inputs: it is a run of the query, and where all inputs stand for lists of rows, it has the groups of
+-- all of these rows. Of inputs that stand for no rows no more is said
 pub record IsUnion (query : Query) (inputs : List Brought) (run : List Entry) : Type 0 where
   pub part : (lists : List (List Row)) → AreInputsOf query inputs lists
       → AreGroups query (all_rows inputs) run (part query (concatenated lists))
@@ -33,10 +33,11 @@ pub record IsRunAlone (parts : List (Bor Part)) (run : List Entry) : Type 0 wher
   pub alone : parts ≡ only ∷ []
   pub run_is : run ≡ only.now.run
 
--- rows are those of the groups of a run that has the groups of all parts of what is held
+-- rows are those of the groups of a run that has the groups of all parts of what is held. The only part's run is used as it is
 pub record IsShown (held : Held) (rows : List (List Outcome)) : Type 0 where
   pub run : List Entry
   pub union : IsUnion (meaning held.query) (map counted_part held.parts) run
+  pub alone : (only : ℕ × Part) → held.parts ≡ only ∷ [] → run ≡ only.1.run
   pub shown : (groups : List Group) → AreGroups (meaning held.query) (all_rows (map counted_part held.parts)) run groups
       → rows ≡ answer_of (meaning held.query) groups
 

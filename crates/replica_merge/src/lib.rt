@@ -5,6 +5,7 @@ mod error;
 mod known_origin;
 mod laws;
 mod merging;
+mod pieces;
 mod replica;
 mod saving;
 mod uniting;

@@ -1,6 +1,6 @@
 //! Merging two replicas: the parts of both are joined apart, and then moved in without taking memory.
 
-ghost use Rattle.std.specs.Prelude.{◌≡◌, ℕ, Bool, map, cond, option_map, unwrap_or, Some, IfOk, IsTrue, IsSomeAnd};
+ghost use Rattle.std.specs.Prelude.{◌≡◌, ◌↔◌, ℕ, Bool, map, cond, option_map, unwrap_or, Some, IfOk, IsTrue, IsSomeAnd};
 ghost use Rattle.std.specs.List.Sorted.{IsStrictlySortedBy};
 ghost use Rattle.std.specs.Ordering.{eq_by_cmp, nat_cmp};
 ghost use Rattle.origin_prefix.specs.Joins.{Includes};
@@ -72,7 +72,7 @@ fn part_or<'a>(
 
 /// Whether the own part of an origin is there and includes another one.
 fn stays(own: &BTreeMap<u16, OriginPart>, origin: u16, part: &OriginPart) -> bool
-    ensures { IsTrue result → IsSomeAnd (part_at own.now.entries origin) (λ mine. Includes mine part.now) }
+    ensures { IsTrue result ↔ IsSomeAnd (part_at own.now.entries origin) (λ mine. Includes mine part.now) }
 {
     match own.get(&origin) {
         Some(mine) => mine.includes(part),

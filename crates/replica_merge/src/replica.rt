@@ -19,11 +19,12 @@ ghost use Rattle.replica_merge.specs.Results.{DeliversBatch};
 ghost use Rattle.replica_merge.specs.Unions.{IsAnswerOf, IsShown};
 
 use crate::known_origin::KnownOrigin;
-use crate::uniting::{listed, run_alone, united};
+use crate::pieces::{rows_of_left, spans_of};
+use crate::uniting::{listed, run_alone};
 use batch_reader::{Batch, PackedRows};
 use group_answers::{RowSink, finalize_and_project, project_into};
 use hash_agg::{KeyHash, Means, TapeDisk, Work};
-use having_filter::{Answer, Query};
+use having_filter::{Answer, AnswerRows, Query};
 use origin_prefix::{Delivered, JoinError, OriginPart, RefusedBatch};
 use std::alloc::{AllocError, Global};
 use std::collections::BTreeMap;
@@ -172,8 +173,8 @@ impl Replica {
 
     /// The answer of the query over the rows of the unbroken prefixes. It has a row of the query's items for each group for which HAVING is
     /// true. The rows are in the order of ORDER BY, and else in the order of the keys. Without GROUP BY there is one group, even over no
-    /// rows. The groups of several origins are sorted by their keys already, and are merged; those of one are used as they are. So it needs
-    /// only memory, and neither a limit nor a disk.
+    /// rows. The groups of several origins are sorted by their keys already, and are merged piece by piece; those of one are used as they
+    /// are. So it needs memory for the rows and for one piece, and neither a limit nor a disk.
     ///
     /// # Errors
     ///
@@ -191,8 +192,10 @@ impl Replica {
         if let Some(run) = run_alone(&parts) {
             return finalize_and_project(self.alloc, &self.query, run);
         }
-        let run = united(self.alloc, &self.query, &parts)?;
-        finalize_and_project(self.alloc, &self.query, &run)
+        let mut rows = AnswerRows::new(self.alloc);
+        let spans = spans_of(self.alloc, &self.parts)?;
+        rows_of_left(self.alloc, &self.query, spans, &mut rows)?;
+        Answer::arranged(self.alloc, rows, self.query.arrangement())
     }
 
     /// Gives a sink the rows of the answer, where no clause behind HAVING arranges them: those of [`Replica::answer`], one after another. They
@@ -209,7 +212,7 @@ impl Replica {
         if let Some(run) = run_alone(&parts) {
             return project_into(self.alloc, &self.query, run, rows);
         }
-        let run = united(self.alloc, &self.query, &parts)?;
-        project_into(self.alloc, &self.query, &run, rows)
+        let spans = spans_of(self.alloc, &self.parts)?;
+        rows_of_left(self.alloc, &self.query, spans, rows)
     }
 }

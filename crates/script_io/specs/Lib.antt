@@ -4,6 +4,7 @@ pub mod Records
 pub mod Digits
 pub mod Left
 pub mod Output
+pub mod LineWriter
 pub mod InputLaws
 pub mod OutputLaws
 pub mod Lemmas

@@ -6,6 +6,7 @@ use Rattle.std.specs.Io.KnownBytes.{Appends, Consumes, IsAtEnd}
 use Rattle.std.specs.Result.{IsErrAnd}
 use Rattle.std.proofs.KnownBytes.{Keeps-refl}
 use Rattle.grouping_model.specs.declared.limits.TheConstants.{MAX_INPUT_LEN}
+use Rattle.key_hashes.specs.declared.sip_hash.Seed.{Seed}
 use Rattle.tape_disks.specs.DiskLaws.{leaves_none}
 use Rattle.tape_disks.specs.declared.disk.TapeDisk.{Ghosts}
 use Rattle.script_io.specs.Fused.{FailsAsTold}
@@ -44,94 +45,98 @@ module _ {T : Type 0} (result : Result T RunError) (e : RunError) (passed : IsEr
   pub faults_passed : (failed : Bool) → tells_read_fault {A = T} (Err e) ≡ failed → tells_read_fault result ≡ failed
   faults_passed failed h = passed_on result e (λ r. tells_read_fault r ≡ failed) passed h
 
-module _ {D : Type 0} (g : Ghosts D) (result : Result Outcome RunError) (e : RunError) (passed : IsErrAnd result (λ x. x ≡ e)) where
+module _ {D : Type 0} (g : Ghosts D) (seed : Seed) (result : Result Outcome RunError) (e : RunError)
+    (passed : IsErrAnd result (λ x. x ≡ e)) where
   pub works_passed : (commands : List Command) (old new : Option (List ℕ)) (before after : D)
-      → Works g commands old new before after (Err e)
-      → Works g commands old new before after result
-  works_passed commands old new before after h = passed_on result e (λ r. Works g commands old new before after r) passed h
+      → Works g seed commands old new before after (Err e)
+      → Works g seed commands old new before after result
+  works_passed commands old new before after h = passed_on result e (λ r. Works g seed commands old new before after r) passed h
 
-  pub runs_passed : (before after : D) (streams : Streams) → RunsOver g before after streams (Err e)
-      → RunsOver g before after streams result
-  runs_passed before after streams h = passed_on result e (λ r. RunsOver g before after streams r) passed h
+  pub runs_passed : (before after : D) (streams : Streams) → RunsOver g seed before after streams (Err e)
+      → RunsOver g seed before after streams result
+  runs_passed before after streams h = passed_on result e (λ r. RunsOver g seed before after streams r) passed h
 
 -- ---- a script that was read
 
-module _ {D : Type 0} (g : Ghosts D) (before after : D) (streams : Streams) (script : List ℕ) (short : length script ≤ MAX_INPUT_LEN)
-  where
-    ends_of : (result : Result Outcome RunError) → Works g (commands_in script) streams.old streams.new before after result
-        → (faults : ℕ) × DiskFrame g faults before after
-        → Ends (disk_over g before after) (record streams { script = Some script }) result
-    ends_of (Ok outcome) works disk = (short, writes_all g (commands_in script) before after streams.old streams.new outcome.refused works)
-    ends_of (Err stop.WriteFault) works disk = (
-      (
-        short,
-        writes_front g works.0 (commands_in script) before after _ (StopsShort streams.old streams.new) (λ replies wrote. wrote) works.1,
-      ),
-      tt,
-    )
-    ends_of (Err stop.NoMemory) works disk =
-        let later = works.4.failures in (
-          (
-            λ long. absurd (omega (arith, long, short)),
-            g.failures works.1,
-            omega (arith, later),
-            writes_front g works.0 (commands_in script) before works.1 (AreWritten streams.old streams.new works.2)
-                (Appends streams.old streams.new) (λ replies wrote. wrote.writes) works.5,
-          ),
-          tt,
-        )
-    ends_of (Err stop.InputTooLong) works disk = absurd works
-    ends_of (Err stop.ReadFault) works disk = absurd works
+module _ {D : Type 0} (g : Ghosts D) (seed : Seed) (before after : D) (streams : Streams) (script : List ℕ)
+    (short : length script ≤ MAX_INPUT_LEN) where
+  ends_of : (result : Result Outcome RunError) → Works g seed (commands_in script) streams.old streams.new before after result
+      → (faults : ℕ) × DiskFrame g faults before after
+      → Ends (disk_over g before after) (record streams { script = Some script }) result
+  ends_of (Ok outcome) works disk =
+      (short, writes_all g seed (commands_in script) before after streams.old streams.new outcome.refused works)
+  ends_of (Err stop.WriteFault) works disk = (
+    (
+      short,
+      writes_front g seed works.0 (commands_in script) before after _ (StopsShort streams.old streams.new) (λ replies wrote. wrote)
+          works.1,
+    ),
+    tt,
+  )
+  ends_of (Err stop.NoMemory) works disk =
+      let later = works.4.failures in (
+        (
+          λ long. absurd (omega (arith, long, short)),
+          g.failures works.1,
+          omega (arith, later),
+          writes_front g seed works.0 (commands_in script) before works.1 (AreWritten streams.old streams.new works.2)
+              (Appends streams.old streams.new) (λ replies wrote. wrote.writes) works.5,
+        ),
+        tt,
+      )
+  ends_of (Err stop.InputTooLong) works disk = absurd works
+  ends_of (Err stop.ReadFault) works disk = absurd works
 
-    through_of : (result : Result Outcome RunError) → Works g (commands_in script) streams.old streams.new before after result
-        → WorksThrough g (record streams { script = Some script }) before after result
-    through_of (Ok outcome) works = works
-    through_of (Err stop.WriteFault) works = works
-    through_of (Err stop.NoMemory) works = works
-    through_of (Err stop.InputTooLong) works = absurd works
-    through_of (Err stop.ReadFault) works = absurd works
+  through_of : (result : Result Outcome RunError) → Works g seed (commands_in script) streams.old streams.new before after result
+      → WorksThrough g seed (record streams { script = Some script }) before after result
+  through_of (Ok outcome) works = works
+  through_of (Err stop.WriteFault) works = works
+  through_of (Err stop.NoMemory) works = works
+  through_of (Err stop.InputTooLong) works = absurd works
+  through_of (Err stop.ReadFault) works = absurd works
 
-    runs_known : (result : Result Outcome RunError) → Works g (commands_in script) streams.old streams.new before after result
-        → (faults : ℕ) × DiskFrame g faults before after → RunsOver g before after (record streams { script = Some script }) result
-    runs_known result works disk =
-        record { ends = ends_of result works disk; works = through_of result works; disk = disk }
+  runs_known : (result : Result Outcome RunError) → Works g seed (commands_in script) streams.old streams.new before after result
+      → (faults : ℕ) × DiskFrame g faults before after → RunsOver g seed before after (record streams { script = Some script }) result
+  runs_known result works disk =
+      record { ends = ends_of result works disk; works = through_of result works; disk = disk }
 
 -- the same where nothing is known of the script
-runs_unknown : {D : Type 0} (g : Ghosts D) (before after : D) (commands : List Command) (old new : Option (List ℕ))
-    (result : Result Outcome RunError) → Works g commands old new before after result → (faults : ℕ) × DiskFrame g faults before after
-    → RunsOver g before after (record { script = None; old = old; new = new }) result
-runs_unknown g before after commands old new (Ok outcome) works disk = record { ends = tt; works = tt; disk = disk }
-runs_unknown g before after commands old new (Err stop.WriteFault) works disk = record { ends = (tt, tt); works = tt; disk = disk }
-runs_unknown g before after commands old new (Err stop.NoMemory) works disk = record { ends = (tt, tt); works = tt; disk = disk }
-runs_unknown g before after commands old new (Err stop.InputTooLong) works disk = absurd works
-runs_unknown g before after commands old new (Err stop.ReadFault) works disk = absurd works
+runs_unknown : {D : Type 0} (g : Ghosts D) (seed : Seed) (before after : D) (commands : List Command) (old new : Option (List ℕ))
+    (result : Result Outcome RunError) → Works g seed commands old new before after result → (faults : ℕ) × DiskFrame g faults before after
+    → RunsOver g seed before after (record { script = None; old = old; new = new }) result
+runs_unknown g seed before after commands old new (Ok outcome) works disk = record { ends = tt; works = tt; disk = disk }
+runs_unknown g seed before after commands old new (Err stop.WriteFault) works disk = record { ends = (tt, tt); works = tt; disk = disk }
+runs_unknown g seed before after commands old new (Err stop.NoMemory) works disk = record { ends = (tt, tt); works = tt; disk = disk }
+runs_unknown g seed before after commands old new (Err stop.InputTooLong) works disk = absurd works
+runs_unknown g seed before after commands old new (Err stop.ReadFault) works disk = absurd works
 
-pub runs_read : {D : Type 0} (g : Ghosts D) (before after : D) (a b old new : Option (List ℕ)) (script : List ℕ)
+pub runs_read : {D : Type 0} (g : Ghosts D) (seed : Seed) (before after : D) (a b old new : Option (List ℕ)) (script : List ℕ)
     (result : Result Outcome RunError) → length script ≤ MAX_INPUT_LEN → Consumes a b script → IsAtEnd b
-    → Works g (commands_in script) old new before after result → (faults : ℕ) × DiskFrame g faults before after
-    → RunsOver g before after (record { script = a; old = old; new = new }) result
-runs_read g before after None b old new script result short took ended works disk =
-    runs_unknown g before after (commands_in script) old new result works disk
-runs_read g before after (Some all) b old new script result short took ended works disk =
-    subst (λ xs. RunsOver g before after (record { script = Some xs; old = old; new = new }) result)
+    → Works g seed (commands_in script) old new before after result → (faults : ℕ) × DiskFrame g faults before after
+    → RunsOver g seed before after (record { script = a; old = old; new = new }) result
+runs_read g seed before after None b old new script result short took ended works disk =
+    runs_unknown g seed before after (commands_in script) old new result works disk
+runs_read g seed before after (Some all) b old new script result short took ended works disk =
+    subst (λ xs. RunsOver g seed before after (record { script = Some xs; old = old; new = new }) result)
     (sym (consumes-all (Some all) b script took ended))
-    (runs_known g before after (record { script = Some script; old = old; new = new }) script short result works disk)
+    (runs_known g seed before after (record { script = Some script; old = old; new = new }) script short result works disk)
 
 -- a script that was read tells no fault of its reader
-pub faults_read : {D : Type 0} (g : Ghosts D) (before after : D) (commands : List Command) (old new : Option (List ℕ))
-    (result : Result Outcome RunError) → Works g commands old new before after result → tells_read_fault result ≡ false
-faults_read g before after commands old new (Ok outcome) works = refl
-faults_read g before after commands old new (Err stop.WriteFault) works = refl
-faults_read g before after commands old new (Err stop.NoMemory) works = refl
-faults_read g before after commands old new (Err stop.InputTooLong) works = absurd works
-faults_read g before after commands old new (Err stop.ReadFault) works = absurd works
+pub faults_read : {D : Type 0} (g : Ghosts D) (seed : Seed) (before after : D) (commands : List Command) (old new : Option (List ℕ))
+    (result : Result Outcome RunError) → Works g seed commands old new before after result → tells_read_fault result ≡ false
+faults_read g seed before after commands old new (Ok outcome) works = refl
+faults_read g seed before after commands old new (Err stop.WriteFault) works = refl
+faults_read g seed before after commands old new (Err stop.NoMemory) works = refl
+faults_read g seed before after commands old new (Err stop.InputTooLong) works = absurd works
+faults_read g seed before after commands old new (Err stop.ReadFault) works = absurd works
 
 -- ---- a script that was not read
 
-module _ {D : Type 0} (g : Ghosts D) (disk : D) (known : Option (List ℕ)) where
+module _ {D : Type 0} (g : Ghosts D) (seed : Seed) (disk : D) (known : Option (List ℕ)) where
   -- nothing was executed yet
-  none_yet : (commands : List Command) → ExecutesAllBut g commands commands disk disk (AreWritten known known 0)
-  none_yet commands = ran_all g commands commands disk disk empty 0 known known (ran_start g commands disk empty known refl)
+  none_yet : (commands : List Command) → ExecutesAllBut g seed commands commands disk disk (AreWritten known known 0)
+  none_yet commands =
+      ran_all g seed commands commands disk disk (empty seed) 0 known known (ran_start g seed commands disk (empty seed) known refl)
 
   stops_unread : (a b : Option (List ℕ)) (e : InputError) → StopsReading a b MAX_INPUT_LEN e
       → IfSome a (λ script. StopsAt (disk_over g disk disk) script known known (run_error e))
@@ -142,7 +147,7 @@ module _ {D : Type 0} (g : Ghosts D) (disk : D) (known : Option (List ℕ)) wher
     λ long. Keeps-refl known,
     g.failures disk,
     omega arith,
-    writes_front g (commands_in script) (commands_in script) disk disk (AreWritten known known 0) (Appends known known)
+    writes_front g seed (commands_in script) (commands_in script) disk disk (AreWritten known known 0) (Appends known known)
         (λ replies wrote. wrote.writes) (none_yet (commands_in script)),
   )
 
@@ -151,7 +156,7 @@ module _ {D : Type 0} (g : Ghosts D) (disk : D) (known : Option (List ℕ)) wher
   keeps_unread input.TooLong = Keeps-refl known
   keeps_unread input.NoMemory = tt
 
-  through_unread : (a : Option (List ℕ)) (e : InputError) → WorksThrough g (record { script = a; old = known; new = known }) disk disk
+  through_unread : (a : Option (List ℕ)) (e : InputError) → WorksThrough g seed (record { script = a; old = known; new = known }) disk disk
       (Err (run_error e))
   through_unread a input.ReadFault = refl
   through_unread a input.TooLong = refl
@@ -160,7 +165,7 @@ module _ {D : Type 0} (g : Ghosts D) (disk : D) (known : Option (List ℕ)) wher
       (commands_in script, disk, 0, 0, leaves_none g disk, none_yet (commands_in script))
 
   pub runs_unread : (a b : Option (List ℕ)) (e : InputError) → StopsReading a b MAX_INPUT_LEN e
-      → RunsOver g disk disk (record { script = a; old = known; new = known }) (Err (run_error e))
+      → RunsOver g seed disk disk (record { script = a; old = known; new = known }) (Err (run_error e))
   runs_unread a b e h = record {
     ends = (stops_unread a b e h, keeps_unread e);
     works = through_unread a e;
@@ -182,10 +187,10 @@ fails_unread input.TooLong writer = λ sound. sym sound
 -- ---- the promise
 
 -- over an honest disk a run that ended well wrote an output that is right to the byte
-pub writes_exactly : {D : Type 0} (g : Ghosts D) (before after : D) (streams : Streams) (result : Result Outcome RunError)
-    → RunsOver g before after streams result → OnOk result (IsTrue (g.honest before) → WritesExactly streams)
-writes_exactly g before after streams (Err e) runs = tt
-writes_exactly g before after streams (Ok outcome) runs = λ so. go so streams.script runs.ends
+pub writes_exactly : {D : Type 0} (g : Ghosts D) (seed : Seed) (before after : D) (streams : Streams) (result : Result Outcome RunError)
+    → RunsOver g seed before after streams result → OnOk result (IsTrue (g.honest before) → WritesExactly streams)
+writes_exactly g seed before after streams (Err e) runs = tt
+writes_exactly g seed before after streams (Ok outcome) runs = λ so. go so streams.script runs.ends
   where
     go : IsTrue (g.honest before) → (script : Option (List ℕ)) → IfSome script (λ s. (length s ≤ MAX_INPUT_LEN)
         × WritesAll (disk_over g before after) (commands_in s) streams.old streams.new outcome.refused)
@@ -221,8 +226,8 @@ exact_is_right streams = go streams.script
     go None wrote = tt
     go (Some script) wrote = (exact_wording, wrote.0, wrote.1, wrote.2.is_right)
 
-pub writes_right : {D : Type 0} (g : Ghosts D) (before after : D) (streams : Streams) (result : Result Outcome RunError)
-    → RunsOver g before after streams result → OnOk result (IsTrue (g.honest before) → WritesRight streams)
-writes_right g before after streams (Err e) runs = tt
-writes_right g before after streams (Ok outcome) runs = λ so.
-    exact_is_right streams (writes_exactly g before after streams (Ok outcome) runs so)
+pub writes_right : {D : Type 0} (g : Ghosts D) (seed : Seed) (before after : D) (streams : Streams) (result : Result Outcome RunError)
+    → RunsOver g seed before after streams result → OnOk result (IsTrue (g.honest before) → WritesRight streams)
+writes_right g seed before after streams (Err e) runs = tt
+writes_right g seed before after streams (Ok outcome) runs = λ so.
+    exact_is_right streams (writes_exactly g seed before after streams (Ok outcome) runs so)

@@ -10,6 +10,8 @@ use Rattle.hash_agg.specs.Ran.{Refused, faults_of}
 use Rattle.hash_agg.specs.declared.work.Work.{Work}
 use Rattle.origin_prefix.specs.Errors.{join_reason}
 use Rattle.origin_prefix.specs.Parts.{aggregations_on}
+use Rattle.origin_prefix.specs.declared.error.JoinError.{JoinError}
+use Rattle.origin_prefix.specs.declared.error.JoinError.TheVariants as join
 use Rattle.origin_prefix.specs.declared.error.RefusedBatch.{RefusedBatch}
 use Rattle.replica_merge.specs.DeliveryLaws.{delivery_agreed, delivery_refused}
 use Rattle.replica_merge.specs.Replicas.{DeliversAt}
@@ -17,8 +19,12 @@ use Rattle.replica_merge.specs.Results.{DeliversBatch}
 use Rattle.replies.specs.BatchLaws.{fed_of, read_is_fed}
 use Rattle.replies.specs.FeedLaws.{taken_read, refused_not_of_batch, refused_disagrees, refused_other}
 use Rattle.replies.specs.RefusalLaws.{batch_never_disagrees, batch_tells, batch_undamaged, join_reasons, no_fault_in, reason_faults}
-use Rattle.replies.specs.Refusals.{refusal_reason, refused_batch}
+use Rattle.replies.specs.Refusals.{join_refusal, merge_refusal, refusal_reason, refused_batch}
+use Rattle.replica_merge.specs.declared.error.MergeError.{MergeError}
+use Rattle.replica_merge.specs.declared.error.MergeError.TheVariants as merge
+use Rattle.spill_partitions.specs.declared.error.SpillError.TheVariants as spill
 use Rattle.spill_partitions.specs.declared.error.SpillError.TheVariants.{TapeDamaged}
+use Rattle.replies.specs.declared.refusal.Refusal.{Refusal}
 use Rattle.replies.specs.declared.refusal.Refusal.TheVariants as why
 use Rattle.replies.specs.declared.reply.Reply.{Reply}
 use Rattle.replies.specs.declared.reply.Reply.TheVariants as says
@@ -50,6 +56,31 @@ pub turns_executes : {D : Type 0} {g : Ghosts D} {request : Request} {owned : Li
 turns_executes {g = g} {request = request} {owned = owned} {before = before} {after = after} {reply = reply} {new = new} same is =
     subst (λ s. Executes g request owned s before reply new after) same is
 
+-- where nothing is written, it is as it should be for each refusal of a feed
+pub unread_works : (old : Store) (name origin number : List ℕ) (told : ℕ) (owned : List Record) (refusal : Refusal) (writes : ℕ)
+    → WorksAtLimit old (ask.Feed name origin number told) owned (says.Refused refusal) writes writes
+unread_works old name origin number told owned why.NoSuchName writes = refl
+unread_works old name origin number told owned (why.Batch error) writes = refl
+unread_works old name origin number told owned refusal writes = tt
+
+-- of a batch that was read and refused nothing more is told
+untaken_works : (old : Store) (name origin number : List ℕ) (told : ℕ) (owned : List Record) (of : ℕ) (error : JoinError)
+    (writes written : ℕ) → WorksAtLimit old (ask.Feed name origin number told) owned (says.Refused (join_refusal of error)) writes written
+untaken_works old name origin number told owned of (join.OriginDisagrees at) writes written = tt
+untaken_works old name origin number told owned of (join.Spill spill.NoMemory) writes written = tt
+untaken_works old name origin number told owned of (join.Spill spill.TapeFault) writes written = tt
+untaken_works old name origin number told owned of (join.Spill spill.TapeDamaged) writes written = tt
+
+-- nor of two replicas that are there and are not joined
+pub unjoined_works : (old : Store) (into from : List ℕ) (owned : List Record) (error : MergeError) (writes written : ℕ)
+    → WorksAtLimit old (ask.Merge into from) owned (says.Refused (merge_refusal error)) writes written
+unjoined_works old into from owned merge.DifferentQuery writes written = tt
+unjoined_works old into from owned merge.NoMemory writes written = tt
+unjoined_works old into from owned (merge.Join of (join.OriginDisagrees at)) writes written = tt
+unjoined_works old into from owned (merge.Join of (join.Spill spill.NoMemory)) writes written = tt
+unjoined_works old into from owned (merge.Join of (join.Spill spill.TapeFault)) writes written = tt
+unjoined_works old into from owned (merge.Join of (join.Spill spill.TapeDamaged)) writes written = tt
+
 -- why a feed is no batch
 no_batch : (held : Held) (origin number : List ℕ) (told : ℕ) (owned : List Record) (error : BatchError)
     → BuildFault (kinds held.query.columns) origin number told owned error
@@ -75,7 +106,7 @@ module _ {D : Type 0} (g : Ghosts D) (old new : Store) (name origin number : Lis
     tells = feed_tells old name origin number told owned (batch_refusal error) (λ of at same. absurd (batch_never_disagrees error of at
         same));
     disk = subst (λ n. DiskFrame g n before before) (sym (batch_tells error)) (leaves_none g before);
-    limit = λ right. tt;
+    limit = λ right. unread_works old name origin number told owned (batch_refusal error) (g.writes before);
   }
 
   module _ (later : Held) (batch : Batch) (u : Updates old new name later) (read : IsRead (kinds held.query.columns) origin number told
@@ -128,7 +159,8 @@ module _ {D : Type 0} (g : Ghosts D) (old new : Store) (name origin number : Lis
       ));
       disk = subst (λ n. DiskFrame g n before after) (ap (λ r. faults_of (Refused r)) (sym reasons) ∙ reason_faults (refused_batch refused))
           disk;
-      limit = λ right. tt;
+      limit = λ right. untaken_works old name origin number told owned refused.batch.origin refused.why (g.writes before)
+          (g.writes after);
     }
       where
         reasons : refusal_reason (refused_batch refused) ≡ join_reason refused.why

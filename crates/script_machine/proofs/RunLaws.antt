@@ -14,6 +14,7 @@ use Rattle.script_machine.proofs.Words.{IsReply, Agrees, AgreesAt, As_always, Fo
 use Rattle.script_machine.proofs.Words.{is_refused, is_fault, line}
 use Rattle.script_machine.proofs.Words.{refusal_name, said_text, is_refusal, faults_in, Store, empty, Represents, FitsWorld}
 use Rattle.script_machine.proofs.Words.{Answers, Steps, Executes, Executed, ExecutesAllBut, AreWritten, said_texts}
+use Rattle.key_hashes.specs.declared.sip_hash.Seed.{Seed}
 use Rattle.tape_disks.specs.declared.disk.TapeDisk.{Ghosts}
 use Rattle.script_io.specs.Output.{StopsShort}
 use Rattle.script_io.specs.OutputLaws.{short-first, short-second}
@@ -196,31 +197,31 @@ executed_none g store disk = (refl, refl)
 -- ---- a run of commands
 
 -- all commands but those that are left were executed, and their replies are written
-pub record RunSoFar {D : Type 0} (g : Ghosts D) (commands left : List Command) (before disk : D) (store : Store) (refused : ℕ)
+pub record RunSoFar {D : Type 0} (g : Ghosts D) (seed : Seed) (commands left : List Command) (before disk : D) (store : Store) (refused : ℕ)
     (old new : Option (List ℕ)) : Type 0 where
   pub done : List Command
   pub all : commands ≡ done ++ left
   pub answers : List code.Reply
-  pub each : Executed g empty before done answers store disk
+  pub each : Executed g (empty seed) before done answers store disk
   pub counts : count_by is_refusal answers ≡ refused
   pub writes : Appends old new (said_texts answers)
 
-pub ran_start : {D : Type 0} (g : Ghosts D) (commands : List Command) (disk : D) (store : Store) (known : Option (List ℕ)) → store ≡ empty
-    → RunSoFar g commands commands disk disk store 0 known known
-ran_start g commands disk store known is = record {
+pub ran_start : {D : Type 0} (g : Ghosts D) (seed : Seed) (commands : List Command) (disk : D) (store : Store) (known : Option (List ℕ))
+    → store ≡ empty seed → RunSoFar g seed commands commands disk disk store 0 known known
+ran_start g seed commands disk store known is = record {
   done = [];
   all = refl;
   answers = [];
-  each = subst (λ s. Executed g empty disk [] [] s disk) (sym is) (executed_none g empty disk);
+  each = subst (λ s. Executed g (empty seed) disk [] [] s disk) (sym is) (executed_none g (empty seed) disk);
   counts = refl;
   writes = Appends-nil known;
 }
 
 -- all of it was written
-pub ran_all : {D : Type 0} (g : Ghosts D) (commands left : List Command) (before disk : D) (store : Store) (refused : ℕ)
-    (old new : Option (List ℕ)) → RunSoFar g commands left before disk store refused old new
-    → ExecutesAllBut g left commands before disk (AreWritten old new refused)
-ran_all g commands left before disk store refused old new ran = record {
+pub ran_all : {D : Type 0} (g : Ghosts D) (seed : Seed) (commands left : List Command) (before disk : D) (store : Store) (refused : ℕ)
+    (old new : Option (List ℕ)) → RunSoFar g seed commands left before disk store refused old new
+    → ExecutesAllBut g seed left commands before disk (AreWritten old new refused)
+ran_all g seed commands left before disk store refused old new ran = record {
   done = ran.done;
   all = ran.all;
   replies = ran.answers;
@@ -230,26 +231,26 @@ ran_all g commands left before disk store refused old new ran = record {
 }
 
 -- no command is left
-pub ran_done : {D : Type 0} (g : Ghosts D) (commands left : List Command) (before disk : D) (store : Store) (refused : ℕ)
-    (old new : Option (List ℕ)) → RunSoFar g commands left before disk store refused old new → left ≡ []
-    → ExecutesAllBut g [] commands before disk (AreWritten old new refused)
-ran_done g commands left before disk store refused old new ran none =
-    subst (λ rest. ExecutesAllBut g rest commands before disk (AreWritten old new refused)) none
-    (ran_all g commands left before disk store refused old new ran)
+pub ran_done : {D : Type 0} (g : Ghosts D) (seed : Seed) (commands left : List Command) (before disk : D) (store : Store) (refused : ℕ)
+    (old new : Option (List ℕ)) → RunSoFar g seed commands left before disk store refused old new → left ≡ []
+    → ExecutesAllBut g seed [] commands before disk (AreWritten old new refused)
+ran_done g seed commands left before disk store refused old new ran none =
+    subst (λ rest. ExecutesAllBut g seed rest commands before disk (AreWritten old new refused)) none
+    (ran_all g seed commands left before disk store refused old new ran)
 
-module _ {D : Type 0} {g : Ghosts D} {commands left : List Command} {before disk last : D} {store next : Store} {refused : ℕ}
+module _ {D : Type 0} {g : Ghosts D} {seed : Seed} {commands left : List Command} {before disk last : D} {store next : Store} {refused : ℕ}
     {old mid : Option (List ℕ)} {c : Command} {reply : code.Reply}
-    (ran : RunSoFar g commands (c ∷ left) before disk store refused old mid)
+    (ran : RunSoFar g seed commands (c ∷ left) before disk store refused old mid)
     (step : Executes g (request_of c.head) c.owned store disk reply next last) where
-  each_more : Executed g empty before (ran.done ++ c ∷ []) (ran.answers ++ reply ∷ []) next last
-  each_more = executed_more g empty store next before disk last ran.done ran.answers c reply ran.each step
+  each_more : Executed g (empty seed) before (ran.done ++ c ∷ []) (ran.answers ++ reply ∷ []) next last
+  each_more = executed_more g (empty seed) store next before disk last ran.done ran.answers c reply ran.each step
 
   texts_more : said_texts (ran.answers ++ reply ∷ []) ≡ said_texts ran.answers ++ said_text reply
   texts_more = flat_map-append said_text ran.answers (reply ∷ []) ∙ ap (λ l. said_texts ran.answers ++ l) (append-nil (said_text reply))
 
   -- it goes on
   pub ran_more : (new : Option (List ℕ)) (more : ℕ) → Appends mid new (said_text reply) → more ≡ refused
-      + (if is_refusal reply then 1 else 0) → RunSoFar g commands left before last next more old new
+      + (if is_refusal reply then 1 else 0) → RunSoFar g seed commands left before last next more old new
   ran_more new more wrote counts = record {
     done = ran.done ++ c ∷ [];
     all = ran.all ∙ sym (append_assoc ran.done (c ∷ []) left);
@@ -264,7 +265,7 @@ module _ {D : Type 0} {g : Ghosts D} {commands left : List Command} {before disk
 
   -- it stops within a reply
   pub ran_front : (new : Option (List ℕ)) → StopsShort mid new (said_text reply)
-      → ExecutesAllBut g left commands before last (λ replies. StopsShort old new (said_texts replies))
+      → ExecutesAllBut g seed left commands before last (λ replies. StopsShort old new (said_texts replies))
   ran_front new wrote = record {
     done = ran.done ++ c ∷ [];
     all = ran.all ∙ sym (append_assoc ran.done (c ∷ []) left);
@@ -291,25 +292,25 @@ left_both g old mid new (a, first) (b, second) =
 
 -- ---- outputs
 
-represents_start : Represents start empty
-represents_start = record { columns = refl; query = refl; replicas = λ name. refl; saved = λ name. tt; limit = refl }
+represents_start : (seed : Seed) → Represents start (empty seed)
+represents_start seed = record { columns = refl; query = refl; replicas = λ name. refl; saved = λ name. tt; limit = refl }
 
-fits_start : (world : World) → FitsWorld world empty
-fits_start world = record { of_columns = tt; fit = λ name. tt; files = λ name. tt }
+fits_start : (seed : Seed) (world : World) → FitsWorld world (empty seed)
+fits_start seed world = record { of_columns = tt; fit = λ name. tt; files = λ name. tt }
 
 -- commands that were executed have an output, each front of which is right over an honest disk
-module _ {D : Type 0} (g : Ghosts D) (before last : D) (cs : List Command) (answers : List code.Reply) (new : Store)
-    (done : Executed g empty before cs answers new last) where
-  pub answered : Comes (g.honest before) start cs answers empty
-  answered = comes g (g.honest before) start empty new before last cs answers refl represents_start done
+module _ {D : Type 0} (g : Ghosts D) (seed : Seed) (before last : D) (cs : List Command) (answers : List code.Reply) (new : Store)
+    (done : Executed g (empty seed) before cs answers new last) where
+  pub answered : Comes (g.honest before) start cs answers (empty seed)
+  answered = comes g (g.honest before) start (empty seed) new before last cs answers refl (represents_start seed) done
 
   pub output : IsOutput (disk_over g before last) cs answered.replies (map said_text answers)
   output = record {
     runs = answered.runs;
-    faults = ap (λ n. g.failures before + n) answered.faults ∙ sym (executed_faults g empty new before last cs answers done);
+    faults = ap (λ n. g.failures before + n) answered.faults ∙ sym (executed_faults g (empty seed) new before last cs answers done);
     reads = answered.reads;
     right = λ so n world agrees. front_right world start cs answered.replies (map said_text answers) (answered.right so world
-        (fits_start world)) n agrees;
+        (fits_start seed world)) n agrees;
   }
 
 texts_joined : (answers : List code.Reply) → joined (map said_text answers) ≡ said_texts answers
@@ -317,30 +318,32 @@ texts_joined [] = refl
 texts_joined (answer ∷ answers) = ap (λ ts. said_text answer ++ ts) (texts_joined answers)
 
 -- all of it was written
-pub writes_all : {D : Type 0} (g : Ghosts D) (commands : List Command) (before last : D) (old new : Option (List ℕ)) (refused : ℕ)
-    → ExecutesAllBut g [] commands before last (AreWritten old new refused) → WritesAll (disk_over g before last) commands old new refused
-writes_all g commands before last old new refused works =
+pub writes_all : {D : Type 0} (g : Ghosts D) (seed : Seed) (commands : List Command) (before last : D) (old new : Option (List ℕ))
+    (refused : ℕ) → ExecutesAllBut g seed [] commands before last (AreWritten old new refused)
+    → WritesAll (disk_over g before last) commands old new refused
+writes_all g seed commands before last old new refused works =
     let whole : commands ≡ works.done = works.all ∙ append-nil works.done in
-    let made = answered g before last works.done works.replies works.new works.each in
+    let made = answered g seed before last works.done works.replies works.new works.each in
     subst (λ cs. WritesAll (disk_over g before last) cs old new refused) (sym whole) (record {
       replies = made.replies;
       texts = map said_text works.replies;
-      output = output g before last works.done works.replies works.new works.each;
+      output = output g seed before last works.done works.replies works.new works.each;
       counts = made.refused ∙ works.writes.counts;
       writes = subst (Appends old new) (sym (texts_joined works.replies)) works.writes.writes;
     })
 
 -- the front of it was
-pub writes_front : {D : Type 0} (g : Ghosts D) (left commands : List Command) (before last : D) (wrote : List code.Reply → Type 0)
-    (wanted : List ℕ → Type 0) → ((replies : List code.Reply) → wrote replies → wanted (said_texts replies))
-    → ExecutesAllBut g left commands before last wrote → WritesFront (disk_over g before last) commands wanted
-writes_front g left commands before last wrote wanted so works = record {
+pub writes_front : {D : Type 0} (g : Ghosts D) (seed : Seed) (left commands : List Command) (before last : D)
+    (wrote : List code.Reply → Type 0) (wanted : List ℕ → Type 0)
+    → ((replies : List code.Reply) → wrote replies → wanted (said_texts replies))
+    → ExecutesAllBut g seed left commands before last wrote → WritesFront (disk_over g before last) commands wanted
+writes_front g seed left commands before last wrote wanted so works = record {
   done = works.done;
   left = left;
   all = works.all;
-  replies = (answered g before last works.done works.replies works.new works.each).replies;
+  replies = (answered g seed before last works.done works.replies works.new works.each).replies;
   texts = map said_text works.replies;
-  output = output g before last works.done works.replies works.new works.each;
+  output = output g seed before last works.done works.replies works.new works.each;
   writes = subst wanted (sym (texts_joined works.replies)) (so works.replies works.writes);
 }
 

@@ -24,21 +24,22 @@ use Rattle.script_machine.proofs.Words.{For_disagreement, For_damage}
 use Rattle.script_machine.proofs.Reasons.{ColumnsReply, FeedReply, QueryReply, Replies, answer_reply, exactly, known_reply, load_reply}
 use Rattle.script_machine.proofs.Reasons.{merge_reply, rightly, save_reply}
 use Rattle.grouping_model.specs.Answer.{answer}
-use Rattle.grouping_model.specs.Aggregates.{Outcome}
 use Rattle.query_checks.specs.Spelling.{spelling}
-use Rattle.having_filter.specs.Kept.{by_names, headers}
+use Rattle.having_filter.specs.Kept.{by_names}
 use Rattle.grouping_model.specs.declared.delivered.Delivered.{Delivered}
 use Rattle.summary_codec.specs.Reading.{IsSaved}
 use Rattle.replica_merge.specs.Results.{MergesHeld}
 use Rattle.summary_codec.specs.WorldFile.{world_file}
 use Rattle.script_commands.specs.Commands as ask
 use Rattle.script_commands.specs.Commands.{Request}
-use Rattle.table_print.specs.Table.{table_text}
 use Rattle.script_machine.specs.Machine as machine
 use Rattle.replies.specs.FeedLaws.{apart_never_fit}
+use Rattle.replies.specs.Printed.{PrintsAnswer}
+use Rattle.replies.specs.PrintedLaws.{printed_world}
 use Rattle.replies.specs.Refusals.{IsApart}
 use Rattle.spill_partitions.specs.declared.error.SpillError.TheVariants as spill
 use Rattle.hash_agg.specs.declared.means.TheConstants.{MIN_LIMIT, MAX_LIMIT}
+use Rattle.hash_agg.specs.Means.{MeansState}
 use Rattle.packed_rows.specs.Refusal.{ParseFault}
 use Rattle.packed_rows.specs.declared.error.RowError.{RowError}
 use Rattle.packed_rows.specs.declared.error.RowError.TheVariants as row
@@ -48,6 +49,7 @@ use Rattle.replica_merge.specs.declared.error.MergeError.TheVariants as merge
 use Rattle.replies.specs.declared.refusal.Refusal.TheVariants as why
 use Rattle.replies.specs.declared.reply.Reply.{Reply}
 use Rattle.replies.specs.declared.reply.Reply.TheVariants as says
+use Rattle.replies.specs.declared.showing.Format.TheVariants.{Csv}
 
 -- ---- names
 
@@ -81,13 +83,19 @@ put_named key name given held old new same is u =
     (subst (λ q. UpdatesBy (λ (x y : Vec ℕ Global). bytes_eq x.items y.items) (λ (k : Vec ℕ Global). bytes_eq q k.items) old new
     (Some given)) same u)
 
+-- what the code keeps, by its parts
+abbrev kept : {H : Type 0} → Option (List Column) → Option Checked → List (Vec ℕ Global × Held) → List (Vec ℕ Global × List ℕ)
+    → MeansState H → Store
+kept columns query replicas saved means =
+    record { columns = columns; query = query; replicas = replicas; saved = saved; limit = means.limit; seed = means.seed }
+
 -- a map that was updated at a name is a store that was
-pub updated : {S : Type 0} (limit : ℕ) (columns : Option (List Column)) (query : Option Checked) (saved : List (Vec ℕ Global × List ℕ))
+pub updated : {S H : Type 0} (means : MeansState H) (columns : Option (List Column)) (query : Option Checked)
+    (saved : List (Vec ℕ Global × List ℕ))
     (name : List ℕ) (held : Held) (old new : HashMap (Vec ℕ Global) Held S)
     → UpdatesBy (λ (x y : Vec ℕ Global). bytes_eq x.items y.items) (λ (key : Vec ℕ Global). bytes_eq name key.items) old new (Some held)
-    → Updates (record { columns = columns; query = query; replicas = old.entries; saved = saved; limit = limit })
-    (record { columns = columns; query = query; replicas = new.entries; saved = saved; limit = limit }) name held
-updated limit columns query saved name held old new u =
+    → Updates (kept columns query old.entries saved means) (kept columns query new.entries saved means) name held
+updated means columns query saved name held old new u =
     record {
       columns = refl;
       query = refl;
@@ -95,6 +103,7 @@ updated limit columns query saved name held old new u =
       others = λ other. others_kept name other old.entries new.entries u.3;
       saved = refl;
       limit = refl;
+      seed = refl;
     }
 
 -- files that stay are found as they were
@@ -171,9 +180,10 @@ pub record Same (old new : Store) : Type 0 where
   pub replicas : (name : List ℕ) → replica_at new name ≡ replica_at old name
   pub saved : (name : List ℕ) → saved_at new name ≡ saved_at old name
   pub limit : new.limit ≡ old.limit
+  pub seed : new.seed ≡ old.seed
 
 pub same : (store : Store) → Same store store
-same store = record { columns = refl; query = refl; replicas = λ name. refl; saved = λ name. refl; limit = refl }
+same store = record { columns = refl; query = refl; replicas = λ name. refl; saved = λ name. refl; limit = refl; seed = refl }
 
 -- a replica that was replaced by itself
 pub same_updated : (old new : Store) (name : List ℕ) (held : Held) → Updates old new name held → replica_at old name ≡ Some held
@@ -185,6 +195,7 @@ same_updated old new name held u there = record {
       refl;
   saved = files_at old new u.saved;
   limit = u.limit;
+  seed = u.seed;
 }
   where
     go : (other : List ℕ) (b : Bool) → bytes_eq name other ≡ b → replica_at new other ≡ replica_at old other
@@ -193,24 +204,25 @@ same_updated old new name held u there = record {
     go other false e = u.others other e
 
 -- a map that is as it was
-pub same_entries : (limit : ℕ) (columns : Option (List Column)) (query : Option Checked) (saved : List (Vec ℕ Global × List ℕ))
+pub same_entries : {H : Type 0} (means : MeansState H) (columns : Option (List Column)) (query : Option Checked)
+    (saved : List (Vec ℕ Global × List ℕ))
     (old new : List (Vec ℕ Global × Held)) → new ≡ old
-    → Same (record { columns = columns; query = query; replicas = old; saved = saved; limit = limit })
-    (record { columns = columns; query = query; replicas = new; saved = saved; limit = limit })
-same_entries limit columns query saved old new e =
+    → Same (kept columns query old saved means) (kept columns query new saved means)
+same_entries means columns query saved old new e =
     record {
       columns = refl;
       query = refl;
       replicas = λ name. ap (λ es. lookup (λ (key : Vec ℕ Global). bytes_eq name key.items) es) e;
       saved = λ name. refl;
       limit = refl;
+      seed = refl;
     }
 
-pub same_files : (limit : ℕ) (columns : Option (List Column)) (query : Option Checked) (replicas : List (Vec ℕ Global × Held))
+pub same_files : {H : Type 0} (means : MeansState H) (columns : Option (List Column)) (query : Option Checked)
+    (replicas : List (Vec ℕ Global × Held))
     (old new : List (Vec ℕ Global × List ℕ)) → new ≡ old
-    → Same (record { columns = columns; query = query; replicas = replicas; saved = old; limit = limit })
-    (record { columns = columns; query = query; replicas = replicas; saved = new; limit = limit })
-same_files limit columns query replicas old new e =
+    → Same (kept columns query replicas old means) (kept columns query replicas new means)
+same_files means columns query replicas old new e =
     record {
       columns = refl;
       query = refl;
@@ -218,6 +230,7 @@ same_files limit columns query replicas old new e =
       saved = λ name. ap
           (λ es. lookup (λ (key : Vec ℕ Global). bytes_eq name key.items) es) e;
       limit = refl;
+      seed = refl;
     }
 
 keeps_all : (old new : Store) → Same old new → KeepsAll old new
@@ -314,16 +327,16 @@ held_asks store name held is there =
     (asks, subst (λ q. IfSome q (λ (query : Checked). store.columns ≡ Some query.columns)) asks is.over)
 
 -- another replica of the same query in the place of one leaves a store of one query
-pub store_replaced : {S : Type 0} (limit : ℕ) (columns : Option (List Column)) (query : Option Checked)
+pub store_replaced : {S H : Type 0} (means : MeansState H) (columns : Option (List Column)) (query : Option Checked)
     (saved : List (Vec ℕ Global × List ℕ)) (name : List ℕ) (held later : Held) (old new : HashMap (Vec ℕ Global) Held S)
-    → IsStore (record { columns = columns; query = query; replicas = old.entries; saved = saved; limit = limit })
-    → replica_at (record { columns = columns; query = query; replicas = old.entries; saved = saved; limit = limit }) name ≡ Some held
+    → IsStore (kept columns query old.entries saved means)
+    → replica_at (kept columns query old.entries saved means) name ≡ Some held
     → later.query ≡ held.query
     → UpdatesBy (λ (x y : Vec ℕ Global). bytes_eq x.items y.items) (λ (key : Vec ℕ Global). bytes_eq name key.items) old new (Some later)
-    → IsStore (record { columns = columns; query = query; replicas = new.entries; saved = saved; limit = limit })
-store_replaced limit columns query saved name held later old new is there same u =
-    let before : Store = record { columns = columns; query = query; replicas = old.entries; saved = saved; limit = limit } in
-    store_updated before _ name later (updated limit columns query saved name later old new u) ((held_asks before name held is there).0
+    → IsStore (kept columns query new.entries saved means)
+store_replaced means columns query saved name held later old new is there same u =
+    let before : Store = kept columns query old.entries saved means in
+    store_updated before _ name later (updated means columns query saved name later old new u) ((held_asks before name held is there).0
     ∙ ap Some (sym same)) is
 
 known_there : (state : State) (store : Store) (name : List ℕ) (held : Held) → Represents state store → replica_at store name ≡ Some held
@@ -414,12 +427,13 @@ one_there a b one two = ap (λ x. unwrap_or x a) (sym one ∙ two)
 -- ---- saving and loading
 
 -- a map that was updated at a name has another file
-pub filed : {S : Type 0} (limit : ℕ) (columns : Option (List Column)) (query : Option Checked) (replicas : List (Vec ℕ Global × Held))
+pub filed : {S H : Type 0} (means : MeansState H) (columns : Option (List Column)) (query : Option Checked)
+    (replicas : List (Vec ℕ Global × Held))
     (name : List ℕ) (bytes : List ℕ) (old new : HashMap (Vec ℕ Global) (List ℕ) S)
     → UpdatesBy (λ (x y : Vec ℕ Global). bytes_eq x.items y.items) (λ (key : Vec ℕ Global). bytes_eq name key.items) old new (Some bytes)
-    → Files (record { columns = columns; query = query; replicas = replicas; saved = old.entries; limit = limit })
-    (record { columns = columns; query = query; replicas = replicas; saved = new.entries; limit = limit }) name bytes
-filed limit columns query replicas name bytes old new u =
+    → Files (kept columns query replicas old.entries means)
+    (kept columns query replicas new.entries means) name bytes
+filed means columns query replicas name bytes old new u =
     record {
       columns = refl;
       query = refl;
@@ -427,6 +441,7 @@ filed limit columns query replicas name bytes old new u =
       own = u.1;
       others = λ other. others_kept name other old.entries new.entries u.3;
       limit = refl;
+      seed = refl;
     }
 
 -- what holds of each file, and of the new one, holds of each file then
@@ -496,6 +511,7 @@ module _ {honest : Bool} where
           text = λ right world f agrees. refl;
         };
         becomes = refused_keeps honest request owned old new refusal s;
+        seed = s.seed;
       }
 
   -- a refusal since the disk returned data that was not written to it
@@ -515,6 +531,7 @@ module _ {honest : Bool} where
           text = λ right. absurd (never right);
         };
         becomes = refused_keeps honest request owned old new why.TapeDamaged s;
+        seed = s.seed;
       }
 
   pub no_memory_same : (request : Request) (owned : List Record) (old new : Store) → Same old new
@@ -593,6 +610,7 @@ module _ {honest : Bool} where
               text = λ right world f agrees. ap (λ n. said_text (says.Columns n)) counted;
             };
         becomes = record { replicas = λ name. refl; saved = λ name. refl };
+        seed = refl;
       }
 
   pub query_too_early : (store : Store) (text : List ℕ) (owned : List Record) → store.columns ≡ None
@@ -640,6 +658,7 @@ module _ {honest : Bool} where
           text = λ right world f agrees. ap (λ bytes. line (codes "query ") bytes) spelled;
         };
         becomes = record { replicas = λ name. refl; saved = λ name. refl };
+        seed = refl;
       }
 
   pub limit_told : (store : Store) (bytes : ℕ) (owned : List Record) → MIN_LIMIT ≤ bytes → bytes ≤ MAX_LIMIT
@@ -660,6 +679,7 @@ module _ {honest : Bool} where
           text = λ right world f agrees. refl;
         };
         becomes = record { replicas = λ name. refl; saved = λ name. refl };
+        seed = refl;
       }
     where
       within : (nat_le MIN_LIMIT bytes && nat_le bytes MAX_LIMIT) ≡ true
@@ -714,6 +734,7 @@ module _ {honest : Bool} where
           text = λ right world f agrees. refl;
         };
         becomes = record { query = query; asked = told; updates = u };
+        seed = u.seed;
       }
 
   -- a batch of another world
@@ -754,6 +775,7 @@ module _ {honest : Bool} where
           text = λ right world f agrees. refl;
         };
         becomes = keeps_all old new s;
+        seed = s.seed;
       }
 
   pub feed_nowhere : (store : Store) (name origin number : List ℕ) (told_rows : ℕ) (owned : List Record) → replica_at store name ≡ None
@@ -837,6 +859,7 @@ module _ {honest : Bool} where
           text = λ right world f agrees. refl;
         };
         becomes = becomes;
+        seed = u.seed;
       }
 
   pub known_nowhere_at : (store : Store) (name : List ℕ) (owned : List Record) → replica_at store name ≡ None
@@ -861,6 +884,7 @@ module _ {honest : Bool} where
           text = λ right world f agrees. shown;
         };
         becomes = record { replicas = λ name. refl; saved = λ name. refl };
+        seed = refl;
       }
 
   pub answer_nowhere : (store : Store) (name : List ℕ) (owned : List Record) → replica_at store name ≡ None
@@ -874,13 +898,9 @@ module _ {honest : Bool} where
       go (Some q) = refl
 
   pub answered : (store : Store) (name : List ℕ) (owned : List Record) (held : Held) (rows : ℕ) (table : Vec ℕ Global) → IsStore store
-      → replica_at store name ≡ Some held
-      → ((world : World) → IsWorld (kinds held.query.columns) world → Fits world held
-      → (rows ≡ length (answer (meaning held.query) world (told held.parts)))
-      × (table.items ≡ table_text (headers held.query) (answer (meaning held.query) world (told held.parts))))
-      → (some : (shown : List (List Outcome)) × ((rows ≡ length shown) × (table.items ≡ table_text (headers held.query) shown)))
+      → replica_at store name ≡ Some held → PrintsAnswer Csv held rows table.items
       → Steps honest (ask.Answer name) owned store (says.Answer rows table) store
-  answered store name owned held rows table is there shown some =
+  answered store name owned held rows table is there prints =
       let asks = held_asks store name held is there in
       record {
         steps = λ state r. record {
@@ -893,14 +913,19 @@ module _ {honest : Bool} where
           refused = refl;
           faulted = refl;
           fits = λ right world f agrees. f;
-          reads = (some.0, ap (λ n. answer_text n table.items) some.1.0 ∙ ap (λ bytes. answer_text (length some.0) bytes) some.1.1);
+          reads = (
+            prints.given,
+            ap (λ n. answer_text n table.items) prints.counted ∙ ap (λ bytes. answer_text (length prints.given) bytes) prints.printed,
+          );
           text = λ right world f agrees.
               let of_world = subst (λ cs. IfSome cs (λ (columns : List Column). IsWorld (kinds columns) world)) asks.1 f.of_columns in
-              let is = shown world of_world (subst (λ o. IfSome o (λ (h : Held). Fits world h)) there (f.fit name)) in
+              let is = printed_world Csv held rows table.items prints world of_world
+              (subst (λ o. IfSome o (λ (h : Held). Fits world h)) there (f.fit name)) in
               ap (λ n. answer_text n table.items) is.0
               ∙ ap (λ bytes. answer_text (length (answer (meaning held.query) world (told held.parts))) bytes) is.1;
         };
-        becomes = record { replicas = λ name. refl; saved = λ name. refl };
+        becomes = record { held = held; there = there; prints = prints; keeps = keeps_all store store (same store) };
+        seed = refl;
       }
 
   -- an answer for which memory ran out, or the tape disk failed
@@ -968,6 +993,7 @@ module _ {honest : Bool} where
               text = λ right world f agrees. refl;
             };
             becomes = keeps_all store store (same store);
+            seed = refl;
           }
       go (Some own) (Some theirs) one two refusal undamaged is = absurd is
 
@@ -1005,6 +1031,7 @@ module _ {honest : Bool} where
           merges = merges;
           updates = u;
         };
+        seed = u.seed;
       }
 
   pub save_nowhere : (store : Store) (name saved : List ℕ) (owned : List Record) → replica_at store name ≡ None
@@ -1061,6 +1088,7 @@ module _ {honest : Bool} where
                   ∙ ap length (world_is world (subst (λ o. IfSome o (λ (h : Held). Fits world h)) there (f.fit name))));
             };
         becomes = record { held = held; bytes = bytes; there = there; is_file = file; counted = counted; files = u };
+        seed = u.seed;
       }
 
   pub load_nowhere : (store : Store) (name saved : List ℕ) (owned : List Record) → saved_at store saved ≡ None
@@ -1081,6 +1109,7 @@ module _ {honest : Bool} where
       record {
         steps = λ state r. go state r (state.saved saved) refl (subst (AreSaved (state.saved saved)) there (r.saved saved));
         becomes = record { bytes = bytes; later = later; there = there; loaded = is; updates = u };
+        seed = u.seed;
       }
     where
       go : (state : State) → Represents state old → (known : Option Knowledge) → state.saved saved ≡ known → AreSaved known (Some bytes)

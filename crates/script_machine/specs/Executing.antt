@@ -1,6 +1,7 @@
 -- What a command of a script does, in one record. All of this is our own.
 use Rattle.std.specs.Prelude.{ℕ, ◌≡◌, IsTrue, List, [], ◌∷◌, ◌++◌, flat_map, count_by, Option, IfSome, Result, Ok, Err}
 use Rattle.std.specs.Io.KnownBytes.{Appends}
+use Rattle.key_hashes.specs.declared.sip_hash.Seed.{Seed}
 use Rattle.tape_disks.specs.Disk.{DiskFrame}
 use Rattle.tape_disks.specs.declared.disk.TapeDisk.{Ghosts}
 use Rattle.script_io.specs.Records.{Record}
@@ -16,9 +17,10 @@ use Rattle.script_machine.specs.Headline.{Streams, commands_in}
 use Rattle.script_machine.specs.Limits.{WorksAtLimit}
 use Rattle.script_machine.specs.Views.{Store, Steps, empty}
 
--- a command that asks for this and owns these records is answered, over a tape disk. The reply and what is kept then are the machine's.
--- What disagrees is never taken, and disagreement is told of nothing else. The disk failed as often as the reply tells. An honest one is
--- written as often as the aggregations want that the command makes, at the limit that was told last
+-- a command that asks for this and owns these records is answered, over a tape disk. The reply and what is kept then are the machine's,
+-- and an answer prints the rows of the replica that it names. What disagrees is never taken, and disagreement is told of nothing else. The
+-- disk failed as often as the reply tells. An honest one is written as often as the aggregations want that the command makes, at the limit
+-- that was told last
 pub record Executes {D : Type 0} (g : Ghosts D) (request : Request) (owned : List Record) (old : Store) (before : D) (reply : Reply)
     (new : Store) (after : D) : Type 0 where
   pub answers : Steps (g.honest before) request owned old reply new
@@ -35,14 +37,14 @@ Executed {D = D} g old before (command ∷ commands) (reply ∷ replies) new aft
     × Executed g next disk commands replies new after
 Executed g old before commands replies new after = ⊥
 
--- all commands but those that are left were executed, from where nothing is there, and their replies were written so
-pub record ExecutesAllBut {D : Type 0} (g : Ghosts D) (left commands : List Command) (before after : D) (wrote : List Reply → Type 0) :
-    Type 0 where
+-- all commands but those that are left were executed, from where nothing is there but a seed, and their replies were written so
+pub record ExecutesAllBut {D : Type 0} (g : Ghosts D) (seed : Seed) (left commands : List Command) (before after : D)
+    (wrote : List Reply → Type 0) : Type 0 where
   pub done : List Command
   pub all : commands ≡ done ++ left
   pub replies : List Reply
   pub new : Store
-  pub each : Executed g empty before done replies new after
+  pub each : Executed g (empty seed) before done replies new after
   pub writes : wrote replies
 
 -- the texts of replies, one behind the other
@@ -56,18 +58,19 @@ pub record AreWritten (old new : Option (List ℕ)) (refused : ℕ) (replies : L
 
 -- commands were executed: all of them, where that ended well; up to the one whose reply was not written, where the writer failed; and as
 -- far as memory was there
-abbrev pub Works : {D : Type 0} → Ghosts D → List Command → (old new : Option (List ℕ)) → (before after : D) → Result Outcome RunError
-    → Type 0
-Works g commands old new before after (Ok outcome) = ExecutesAllBut g [] commands before after (AreWritten old new outcome.refused)
-Works g commands old new before after (Err WriteFault) = (left : List Command)
-    × ExecutesAllBut g left commands before after (λ replies. StopsShort old new (said_texts replies))
-Works {D = D} g commands old new before after (Err NoMemory) = (left : List Command) × (disk : D) × (refused faults : ℕ)
-    × DiskFrame g faults disk after × ExecutesAllBut g left commands before disk (AreWritten old new refused)
-Works g commands old new before after (Err error) = ⊥
+abbrev pub Works : {D : Type 0} → Ghosts D → Seed → List Command → (old new : Option (List ℕ)) → (before after : D)
+    → Result Outcome RunError → Type 0
+Works g seed commands old new before after (Ok outcome) =
+    ExecutesAllBut g seed [] commands before after (AreWritten old new outcome.refused)
+Works g seed commands old new before after (Err WriteFault) = (left : List Command)
+    × ExecutesAllBut g seed left commands before after (λ replies. StopsShort old new (said_texts replies))
+Works {D = D} g seed commands old new before after (Err NoMemory) = (left : List Command) × (disk : D) × (refused faults : ℕ)
+    × DiskFrame g faults disk after × ExecutesAllBut g seed left commands before disk (AreWritten old new refused)
+Works g seed commands old new before after (Err error) = ⊥
 
 -- the commands of a script were, unless it was not read
-abbrev pub WorksThrough : {D : Type 0} → Ghosts D → Streams → (before after : D) → Result Outcome RunError → Type 0
-WorksThrough g streams before after (Err InputTooLong) = after ≡ before
-WorksThrough g streams before after (Err ReadFault) = after ≡ before
-WorksThrough g streams before after result = IfSome streams.script
-    (λ script. Works g (commands_in script) streams.old streams.new before after result)
+abbrev pub WorksThrough : {D : Type 0} → Ghosts D → Seed → Streams → (before after : D) → Result Outcome RunError → Type 0
+WorksThrough g seed streams before after (Err InputTooLong) = after ≡ before
+WorksThrough g seed streams before after (Err ReadFault) = after ≡ before
+WorksThrough g seed streams before after result = IfSome streams.script
+    (λ script. Works g seed (commands_in script) streams.old streams.new before after result)

@@ -16,6 +16,7 @@ use Rattle.replica_merge.specs.Replicas.{Held, part_of}
 use Rattle.script_io.specs.Records.{Record}
 use Rattle.script_commands.specs.Commands.{Request, Feed, Merge}
 use Rattle.replies.specs.Batches.{Fed, IsBatch}
+use Rattle.replies.specs.declared.refusal.Refusal.TheVariants.{Batch, NoSuchName}
 use Rattle.replies.specs.declared.reply.Reply.{Reply}
 use Rattle.replies.specs.declared.reply.Reply.TheVariants as says
 use Rattle.script_machine.specs.Views.{Store, replica_at}
@@ -44,13 +45,16 @@ MergeWorked own theirs limit writes written =
     written
 
 -- those of a command that is answered so, at the limit of what was there before it: a feed and a merge that aren't refused make just the
--- aggregations that they need, and any other command writes nothing
+-- aggregations that they need; a feed that is no batch, or to no replica, a merge that lacks a replica, and any other command write nothing
 abbrev pub WorksAtLimit : Store → Request → List Record → Reply → (writes written : ℕ) → Type 0
 WorksAtLimit old (Feed name origin number told) owned (says.Delivered delivered) writes written =
     (held : Held) × (replica_at old name ≡ Some held) × FeedWorked held old.limit origin number told owned writes written
+WorksAtLimit old (Feed name origin number told) owned (says.Refused NoSuchName) writes written = written ≡ writes
+WorksAtLimit old (Feed name origin number told) owned (says.Refused (Batch error)) writes written = written ≡ writes
 WorksAtLimit old (Feed name origin number told) owned reply writes written = Unit {0}
 WorksAtLimit old (Merge into from) owned says.Merged writes written =
     (own theirs : Held) × (replica_at old into ≡ Some own) × (replica_at old from ≡ Some theirs)
     × MergeWorked own theirs old.limit writes written
+WorksAtLimit old (Merge into from) owned (says.Refused NoSuchName) writes written = written ≡ writes
 WorksAtLimit old (Merge into from) owned reply writes written = Unit {0}
 WorksAtLimit old request owned reply writes written = written ≡ writes

@@ -5,6 +5,7 @@ use Rattle.std.specs.declared.vec.Vec.{Vec}
 use Rattle.std.specs.Map.{lookup}
 use Rattle.std.specs.Str.{bytes_eq}
 use Rattle.hash_agg.specs.declared.means.TheConstants.{DEFAULT_LIMIT}
+use Rattle.key_hashes.specs.declared.sip_hash.Seed.{Seed}
 use Rattle.grouping_model.specs.World.{World, IsWorld, Knowledge}
 use Rattle.grouping_model.specs.declared.delivered.Delivered.{Delivered}
 use Rattle.batch_reader.specs.Rows.{packings}
@@ -14,11 +15,13 @@ use Rattle.replica_merge.specs.Replicas.{Held, told, Fits, DeliversAt}
 use Rattle.replica_merge.specs.Results.{MergesHeld}
 use Rattle.summary_codec.specs.Reading.{IsSaved}
 use Rattle.script_io.specs.Records.{Record}
-use Rattle.script_commands.specs.Commands.{Request, Replica, Feed, Merge, Save, Load}
+use Rattle.script_commands.specs.Commands.{Request, Replica, Feed, Answer, Merge, Save, Load}
 use Rattle.replies.specs.Batches.{Fed, IsBatch}
+use Rattle.replies.specs.Printed.{PrintsAnswer}
 use Rattle.replies.specs.Text.{said_text, is_refusal, is_tape_fault}
 use Rattle.replies.specs.declared.reply.Reply.{Reply}
 use Rattle.replies.specs.declared.reply.Reply.TheVariants as says
+use Rattle.replies.specs.declared.showing.Format.TheVariants.{Csv}
 use Rattle.script_machine.specs.Machine as machine
 use Rattle.script_machine.specs.Machine.{State, IsReply, AgreesAt, after}
 use Rattle.script_machine.specs.Exact.{Exactly}
@@ -26,18 +29,19 @@ use Rattle.script_machine.specs.Wording.{exact_wording}
 use Rattle.script_machine.specs.AnyDisk.{MayReply, MayRead, is_fault, is_refused}
 use Rattle.script_machine.specs.Text.{reply_text}
 
--- what the code keeps: the columns and the query, once they were told, the replicas by their names, the summary files by theirs, and the
--- limit of aggregations
+-- what the code keeps: the columns and the query, once they were told, the replicas by their names, the summary files by theirs, the
+-- limit of aggregations, and the seed of their tables
 pub record Store : Type 0 where
   pub columns : Option (List Column)
   pub query : Option Checked
   pub replicas : List (Vec ℕ Global × Held)
   pub saved : List (Vec ℕ Global × List ℕ)
   pub limit : ℕ
+  pub seed : Seed
 
--- nothing is there but the usual limit
-abbrev pub empty : Store
-empty = record { columns = None; query = None; replicas = []; saved = []; limit = DEFAULT_LIMIT }
+-- nothing is there but the usual limit, and the seed that is given
+abbrev pub empty : Seed → Store
+empty seed = record { columns = None; query = None; replicas = []; saved = []; limit = DEFAULT_LIMIT; seed = seed }
 
 -- the replica of a name
 abbrev pub replica_at : Store → List ℕ → Option Held
@@ -102,6 +106,7 @@ pub record Updates (old new : Store) (name : List ℕ) (held : Held) : Type 0 wh
   pub others : (other : List ℕ) → bytes_eq name other ≡ false → replica_at new other ≡ replica_at old other
   pub saved : new.saved ≡ old.saved
   pub limit : new.limit ≡ old.limit
+  pub seed : new.seed ≡ old.seed
 
 -- one name has this file now, and nothing else changed
 pub record Files (old new : Store) (name : List ℕ) (bytes : List ℕ) : Type 0 where
@@ -111,6 +116,7 @@ pub record Files (old new : Store) (name : List ℕ) (bytes : List ℕ) : Type 0
   pub own : saved_at new name ≡ Some bytes
   pub others : (other : List ℕ) → bytes_eq name other ≡ false → saved_at new other ≡ saved_at old other
   pub limit : new.limit ≡ old.limit
+  pub seed : new.seed ≡ old.seed
 
 -- a reply of the code to what is asked, over a tape disk that may be honest, is one of the machine's. What is kept then is what is there
 -- then. Over an honest disk the reply is the right one
@@ -150,6 +156,13 @@ pub record TakesFed (honest : Bool) (old new : Store) (name origin number : List
   pub delivers : DeliversAt honest held.query held.parts fed.origin fed.number (packings fed.rows) later.parts delivered
   pub updates : Updates old new name later
 
+-- a table is that of the rows of the replica of a name, whatever other replicas hold, and nothing changes
+pub record Prints (old new : Store) (name : List ℕ) (rows : ℕ) (table : List ℕ) : Type 0 where
+  pub held : Held
+  pub there : replica_at old name ≡ Some held
+  pub prints : PrintsAnswer Csv held rows table
+  pub keeps : KeepsAll old new
+
 -- the replica of a name takes in that of another
 pub record TakesIn (honest : Bool) (old new : Store) (into from : List ℕ) : Type 0 where
   pub own : Held
@@ -177,17 +190,19 @@ pub record Loads (old new : Store) (name saved : List ℕ) : Type 0 where
   pub loaded : (held : Held) → IsSaved bytes held.query held.parts → later ≡ held
   pub updates : Updates old new name later
 
--- what becomes of the replicas and the files after a request that is answered so
+-- what becomes of the replicas and the files after a request that is answered so, and which table is printed
 abbrev pub Becomes : (honest : Bool) → Request → List Record → (old : Store) → Reply → (new : Store) → Type 0
 Becomes honest (Replica name) owned old (says.Created made) new = Makes old new name
 Becomes honest (Feed name origin number told) owned old (says.Delivered delivered) new =
     TakesFed honest old new name origin number told owned delivered
+Becomes honest (Answer name) owned old (says.Answer rows table) new = Prints old new name rows table.items
 Becomes honest (Merge into from) owned old says.Merged new = TakesIn honest old new into from
 Becomes honest (Save name saved) owned old (says.Saved count) new = Saves old new name saved count
 Becomes honest (Load name saved) owned old says.Loaded new = Loads old new name saved
 Becomes honest request owned old reply new = KeepsAll old new
 
--- the same for whatever is there, and what becomes of what is kept
+-- the same for whatever is there, and what becomes of what is kept. The seed stays
 pub record Steps (honest : Bool) (request : Request) (owned : List Record) (old : Store) (reply : Reply) (new : Store) : Type 0 where
   pub steps : (state : State) → Represents state old → Answers honest state request owned old reply new
   pub becomes : Becomes honest request owned old reply new
+  pub seed : new.seed ≡ old.seed

@@ -59,9 +59,9 @@ fn answer_all<W: Write, O: Observer, D: TapeDisk>(
     disk: &mut D,
 ) -> Result<Outcome, RunError>
     requires few { length records.old ≤ MAX_INPUT_LEN + 1 }
-    requires none { session.old ≡ empty }
-    ensures works { Works D.TapeDisk (commands_of records.old) (written W.contents writer.old) (written W.contents writer.new) disk.old
-        disk.new result }
+    requires none { session.old ≡ empty session.old.seed }
+    ensures works { Works D.TapeDisk session.old.seed (commands_of records.old) (written W.contents writer.old)
+        (written W.contents writer.new) disk.old disk.new result }
     ensures write_fault { FailsAsTold writer.old writer.new (tells_write_fault result) }
     ensures disk { (faults : ℕ) × DiskFrame D.TapeDisk faults disk.old disk.new }
 {
@@ -87,7 +87,7 @@ fn run_script<W: Write, O: Observer, D: TapeDisk>(
     seed: Seed,
 ) -> Result<Outcome, RunError>
     requires { length script.now ≤ MAX_INPUT_LEN }
-    ensures works { Works D.TapeDisk (commands_in script.now) (written W.contents writer.old) (written W.contents writer.new) disk.old
+    ensures works { Works D.TapeDisk seed (commands_in script.now) (written W.contents writer.old) (written W.contents writer.new) disk.old
         disk.new result }
     ensures write_fault { FailsAsTold writer.old writer.new (tells_write_fault result) }
     ensures disk { (faults : ℕ) × DiskFrame D.TapeDisk faults disk.old disk.new }
@@ -122,14 +122,15 @@ pub fn run<R: Read, W: Write, D: TapeDisk>(
     ensures headline { OnOk result (IsTrue (D.TapeDisk.honest disk.old) → WritesRight
         (streams R.remaining W.contents reader.old writer.old writer.new)) }
     // Beside it: what is read, the output to the byte, what holds over any disk, and that faults are reported where they are.
-    ensures runs { Runs D.TapeDisk R.remaining W.contents reader.old reader.new writer.old writer.new disk.old disk.new result }
+    ensures runs { Runs D.TapeDisk DEFAULT_SEED R.remaining W.contents reader.old reader.new writer.old writer.new disk.old disk.new
+        result }
 {
     run_observed(alloc, reader, writer, &mut Unobserved, disk, DEFAULT_SEED)
 }
 
 /// The same as `run`, with an observer that gets each refused command, in order, and its line in the script. No clause speaks of it. The
 /// group tables have this seed: use a random one if others write the script, so that nobody can choose keys that collide. All clauses
-/// hold for each seed.
+/// hold for each seed, and by `runs` the session keeps it.
 pub fn run_observed<R: Read, W: Write, O: Observer, D: TapeDisk>(
     alloc: Global,
     reader: &mut Fused<R>,
@@ -140,7 +141,7 @@ pub fn run_observed<R: Read, W: Write, O: Observer, D: TapeDisk>(
 ) -> Result<Outcome, RunError>
     ensures headline { OnOk result (IsTrue (D.TapeDisk.honest disk.old) → WritesRight
         (streams R.remaining W.contents reader.old writer.old writer.new)) }
-    ensures runs { Runs D.TapeDisk R.remaining W.contents reader.old reader.new writer.old writer.new disk.old disk.new result }
+    ensures runs { Runs D.TapeDisk seed R.remaining W.contents reader.old reader.new writer.old writer.new disk.old disk.new result }
 {
     let script = read_input(alloc, reader, MAX_INPUT_LEN)?;
     run_script(alloc, &script, writer, observer, disk, seed)

@@ -68,6 +68,7 @@ impl Model for Session {
           replicas = s.replicas.entries;
           saved = s.saved.entries;
           limit = s.means.limit;
+          seed = s.means.seed;
         } };
 
     ghost invariant = { λ s. IsStore
@@ -77,6 +78,7 @@ impl Model for Session {
           replicas = s.replicas.entries;
           saved = s.saved.entries;
           limit = s.means.limit;
+          seed = s.means.seed;
         }) };
 }
 
@@ -157,7 +159,7 @@ fn keep<V: Drop>(kept: &mut IndexMap<Vec<u8>, V>, named: (Vec<u8>, V)) -> Result
 impl Session {
     /// The empty state. Group tables have this seed.
     pub(crate) fn new(alloc: Global, seed: Seed) -> Session
-        ensures { result ≡ empty }
+        ensures { result ≡ empty seed }
     {
         Session {
             alloc,

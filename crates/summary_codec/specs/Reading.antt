@@ -7,12 +7,12 @@ use Rattle.std.specs.Ordering.{nat_cmp}
 use Rattle.std.specs.declared.cmp.Ordering.{Ordering}
 use Rattle.std.specs.declared.cmp.Ordering.TheVariants.{Less}
 use Rattle.grouping_model.specs.Aggregates.{Partial}
-use Rattle.grouping_model.specs.Datum.{Kind, Row, HasKinds}
+use Rattle.grouping_model.specs.Datum.{Kind}
 use Rattle.grouping_model.specs.Parts.{functions}
 use Rattle.grouping_model.specs.Query.{Query}
 use Rattle.grouping_model.specs.declared.limits.TheConstants.{LAST_ORIGIN}
 use Rattle.packed_rows.specs.Columns.{Column, kinds, printed, IsSchemaText}
-use Rattle.packed_rows.specs.Packing.{packing}
+use Rattle.packed_rows.specs.Packing.{IsPacking}
 use Rattle.having_filter.specs.Kept.{by_names, key_kinds}
 use Rattle.query_checks.specs.Checks.{Checked}
 use Rattle.having_filter.specs.Meaning.{meaning}
@@ -81,10 +81,6 @@ sized = number 2 >>= taken
 abbrev pub each : {A : Type 0} → (List A → Reader A) → ℕ → List A → Reader (List A)
 each item zero before = done before
 each item (suc n) before = item before >>= λ x. each item n (before ++ x ∷ [])
-
--- bytes are the packing of values of these kinds
-abbrev pub IsPacking : List Kind → List ℕ → Type 0
-IsPacking kinds bytes = (values : Row) × HasKinds kinds values × (bytes ≡ packing values)
 
 -- bytes are the states of a query's aggregates, which count at most so many rows
 abbrev pub AreStateBytes : Query → ℕ → List ℕ → Type 0

@@ -4,12 +4,13 @@ use Rattle.std.specs.declared.alloc.Global.{Global}
 use Rattle.std.specs.declared.vec.Vec.{Vec}
 use Rattle.std.specs.Io.KnownBytes.{Appends}
 use Rattle.std.proofs.lemmas.List.{length-append}
-use Rattle.csv.specs.Writing.{default_writer, field_text, fields_written, has_written, is_blank, next_sep, row_body, tail_text, writer_setup}
+use Rattle.csv.specs.Writing.{default_writer, field_text, fields_written, has_written, is_blank, next_sep, tail_text, writer_setup}
 use Rattle.csv.specs.declared.writer.QuoteStyle.TheVariants as style
 use Rattle.csv.specs.declared.writer.Writer.{Writer}
 use Rattle.csv.specs.declared.writer.WriterBuilder.{WriterBuilder}
 use Rattle.csv.proofs.WriteFacts.{appends-more, appends-none, blank-more, row-final, row-more}
-use Rattle.table_print.specs.Writer.{IsBetween, IsWithin, WritesLine, written}
+use Rattle.script_io.specs.LineWriter.{IsBetween, written}
+use Rattle.table_print.specs.Writer.{IsWithin, WritesLine}
 
 -- the defaults quote fields that need it
 by_need : default_writer.style ≢ style.NonNumeric

@@ -1,6 +1,6 @@
 //! Tables in CSV.
 
-ghost use Rattle.std.specs.Prelude.{All, ◌≡◌, ◌<◌, ◌-◌, ◌^◌, ◌++◌, ◌∷◌, ℕ, List, [], length, map, flat_map, IfOk, OnOk};
+ghost use Rattle.std.specs.Prelude.{All, ◌≡◌, ◌<◌, ◌-◌, ◌^◌, ◌++◌, ◌∷◌, ℕ, List, [], length, map, flat_map, IfOk, OnOk, OnErr};
 ghost use Rattle.csv.specs.Writing.{default_writer, writer_setup};
 ghost use Rattle.csv.specs.declared.writer.Writer.{Writer};
 ghost use Rattle.std.specs.declared.alloc.Global.{Global};
@@ -9,9 +9,10 @@ ghost use Rattle.grouping_model.specs.Aggregates.{Outcome};
 ghost use Rattle.agg_protocol.specs.Results.{outcome_of};
 ghost use Rattle.having_filter.specs.Meaning.{meaning};
 ghost use Rattle.having_filter.specs.Kept.{headers};
-ghost use Rattle.table_print.specs.Growing.{IsCsvTable, Takes};
+ghost use Rattle.table_print.specs.Growing.{CsvTakes, HasFailed, IsCsvTable};
 ghost use Rattle.table_print.specs.Table.{cell_text, table_text};
-ghost use Rattle.table_print.specs.Writer.{IsBetween, IsWithin, WritesLine};
+ghost use Rattle.script_io.specs.LineWriter.{IsBetween};
+ghost use Rattle.table_print.specs.Writer.{IsWithin, WritesLine};
 
 use crate::cell::cell;
 use crate::rows::{one_more, push_answer};
@@ -69,12 +70,15 @@ fn put_line(writer: &mut Writer<Vec<u8>>, row: &[ResultValue<'_>]) -> Result<(),
 }
 
 /// A table in CSV that takes its rows one after another: a header, then a line for each row. Null shows as `\N`, truth values as `t` and
-/// `f`, numbers in plain decimal. Fields are quoted where RFC 4180 wants it, and each line ends with a line feed.
+/// `f`, numbers in plain decimal. Fields are quoted where RFC 4180 wants it, and each line ends with a line feed. A table to which a row was
+/// not written whole, since an allocation failed, takes no row and gives no text from then on.
 #[derive(Drop)]
 pub struct CsvTable {
     writer: Writer<Vec<u8>>,
     /// How many rows there are.
     rows: usize,
+    /// Whether a line was begun and not ended.
+    failed: bool,
 }
 
 impl CsvTable {
@@ -84,23 +88,37 @@ impl CsvTable {
     {
         let mut writer = Writer::from_writer(Vec::new(alloc));
         put_headers(&mut writer, query)?;
-        Ok(CsvTable { writer, rows: 0 })
+        Ok(CsvTable {
+            writer,
+            rows: 0,
+            failed: false,
+        })
     }
 
-    /// Writes the line of a row.
+    /// Writes the line of a row, unless an earlier one failed. The only error is a failed allocation.
     fn put_row(&mut self, row: &[ResultValue<'_>]) -> Result<(), AllocError>
-        ensures { OnOk result (Takes IsCsvTable self.old self.new (map outcome_of row.now ∷ [])) }
+        ensures taken { OnOk result (CsvTakes self.old self.new (map outcome_of row.now ∷ [])) }
+        ensures untaken { OnErr result (HasFailed self.new) }
     {
+        if self.failed {
+            return Err(AllocError);
+        }
+        self.failed = true;
         put_line(&mut self.writer, row)?;
         self.rows = one_more(self.rows)?;
+        self.failed = false;
         Ok(())
     }
 
-    /// How many rows the table has, and its text. The only error is a failed allocation.
+    /// How many rows the table has, and its text. The only error is a failed allocation, now or for an earlier row.
     pub fn finish(self) -> Result<(usize, Vec<u8>), AllocError>
-        ensures { IfOk result (λ found. (headers : List (List ℕ)) (rows : List (List Outcome)) →
+        ensures text { IfOk result (λ found. (headers : List (List ℕ)) (rows : List (List Outcome)) →
             IsCsvTable headers rows self → (found.0 ≡ length rows) × (found.1.items ≡ table_text headers rows)) }
+        ensures whole { OnOk result (¬ (HasFailed self)) }
     {
+        if self.failed {
+            return Err(AllocError);
+        }
         let rows = self.rows;
         match self.writer.into_inner() {
             Ok(text) => Ok((rows, text)),
@@ -110,18 +128,22 @@ impl CsvTable {
 }
 
 impl RowSink for CsvTable {
-    ghost use Rattle.table_print.specs.Growing.{IsCsvTable, Takes};
-    ghost use Rattle.table_print.specs.GrowingLaws.{none_taken, both_taken};
+    ghost use Rattle.table_print.specs.Growing.{CsvTakes, HasFailed};
+    ghost use Rattle.table_print.specs.GrowingLaws.{csv_none, csv_both, csv_untraced};
 
-    ghost took = { Takes IsCsvTable };
+    ghost took = { CsvTakes };
+
+    ghost refused = { λ old new. HasFailed new };
 
     fn push_row(&mut self, row: &[ResultValue<'_>]) -> Result<(), AllocError> {
         self.put_row(row)
     }
 
-    ghost none = { none_taken IsCsvTable };
+    ghost none = { csv_none };
 
-    ghost both = { both_taken IsCsvTable };
+    ghost both = { csv_both };
+
+    ghost untraced = { csv_untraced };
 }
 
 /// The answer of a query as a table in CSV: a header, then a line for each row. Each row of the answer has a value for

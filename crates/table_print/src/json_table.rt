@@ -1,7 +1,7 @@
 //! Answers in JSON, an object a line.
 
 ghost use Rattle.std.specs.Prelude.{All, ◌≡◌, ◌+◌, ◌<◌, ◌++◌, ◌∷◌, ◌==◌, ℕ, List, [], length, map, flat_map, codes, decimal, take};
-ghost use Rattle.std.specs.Prelude.{slice_index_or, if◌then◌else◌, IfOk, OnOk};
+ghost use Rattle.std.specs.Prelude.{slice_index_or, if◌then◌else◌, IfOk, OnOk, OnErr};
 ghost use Rattle.std.specs.List.{list_any};
 ghost use Rattle.std.specs.Str.{bytes_eq};
 ghost use Rattle.grouping_model.specs.Aggregates.{Outcome};
@@ -9,7 +9,7 @@ ghost use Rattle.agg_protocol.specs.Results.{outcome_of};
 ghost use Rattle.packed_rows.specs.View.{bytes_of};
 ghost use Rattle.having_filter.specs.Meaning.{meaning};
 ghost use Rattle.having_filter.specs.Kept.{headers};
-ghost use Rattle.table_print.specs.Growing.{IsJsonTable, Takes};
+ghost use Rattle.table_print.specs.Growing.{IsJsonTable, Stays, Takes};
 ghost use Rattle.table_print.specs.Json.{json_byte, json_letter, json_member, json_names, json_row, json_string, json_text, json_value};
 ghost use Rattle.table_print.specs.Json.{escaped_as, name_of, plain_byte};
 
@@ -203,6 +203,8 @@ pub struct JsonTable {
     /// The names of the members, each as a string of JSON.
     names: Vec<Vec<u8>>,
     text: Vec<u8>,
+    /// The line that is being made. It goes to the text as a whole.
+    line: Vec<u8>,
     /// How many rows there are.
     rows: usize,
 }
@@ -214,16 +216,26 @@ impl JsonTable {
     {
         let names = names_of(alloc, query)?;
         let text = Vec::new(alloc);
+        let line = Vec::new(alloc);
         let rows = 0;
-        Ok(JsonTable { names, text, rows })
+        Ok(JsonTable {
+            names,
+            text,
+            line,
+            rows,
+        })
     }
 
-    /// Writes the object of a row.
+    /// Writes the object of a row. The only error is a failed allocation, which leaves the table as it was.
     fn put_row(&mut self, row: &[ResultValue<'_>]) -> Result<(), AllocError>
-        ensures { OnOk result (Takes IsJsonTable self.old self.new (map outcome_of row.now ∷ [])) }
+        ensures taken { OnOk result (Takes IsJsonTable self.old self.new (map outcome_of row.now ∷ [])) }
+        ensures untaken { OnErr result (Stays IsJsonTable self.old self.new) }
     {
-        push_object(&mut self.text, &self.names, row)?;
-        self.rows = one_more(self.rows)?;
+        self.line.clear();
+        push_object(&mut self.line, &self.names, row)?;
+        let rows = one_more(self.rows)?;
+        self.text.extend_from_slice(&self.line)?;
+        self.rows = rows;
         Ok(())
     }
 
@@ -237,10 +249,12 @@ impl JsonTable {
 }
 
 impl RowSink for JsonTable {
-    ghost use Rattle.table_print.specs.Growing.{IsJsonTable, Takes};
-    ghost use Rattle.table_print.specs.GrowingLaws.{none_taken, both_taken};
+    ghost use Rattle.table_print.specs.Growing.{IsJsonTable, Stays, Takes};
+    ghost use Rattle.table_print.specs.GrowingLaws.{none_taken, both_taken, stays_untraced};
 
     ghost took = { Takes IsJsonTable };
+
+    ghost refused = { Stays IsJsonTable };
 
     fn push_row(&mut self, row: &[ResultValue<'_>]) -> Result<(), AllocError> {
         self.put_row(row)
@@ -249,6 +263,8 @@ impl RowSink for JsonTable {
     ghost none = { none_taken IsJsonTable };
 
     ghost both = { both_taken IsJsonTable };
+
+    ghost untraced = { stays_untraced IsJsonTable };
 }
 
 /// The answer of a query as objects of JSON (RFC 8259): a line for each row, with a member for each item of the query, by its

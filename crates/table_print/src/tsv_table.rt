@@ -1,12 +1,12 @@
 //! Tables in TSV.
 
-ghost use Rattle.std.specs.Prelude.{All, ◌≡◌, ◌++◌, ◌∷◌, ℕ, List, [], length, map, flat_map, IfOk, OnOk};
+ghost use Rattle.std.specs.Prelude.{All, ◌≡◌, ◌++◌, ◌∷◌, ℕ, List, [], length, map, flat_map, IfOk, OnOk, OnErr};
 ghost use Rattle.std.specs.List.{join_by};
 ghost use Rattle.grouping_model.specs.Aggregates.{Outcome};
 ghost use Rattle.agg_protocol.specs.Results.{outcome_of};
 ghost use Rattle.having_filter.specs.Meaning.{meaning};
 ghost use Rattle.having_filter.specs.Kept.{headers};
-ghost use Rattle.table_print.specs.Growing.{IsTsvTable, Takes};
+ghost use Rattle.table_print.specs.Growing.{IsTsvTable, Stays, Takes};
 ghost use Rattle.table_print.specs.Tsv.{behind_backslash, tsv_byte, tsv_cell, tsv_header, tsv_letter, tsv_row, tsv_text, tsv_value};
 
 use crate::cell::cell;
@@ -97,6 +97,8 @@ fn push_line(out: &mut Vec<u8>, row: &[ResultValue<'_>]) -> Result<(), AllocErro
 #[derive(Drop)]
 pub struct TsvTable {
     text: Vec<u8>,
+    /// The line that is being made. It goes to the text as a whole.
+    line: Vec<u8>,
     /// How many rows there are.
     rows: usize,
 }
@@ -108,15 +110,24 @@ impl TsvTable {
     {
         let mut text = Vec::new(alloc);
         push_header(&mut text, query)?;
-        Ok(TsvTable { text, rows: 0 })
+        let line = Vec::new(alloc);
+        Ok(TsvTable {
+            text,
+            line,
+            rows: 0,
+        })
     }
 
-    /// Writes the line of a row.
+    /// Writes the line of a row. The only error is a failed allocation, which leaves the table as it was.
     fn put_row(&mut self, row: &[ResultValue<'_>]) -> Result<(), AllocError>
-        ensures { OnOk result (Takes IsTsvTable self.old self.new (map outcome_of row.now ∷ [])) }
+        ensures taken { OnOk result (Takes IsTsvTable self.old self.new (map outcome_of row.now ∷ [])) }
+        ensures untaken { OnErr result (Stays IsTsvTable self.old self.new) }
     {
-        push_line(&mut self.text, row)?;
-        self.rows = one_more(self.rows)?;
+        self.line.clear();
+        push_line(&mut self.line, row)?;
+        let rows = one_more(self.rows)?;
+        self.text.extend_from_slice(&self.line)?;
+        self.rows = rows;
         Ok(())
     }
 
@@ -130,10 +141,12 @@ impl TsvTable {
 }
 
 impl RowSink for TsvTable {
-    ghost use Rattle.table_print.specs.Growing.{IsTsvTable, Takes};
-    ghost use Rattle.table_print.specs.GrowingLaws.{none_taken, both_taken};
+    ghost use Rattle.table_print.specs.Growing.{IsTsvTable, Stays, Takes};
+    ghost use Rattle.table_print.specs.GrowingLaws.{none_taken, both_taken, stays_untraced};
 
     ghost took = { Takes IsTsvTable };
+
+    ghost refused = { Stays IsTsvTable };
 
     fn push_row(&mut self, row: &[ResultValue<'_>]) -> Result<(), AllocError> {
         self.put_row(row)
@@ -142,6 +155,8 @@ impl RowSink for TsvTable {
     ghost none = { none_taken IsTsvTable };
 
     ghost both = { both_taken IsTsvTable };
+
+    ghost untraced = { stays_untraced IsTsvTable };
 }
 
 /// The answer of a query as a table in PostgreSQL's text format of COPY: a header, then a line for each row, values parted by tabs. Each

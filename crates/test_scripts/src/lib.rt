@@ -1,4 +1,5 @@
-//! Tests of runs of scripts, whose reader, writer or disk fails or which spill, by their crates' public calls alone.
+//! Tests of runs of scripts, whose reader, writer or disk fails or which spill, and of the texts of errors, by their crates' public calls
+//! alone.
 #![tactic(auto)]
 
 #[cfg(test)]
@@ -7,3 +8,5 @@ mod machine;
 mod seeds;
 #[cfg(test)]
 mod spilling;
+#[cfg(test)]
+mod texts;

@@ -1,8 +1,6 @@
-use Rattle.engine.specs.declared.status.Status.TheVariants.{NoMemory}
-use Rattle.engine_c.proofs.SlotLaws.{empty_slot, unmade_for_memory}
+use Rattle.std.proofs.Common.{inr}
 use Rattle.engine_c.proofs.agg_new.Goals as goal
 
 pub returns-in_default-clause-opens : goal.returns-in_default-clause-opens
 returns-in_default-clause-opens c =
-    empty_slot _ _ _ _ NoMemory _ c.in_default.ensures.none c.taken_or_new.ensures.emptied (unmade_for_memory c.args.columns.now c.args.query.now c.args.limit
-    (record { low = c.args.seed_low; high = c.args.seed_high })) c.number.ensures
+    inr (record { was = c.in_default.ensures.none; stays = c.taken_or_new.ensures.emptied; ended = c.number.ensures })

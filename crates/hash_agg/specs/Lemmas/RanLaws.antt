@@ -1,6 +1,6 @@
 -- What follows from the record of a call that aggregates, and how records are put together.
 use Rattle.std.specs.Prelude.{◌≡◌, ◌≢◌, refl, ℕ, ◌≤◌, List, Option, Some, None, Result, Ok, Err, IfErr, OnOk, OnErr, IsErrAnd, IsTrue}
-use Rattle.std.proofs.Common.{sym, ◌∙◌, ap, subst}
+use Rattle.std.proofs.Common.{sym, ◌∙◌, ap, subst, arith}
 use Rattle.std.proofs.lemmas.Result.{err_from_is_err_and}
 use Rattle.aggregation_cost.specs.Space.{Setting}
 use Rattle.grouping_model.specs.Query.{Query}
@@ -12,7 +12,7 @@ use Rattle.tape_disks.specs.Calls.{failed}
 use Rattle.tape_disks.specs.Disk.{DiskFrame}
 use Rattle.tape_disks.specs.DiskLaws.{leaves_none, leaves_twice}
 use Rattle.tape_disks.specs.declared.disk.TapeDisk.{Ghosts}
-use Rattle.hash_agg.specs.Counting.{setting_by}
+use Rattle.hash_agg.specs.Counting.{setting_by, HasGrown}
 use Rattle.hash_agg.specs.Means.{MeansState}
 use Rattle.hash_agg.specs.Ran.{Ran, Ended, Done, Refused, ended_by, faults_of, WhereDone, WhereRefused}
 use Rattle.hash_agg.specs.declared.work.Work.{Work}
@@ -29,6 +29,19 @@ pub refused_by : {T E : Type 0} (reason : E → Option SpillError) (r : Result T
     → ended_by reason r ≡ Refused (reason error)
 refused_by reason r error given =
     let p = err_from_is_err_and r given in ap (ended_by reason) p.1 ∙ ap (λ e. Refused (reason e)) p.2
+
+-- ---- the work that grows
+
+pub none_grown : (limit : ℕ) (work : Work) → HasGrown limit work work
+none_grown limit work = record { passes = omega arith; spilled = omega arith; held = omega arith; within = omega arith }
+
+pub grown_twice : (limit : ℕ) (begun work done : Work) → HasGrown limit begun work → HasGrown limit work done → HasGrown limit begun done
+grown_twice limit begun work done one two =
+    let p = one.passes in let q = two.passes in
+    let s = one.spilled in let t = two.spilled in
+    let h = one.held in let k = two.held in
+    let a = one.within in let b = two.within in
+    record { passes = omega (arith, p, q); spilled = omega (arith, s, t); held = omega (arith, h, k); within = omega (arith, a, b) }
 
 module _ {D H : Type 0} (g : Ghosts D) (hash_of : H → List ℕ → ℕ) (query : Checked) (means : MeansState H) where
   -- ---- the single facts of a result
@@ -80,7 +93,7 @@ module _ {D H : Type 0} (g : Ghosts D) (hash_of : H → List ℕ → ℕ) (query
         → Other (meaning query) (setting_by hash_of (meaning query) means) begun (g.writes before) done (g.writes after))
         (λ counted honest. weaker (counted honest)) ran.counted;
     uncounted = ran.uncounted;
-    held = ran.held;
+    grown = ran.grown;
   }
     where
       where_done : (ended : Ended) (A B : Type 0) → (A → B) → WhereDone ended A → WhereDone ended B
@@ -96,7 +109,7 @@ module _ {D H : Type 0} (g : Ghosts D) (hash_of : H → List ℕ → ℕ) (query
     undamaged = λ honest same. absurd cc;
     counted = counts;
     uncounted = tt;
-    held = λ low. low;
+    grown = none_grown means.limit work;
   }
 
   pub refused_still : (Counts : Counting) (reason : Option SpillError) (disk : D) (work : Work) → faults_of (Refused reason) ≡ 0
@@ -107,7 +120,7 @@ module _ {D H : Type 0} (g : Ghosts D) (hash_of : H → List ℕ → ℕ) (query
     undamaged = λ honest same. undamaged honest (reason_is same);
     counted = tt;
     uncounted = refl;
-    held = λ low. low;
+    grown = none_grown means.limit work;
   }
 
   -- what is refused counts nothing, whatever was to be counted
@@ -119,7 +132,7 @@ module _ {D H : Type 0} (g : Ghosts D) (hash_of : H → List ℕ → ℕ) (query
     undamaged = ran.undamaged;
     counted = tt;
     uncounted = ran.uncounted;
-    held = ran.held;
+    grown = ran.grown;
   }
 
   -- and so it may be said of any work
@@ -131,7 +144,7 @@ module _ {D H : Type 0} (g : Ghosts D) (hash_of : H → List ℕ → ℕ) (query
     undamaged = ran.undamaged;
     counted = tt;
     uncounted = refl;
-    held = λ low. low;
+    grown = none_grown means.limit work;
   }
 
   -- a refusal after calls that are done leaves the work as it was before them all
@@ -144,5 +157,5 @@ module _ {D H : Type 0} (g : Ghosts D) (hash_of : H → List ℕ → ℕ) (query
     undamaged = λ honest same. undamaged (subst IsTrue (sym first.honesty) honest) (reason_is same);
     counted = tt;
     uncounted = refl;
-    held = λ low. low;
+    grown = none_grown means.limit work;
   }

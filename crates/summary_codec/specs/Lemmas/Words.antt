@@ -15,7 +15,7 @@ pub use Rattle.list_laws.specs.Each.{each_append, each_weaker}
 pub use Rattle.origin_prefix.specs.Held.{AreHeldParts, IsHeldPart, Parts}
 pub use Rattle.origin_prefix.specs.Parts.{IsEarly, IsPartOf, Part}
 pub use Rattle.packed_rows.specs.Columns.{AreColumns, Column, IsColumnName, column_text, kind_text, kinds, names, printed}
-pub use Rattle.packed_rows.specs.Packing.{packing, value_packing}
+pub use Rattle.packed_rows.specs.Packing.{IsPacking, packing, value_packing}
 unfoldable pub use Rattle.query_checks.specs.Checks.{checked}
 pub use Rattle.query_checks.specs.Checks.{Checked, all_of, are_plain, are_shallow, checked_places, has_columns, has_too_many}
 pub use Rattle.query_checks.specs.Checks.{is_grouped, is_shallow, kinds_fit, placed, with_arrangement}
@@ -25,7 +25,7 @@ unfoldable pub use Rattle.summary_codec.specs.File.{part_bytes}
 pub use Rattle.summary_codec.specs.File.{batch_bytes, body_bytes, file_bytes, file_in, sized_bytes}
 unfoldable pub use Rattle.summary_codec.specs.Reading.{batch, batches, body, contents, heading, number, number_within, opened, parts, query}
 unfoldable pub use Rattle.summary_codec.specs.Reading.{rest, row, schema, sized, summary, text}
-pub use Rattle.summary_codec.specs.Reading.{AreStateBytes, HasFault, IsCutShort, IsNext, IsPacking, IsSaved, IsSummary, IsSummaryIn}
+pub use Rattle.summary_codec.specs.Reading.{AreStateBytes, HasFault, IsCutShort, IsNext, IsSaved, IsSummary, IsSummaryIn}
 pub use Rattle.summary_codec.specs.Reading.{MayFollow, Outcome, Reader, both, columns_in, done, each, ended, must, query_in, states_width}
 pub use Rattle.summary_codec.specs.Reading.{taken}
 pub use Rattle.summary_codec.specs.Versions.{AreWithin, IsBatchWithin, IsWithin, last_number, most_batch_rows, opening}

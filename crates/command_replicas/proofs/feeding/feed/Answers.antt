@@ -96,4 +96,4 @@ returns-in_err-delivered-clause-ran g c =
     c.deliver.new.work
     (ap Refused (sym (join_reasons refused.batch.origin refused.why))
     ∙ sym (refused_by refusal_reason c.from_residual-in_err-delivered.result _ c.from_residual-in_err-delivered.ensures.1))
-    (record { disk = ran.disk; undamaged = ran.undamaged; counted = tt; uncounted = ran.uncounted; held = ran.held })
+    (record { disk = ran.disk; undamaged = ran.undamaged; counted = tt; uncounted = ran.uncounted; grown = ran.grown })

@@ -69,4 +69,4 @@ returns g c =
           ap (map outcome_of) c.deref-6.ensures.value ∙ c.in_ok-items_of.ensures ∙ (λ i. map (again i) (c.sources.ensures i)) in
           shown q group (map outcome_of c.deref-6.result.now) (ap (λ read. is_met read q.having) (sym read) ∙ met) items,
     ))
-    c.push_row.ensures
+    c.push_row.ensures.taken

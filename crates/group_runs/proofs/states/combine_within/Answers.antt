@@ -44,4 +44,5 @@ returns c = record {
       (states_by (functions q) room.1 kinds c.args.more.now room.3 named room.5)
       refused)
       c.combine_into.ensures.err;
+  unchanged = c.combine_into.ensures.unchanged;
 }

@@ -41,7 +41,7 @@ returns-clause-folded g c =
 pub returns-clause-ran : goal.returns-clause-ran
 returns-clause-ran g c = fold_ran g.D.TapeDisk g.H.KeyHash.hash_of c.args.query.now c.args.means.now (map brought c.args.more.now)
     c.args.disk.now c.aggregate.new.disk c.args.work.now c.in_ok-more.took c.add.new.self c.in_ok-more.ensures.ran c.add.ensures.passes
-    c.add.ensures.spilled c.add.ensures.most_held
+    c.add.ensures.spilled c.add.ensures.most_held c.add.ensures.grown
 
 pub returns-in_err-more-clause-ran : goal.returns-in_err-more-clause-ran
 returns-in_err-more-clause-ran g c =

@@ -9,7 +9,7 @@ use Rattle.grouping_model.specs.declared.limits.TheConstants.{MAX_ROWS}
 use Rattle.script_io.specs.Records.{Record}
 use Rattle.plain_batches.proofs.PlainLaws.{all_more, lines_more, next_row, no_row}
 use Rattle.plain_batches.specs.Columns.{arranged}
-use Rattle.plain_batches.specs.Writer.{Writes, written}
+use Rattle.script_io.specs.LineWriter.{Writes, written}
 use Rattle.plain_batches.proofs.rows.put_rows.Goals as goal
 
 -- the lines of all rows are those of the first ones, where no more are left

@@ -2,7 +2,7 @@ use Rattle.std.proofs.Common.{◌≡◌, ◌≤◌, drop, length, flat_map, take
 use Rattle.std.specs.Prelude.{All}
 use Rattle.csv.specs.Writing.{default_writer, row_text}
 use Rattle.plain_batches.specs.Columns.{arranged}
-use Rattle.plain_batches.specs.Writer.{IsBetween, Writes}
+use Rattle.script_io.specs.LineWriter.{IsBetween, Writes}
 use Rattle.plain_batches.proofs.rows.put_rows.Given as goal
 
 abbrev pub invariant-loop-row : goal.invariant-loop-row

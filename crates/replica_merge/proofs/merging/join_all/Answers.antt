@@ -7,7 +7,7 @@ use Rattle.std.specs.Ordering.{nat_cmp}
 use Rattle.replica_merge.specs.Lemmas.Words.{meaning, Query, setting_by, Joins, PartsDisagree, JoinTells, JoinIsCounted, MergeIsCounted}
 use Rattle.replica_merge.specs.Lemmas.Words.{Part, empty, Includes, IsPartOf, Parts, part_at, part_of, IsHeldPart, IsFirstRefused, AsideAt}
 use Rattle.aggregation_cost.specs.Space.{Setting}
-use Rattle.hash_agg.specs.Lemmas.RanLaws.{refused_still, refused_later}
+use Rattle.hash_agg.specs.Lemmas.RanLaws.{grown_twice, none_grown, refused_still, refused_later}
 use Rattle.hash_agg.specs.Ran.{Refused}
 use Rattle.origin_prefix.specs.Errors.{join_reason}
 use Rattle.origin_prefix.specs.Joins.{settled}
@@ -44,7 +44,7 @@ loop-origin-init g c =
       held = search rules;
       rising = search rules;
       disk = search rules;
-      most = λ low. low;
+      grown = none_grown c.args.means.now.limit c.args.work.now;
       front = [];
       parts = refl;
       counted = λ so. (refl, refl);
@@ -62,7 +62,7 @@ loop-origin-preserved-then-stays g c =
     let rest : Parts = c.next.new.self in
     let front : Parts = c.loop-origin.invariant.front in
     let rising = subst (λ rest. IsStrictlySortedBy nat_cmp (numbers rest)) c.in-Some.ensures.steps c.loop-origin.invariant.rest in
-    let there = own_included own n p (c.stays.ensures c.if-stays.true) in
+    let there = own_included own n p (c.stays.ensures.0 c.if-stays.true) in
     let stay = included c.args.query.now there.0 p (held_part c.args.query.now own c.requires.own n there.0 there.1).part there.2 in
     record {
       at = λ o.
@@ -74,7 +74,7 @@ loop-origin-preserved-then-stays g c =
       held = (subst (AllByRecursion (IsHeldPart c.args.query.now)) c.in-Some.ensures.steps c.loop-origin.invariant.held).1;
       rising = c.loop-origin.invariant.rising;
       disk = c.loop-origin.invariant.disk;
-      most = c.loop-origin.invariant.most;
+      grown = c.loop-origin.invariant.grown;
       front = front ++ ((n, p) ∷ []);
       parts = c.loop-origin.invariant.parts ∙ ap (λ (left : Parts). front ++ left) c.in-Some.ensures.steps
           ∙ sym (append_assoc front ((n, p) ∷ []) rest);
@@ -127,7 +127,8 @@ loop-origin-preserved g c =
       rising = c.insert.ensures.ordered;
       disk = leaves_twice g.D.TapeDisk 0 c.args.disk.now c.loop-origin.disk c.join_aside.new.disk c.loop-origin.invariant.disk
           c.in-Ok-join_aside.ensures.ran.disk;
-      most = λ low. c.in-Ok-join_aside.ensures.ran.held (c.loop-origin.invariant.most low);
+      grown = grown_twice c.args.means.now.limit c.args.work.now c.loop-origin.counted c.join_aside.new.work c.loop-origin.invariant.grown
+          c.in-Ok-join_aside.ensures.ran.grown;
       front = front ++ ((n, c.in-Some.part.now) ∷ []);
       parts = c.loop-origin.invariant.parts ∙ ap (λ (left : Parts). front ++ left) c.in-Some.ensures.steps
           ∙ sym (append_assoc front ((n, c.in-Some.part.now) ∷ []) rest);
@@ -249,7 +250,7 @@ returns-clause-ran g c =
             (g.D.TapeDisk.writes c.args.disk.now) c.loop-origin.counted (g.D.TapeDisk.writes c.loop-origin.disk)) whole
             (c.loop-origin.invariant.counted so);
         uncounted = tt;
-        held = c.loop-origin.invariant.most;
+        grown = c.loop-origin.invariant.grown;
       };
       order = tt;
     }

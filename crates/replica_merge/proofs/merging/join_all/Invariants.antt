@@ -1,8 +1,9 @@
-use Rattle.std.specs.Prelude.{◌≡◌, ◌≤◌, ℕ, ◌++◌, map, IsTrue}
+use Rattle.std.specs.Prelude.{◌≡◌, ℕ, ◌++◌, map, IsTrue}
 use Rattle.std.specs.List.{AllByRecursion}
 use Rattle.std.specs.List.Sorted.{IsStrictlySortedBy}
 use Rattle.std.specs.Ordering.{nat_cmp}
 use Rattle.replica_merge.specs.Lemmas.Words.{meaning, setting_by, Part, MergeIsCounted, Parts, part_at, part_of, IsHeldPart}
+use Rattle.hash_agg.specs.Counting.{HasGrown}
 use Rattle.tape_disks.specs.Disk.{DiskFrame}
 use Rattle.replica_merge.specs.Lemmas.MergedLaws.{JoinedSoFar}
 use Rattle.replica_merge.proofs.merging.join_all.Given as goal
@@ -16,7 +17,7 @@ invariant-loop-origin g l =
       held : AllByRecursion (IsHeldPart l.query) l.origin-iterator;
       rising : IsStrictlySortedBy nat_cmp (map (λ (held : ℕ × Part). held.0) l.joined.entries);
       disk : DiskFrame g.D.TapeDisk 0 l.fn.disk l.disk;
-      most : l.fn.work.most_held ≤ l.means.limit → l.counted.most_held ≤ l.means.limit;
+      grown : HasGrown l.means.limit l.fn.work l.counted;
       front : Parts;
       parts : l.initial.origin-iterator ≡ front ++ l.origin-iterator;
       counted : IsTrue (g.D.TapeDisk.honest l.fn.disk)

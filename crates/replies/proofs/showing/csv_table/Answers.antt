@@ -12,11 +12,11 @@ returns c =
     let answer = c.in_ok-answer_into.ensures in
     IfOk-weaker c.finish.result _ _
     (λ found told.
-    let both = told names answer.0 (answer.1 names [] c.in_ok-table.ensures) in
+    let both = told names answer.0 (answer.1.rows names [] c.in_ok-table.ensures) in
     record {
       given = answer.0;
       answers = answer.2;
       counted = both.0;
       printed = both.1 ∙ ap (λ (q : Checked). text_of Csv q answer.0) c.query.ensures;
     })
-    c.finish.ensures
+    c.finish.ensures.text

@@ -14,7 +14,7 @@ pub loop-command-init : goal.loop-command-init
 loop-command-init g c =
     record {
       room = omega arith;
-      ran = ran_start g.D.TapeDisk _ c.args.disk.now _ _ c.requires.none;
+      ran = ran_start g.D.TapeDisk _ _ c.args.disk.now _ _ c.requires.none;
       sound = λ sound. sound;
       left = (0, leaves_none g.D.TapeDisk c.args.disk.now);
     }
@@ -23,8 +23,8 @@ pub returns-in_err-command : goal.returns-in_err-command
 returns-in_err-command g c =
     let inv = c.loop-command.invariant in
     record {
-      works = works_passed g.D.TapeDisk c.from_residual.result stop.NoMemory c.from_residual.ensures.1 _ _ _ _ _
-          (_, c.loop-command.disk, _, 0, leaves_none g.D.TapeDisk c.loop-command.disk, ran_all g.D.TapeDisk _ _ _ _ _ _ _ _ inv.ran);
+      works = works_passed g.D.TapeDisk _ c.from_residual.result stop.NoMemory c.from_residual.ensures.1 _ _ _ _ _
+          (_, c.loop-command.disk, _, 0, leaves_none g.D.TapeDisk c.loop-command.disk, ran_all g.D.TapeDisk _ _ _ _ _ _ _ _ _ inv.ran);
       write_fault = fails_passed c.from_residual.result stop.NoMemory c.from_residual.ensures.1 c.args.writer.now c.loop-command.writer
           (λ sound. sym (inv.sound sound));
       disk = inv.left;
@@ -35,8 +35,8 @@ returns-in_err-reply g c =
     let inv = c.loop-command.invariant in
     let stopped = c.in_err-reply.ensures.stopped in
     record {
-      works = works_passed g.D.TapeDisk c.from_residual-in_err-reply.result stop.NoMemory c.from_residual-in_err-reply.ensures.1 _ _ _ _ _
-          (_, c.loop-command.disk, _, stopped.0, stopped.1, ran_all g.D.TapeDisk _ _ _ _ _ _ _ _ inv.ran);
+      works = works_passed g.D.TapeDisk _ c.from_residual-in_err-reply.result stop.NoMemory c.from_residual-in_err-reply.ensures.1 _ _ _ _ _
+          (_, c.loop-command.disk, _, stopped.0, stopped.1, ran_all g.D.TapeDisk _ _ _ _ _ _ _ _ _ inv.ran);
       write_fault = fails_passed c.from_residual-in_err-reply.result stop.NoMemory c.from_residual-in_err-reply.ensures.1
           c.args.writer.now c.loop-command.writer (λ sound. sym (inv.sound sound));
       disk = left_both g.D.TapeDisk c.args.disk.now c.loop-command.disk c.execute.new.disk inv.left stopped;
@@ -48,7 +48,7 @@ returns-in_err-put_reply g c =
     let inv = c.loop-command.invariant in
     let executes = c.in_ok-reply.ensures.executes in
     record {
-      works = works_passed g.D.TapeDisk c.from_residual-in_err-put_reply.result stop.WriteFault c.from_residual-in_err-put_reply.ensures.1
+      works = works_passed g.D.TapeDisk _ c.from_residual-in_err-put_reply.result stop.WriteFault c.from_residual-in_err-put_reply.ensures.1
           _ _ _ _ _ (
             _,
             ran_front {c = command_at (fields_of c.in-Some.command.head) c.next_command.new.records} (rw next at inv.ran) executes _

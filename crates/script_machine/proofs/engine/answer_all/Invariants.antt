@@ -8,7 +8,7 @@ abbrev pub invariant-loop-command : goal.invariant-loop-command
 invariant-loop-command g l =
     record {
       room : l.refused + length l.records ≤ length l.fn.records;
-      ran : RunSoFar g.D.TapeDisk (commands_of l.fn.records) (commands_of l.records) l.fn.disk l.disk l.session l.refused
+      ran : RunSoFar g.D.TapeDisk l.fn.session.seed (commands_of l.fn.records) (commands_of l.records) l.fn.disk l.disk l.session l.refused
           (written g.W.Write.contents l.fn.writer) (written g.W.Write.contents l.writer);
       sound : has_failed l.fn.writer ≡ false → has_failed l.writer ≡ false;
       left : (faults : ℕ) × DiskFrame g.D.TapeDisk faults l.fn.disk l.disk;

@@ -1,6 +1,6 @@
 use Rattle.std.specs.Prelude.{Some, Ok, Err}
 use Rattle.std.proofs.Common.{◌∙◌, sym}
-use Rattle.command_files.proofs.TakingLaws.{told_as, took_over, honest_in_memory}
+use Rattle.command_files.proofs.TakingLaws.{told_as, took_over, ran_as, honest_in_memory}
 use Rattle.command_files.proofs.session.Session.take_file.Goals as goal
 
 pub returns-in-Ok-take-clause-takes : goal.returns-in-Ok-take-clause-takes
@@ -8,6 +8,7 @@ returns-in-Ok-take-clause-takes g c = (
   Some c.deref.result.now,
   took_over c.args.kind _ _ c.deref.result.now c.args.replica.now c.take.new.replica (Ok c.in-Ok-take.reply)
       (honest_in_memory c.args.self.now.disk) c.in-Ok-take.ensures.takes,
+  c.in-Ok-take.ensures.ran,
 )
 
 pub returns-in-Ok-take-clause-disk : goal.returns-in-Ok-take-clause-disk
@@ -22,6 +23,8 @@ returns-clause-takes g c = (
       c.in-Err-take.why c.refused.result.why c.refused.ensures
       (took_over c.args.kind _ _ c.deref.result.now c.args.replica.now c.take.new.replica (Err c.in-Err-take.why)
       (honest_in_memory c.args.self.now.disk) c.in-Err-take.ensures.takes),
+  ran_as c.args.kind (Some c.deref.result.now) c.args.replica.now c.args.means.now c.in-Err-take.why c.refused.result.why
+      c.args.self.now.disk c.args.self.now.work c.take.new.disk c.take.new.work c.refused.ensures c.in-Err-take.ensures.ran,
 )
 
 pub returns-clause-disk : goal.returns-clause-disk

@@ -1,27 +1,53 @@
-use Rattle.std.specs.Prelude.{◌≡◌, refl, ℕ, length}
-use Rattle.std.proofs.Common.{◌∙◌, arith, subst}
-use Rattle.command_files.specs.Taking.{TakesAll, is_in_memory}
-use Rattle.command_files.proofs.TakingLaws.{takes_more, takes_none}
+use Rattle.std.specs.Prelude.{◌≡◌, refl, ℕ, ◌+◌, ◌<◌, ◌^◌, length}
+use Rattle.std.proofs.Common.{◌∙◌, arith, rules, subst}
+use Rattle.command_files.specs.Reporting.{output_of}
+use Rattle.command_files.specs.Taking.{TakesAll, manner_of, state_of}
+use Rattle.command_files.proofs.TakingLaws.{takes_as, takes_more, takes_none_yet}
 use Rattle.command_files.proofs.session.Session.take_files.Goals as goal
 
 pub loop-path-init : goal.loop-path-init
-loop-path-init g c = record { within = omega arith; disk = refl; taken = takes_none c.args.kind _ _ _ }
+loop-path-init g c = record {
+  within = omega arith;
+  place = refl;
+  disk = refl;
+  piped = c.set_files.ensures.says.piped;
+  listed = refl;
+  taken = takes_none_yet g.W.Write.contents _ 1 _ _ _ c.args.self.now.reporter c.set_files.new.self _ c.set_files.ensures.says;
+}
 
 pub loop-path-preserved : goal.loop-path-preserved
 loop-path-preserved g c =
     let low = c.loop-path-test.true in
+    let before = c.loop-path.invariant in
+    let manner = manner_of c.args.kind c.args.means.now c.args.self.now.disk c.args.self.now.reporter.is_piped
+    c.args.self.now.target.listed in
+    let room : length c.args.paths.now < 2 ^ 64 = search rules in
+    let next : c.saturating_add-place.result ≡ 1 + c.loop-path.path-index =
+    omega (arith, low, before.place, c.saturating_add-place.ensures, room) in
+    let took = takes_as c.args.kind c.args.means.now c.loop-path.self.disk c.args.self.now.disk c.loop-path.self.reporter.is_piped
+    c.args.self.now.reporter.is_piped c.loop-path.self.target.listed c.args.self.now.target.listed _ _ _ _ _ _ before.disk before.piped
+    before.listed c.in_ok-take_or_pass.ensures.takes in
     record {
       within = omega (arith, low);
-      disk = c.take_or_pass.ensures.disk ∙ c.loop-path.invariant.disk;
-      taken = takes_more c.args.kind _ c.loop-path.path-index 1 _ _ _ _ _ _ c.loop-path.invariant.taken
-          (subst (λ h. TakesAll c.args.kind h 1 c.loop-path.replica c.take_or_pass.new.replica c.loop-path.self.passed
-          c.take_or_pass.new.self.passed) c.loop-path.invariant.disk c.in_ok-take_or_pass.ensures.takes);
+      place = omega (arith, next);
+      disk = c.take_or_pass.ensures.disk ∙ before.disk;
+      piped = c.in_ok-take_or_pass.ensures.piped ∙ before.piped;
+      listed = c.take_or_pass.ensures.listed ∙ before.listed;
+      taken = takes_more manner 1 c.loop-path.path-index 1 _ _ _ _ _ _ before.taken (subst (λ n. TakesAll manner n 1
+          (state_of c.loop-path.replica c.loop-path.self.disk c.loop-path.self.work
+          (output_of g.W.Write.contents c.loop-path.self.reporter))
+          (state_of c.take_or_pass.new.replica c.take_or_pass.new.self.disk c.take_or_pass.new.self.work
+          (output_of g.W.Write.contents c.take_or_pass.new.self.reporter)) c.loop-path.self.passed c.take_or_pass.new.self.passed) next
+          took);
     }
 
-pub returns : goal.returns
-returns g c =
+pub returns-clause-takes : goal.returns-clause-takes
+returns-clause-takes g c =
     let within = c.loop-path.invariant.within in
     let past = c.loop-path-test.false in
     let all : c.loop-path.path-index ≡ length c.args.paths.now = omega (arith, within, past) in
-    subst (λ (n : ℕ). TakesAll c.args.kind (is_in_memory c.args.self.now.disk) n c.args.replica.now c.loop-path.replica
+    subst (λ (n : ℕ). TakesAll (manner_of c.args.kind c.args.means.now c.args.self.now.disk c.args.self.now.reporter.is_piped
+    c.args.self.now.target.listed) 1 n
+    (state_of c.args.replica.now c.args.self.now.disk c.args.self.now.work (output_of g.W.Write.contents c.args.self.now.reporter))
+    (state_of c.loop-path.replica c.loop-path.self.disk c.loop-path.self.work (output_of g.W.Write.contents c.loop-path.self.reporter))
     c.args.self.now.passed c.loop-path.self.passed) all c.loop-path.invariant.taken

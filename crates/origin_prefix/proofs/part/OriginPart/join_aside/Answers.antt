@@ -44,6 +44,13 @@ returns-clause-ran g c =
     (λ honest. aside_counted c.args.query.now own other aside c.requires.part c.requires.other keeps.1 stand
     (setting_by g.H.KeyHash.hash_of (meaning c.args.query.now) c.args.means.now) c.args.work.now (g.D.TapeDisk.writes c.args.disk.now))
 
+pub returns-then-not-keeps_groups-clause-aside : goal.returns-then-not-keeps_groups-clause-aside
+returns-then-not-keeps_groups-clause-aside g c =
+    λ last keeps. absurd (true≢false (sym (c.keeps_groups.ensures.1 (last, keeps)) ∙ c.if-not-keeps_groups.true))
+
+pub returns-clause-aside : goal.returns-clause-aside
+returns-clause-aside g c = λ last keeps. c.in_ok-early_aside.ensures
+
 -- ---- refusals
 
 pub returns-in_err-agree-clause-joining : goal.returns-in_err-agree-clause-joining

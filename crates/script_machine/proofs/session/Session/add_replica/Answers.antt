@@ -29,8 +29,9 @@ invariant_of-self-2 c =
       saved =
           c.self.inside.saved.entries;
       limit = c.self.inside.means.limit;
+      seed = c.self.inside.means.seed;
     }) _ c.args.name.now held
-    (updated c.self.inside.means.limit c.self.inside.columns c.self.inside.query c.self.inside.saved.entries c.args.name.now held
+    (updated c.self.inside.means c.self.inside.columns c.self.inside.query c.self.inside.saved.entries c.args.name.now held
     c.self.inside.replicas c.keep.new.kept u) c.in-Some.is c.self.invariant
 
 pub returns-clause-answers : goal.returns-clause-answers
@@ -42,6 +43,7 @@ returns-clause-answers c = λ honest owned.
       replicas = c.self.inside.replicas.entries;
       saved = c.self.inside.saved.entries;
       limit = c.self.inside.means.limit;
+      seed = c.self.inside.means.seed;
     } in
     let new : Store = record {
       columns = c.self.inside.columns;
@@ -50,12 +52,13 @@ returns-clause-answers c = λ honest owned.
       saved =
           c.self.inside.saved.entries;
       limit = c.self.inside.means.limit;
+      seed = c.self.inside.means.seed;
     } in
     let u = put_named c.in-Ok.made.0.items c.args.name.now c.in-Ok.made.1 held c.self.inside.replicas c.keep.new.kept c.in-Ok.ensures.0
     c.in-Ok.ensures.1 c.in-Ok-keep.ensures.put in
     turns_it c.self.view_is (replica_made old new c.args.name owned c.in-Some.query c.in-Some.is (sym c.contains_key.ensures
     ∙ c.if-contains_key.false)
-    (updated c.self.inside.means.limit c.self.inside.columns c.self.inside.query c.self.inside.saved.entries c.args.name.now held
+    (updated c.self.inside.means c.self.inside.columns c.self.inside.query c.self.inside.saved.entries c.args.name.now held
     c.self.inside.replicas c.keep.new.kept u))
 
 pub returns-in_default-keep-clause-answers : goal.returns-in_default-keep-clause-answers
@@ -67,7 +70,8 @@ returns-in_default-keep-clause-answers c = λ honest owned.
       saved =
           c.self.inside.saved.entries;
       limit = c.self.inside.means.limit;
+      seed = c.self.inside.means.seed;
     } in
     turns_it c.self.view_is (no_memory_same (ask.Replica c.args.name.now) owned _ new
-    (same_entries c.self.inside.means.limit c.self.inside.columns c.self.inside.query c.self.inside.saved.entries
+    (same_entries c.self.inside.means c.self.inside.columns c.self.inside.query c.self.inside.saved.entries
     c.self.inside.replicas.entries c.keep.new.kept.entries c.in_default-keep.ensures.refused))

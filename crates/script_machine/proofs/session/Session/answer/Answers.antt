@@ -1,5 +1,4 @@
 use Rattle.std.proofs.Common.{sym}
-use Rattle.replies.specs.PrintedLaws.{printed_world}
 use Rattle.script_commands.specs.Commands as ask
 use Rattle.script_machine.proofs.StoreLaws.{answer_nowhere, answered, leaves_it, out_of_memory}
 use Rattle.script_machine.proofs.session.Session.answer.Goals as goal
@@ -10,9 +9,8 @@ returns-in-None-clause-answers c = λ honest owned. leaves_it c.self.view_is
 
 pub returns-in-Ok-clause-answers : goal.returns-in-Ok-clause-answers
 returns-in-Ok-clause-answers c = λ honest owned.
-    let prints = c.in-Ok.ensures in
     leaves_it c.self.view_is (answered _ c.args.name.now owned c.in-Some.replica.now c.in-Ok.rows c.in-Ok.table c.self.invariant
-    (sym c.in-Some.ensures.value) (printed_world _ _ _ _ prints) (prints.given, (prints.counted, prints.printed)))
+    (sym c.in-Some.ensures.value) c.in-Ok.ensures)
 
 pub returns-in-Err-clause-answers : goal.returns-in-Err-clause-answers
 returns-in-Err-clause-answers c = λ honest owned. out_of_memory (ask.Answer c.args.name.now) owned c.args.self.now

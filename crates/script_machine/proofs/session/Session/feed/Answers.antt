@@ -34,6 +34,7 @@ returns-in_default-clause-executes g c =
       replicas = c.self.inside.replicas.entries;
       saved = c.self.inside.saved.entries;
       limit = c.self.inside.means.limit;
+      seed = c.self.inside.means.seed;
     } in
     turns_executes c.self.view_is
     (subst (λ m. Executes g.D.TapeDisk request owned old disk (says.Refused why.NoSuchName)
@@ -43,35 +44,36 @@ returns-in_default-clause-executes g c =
       replicas = m.entries;
       saved = c.self.inside.saved.entries;
       limit = c.self.inside.means.limit;
+      seed = c.self.inside.means.seed;
     }) disk) (sym c.get_mut.follows.holds-at-none)
     (idle g.D.TapeDisk request owned old old disk (says.Refused why.NoSuchName)
-    (feed_nowhere old c.args.name.now c.args.origin.now c.args.number.now c.args.told owned (sym c.in_default.ensures.value)) tt refl tt))
+    (feed_nowhere old c.args.name.now c.args.origin.now c.args.number.now c.args.told owned (sym c.in_default.ensures.value)) tt refl refl))
 
 pub invariant_of-self-in_err-batch : goal.invariant_of-self-in_err-batch
 invariant_of-self-in_err-batch g c =
     let there = sym c.in-Some.ensures.value in
-    store_replaced c.self.inside.means.limit c.self.inside.columns c.self.inside.query c.self.inside.saved.entries c.args.name.now
+    store_replaced c.self.inside.means c.self.inside.columns c.self.inside.query c.self.inside.saved.entries c.args.name.now
     c.in-Some.replica.now c.in-Some.replica.now c.self.inside.replicas (c.get_mut.follows.lender c.in-Some.replica.now)
     c.self.invariant there refl ((c.get_mut.follows.holds c.in-Some.replica.now).3 (ap is_some there))
 
 pub invariant_of-self-in-Err : goal.invariant_of-self-in-Err
 invariant_of-self-in-Err g c =
     let there = sym c.in-Some.ensures.value in
-    store_replaced c.self.inside.means.limit c.self.inside.columns c.self.inside.query c.self.inside.saved.entries c.args.name.now
+    store_replaced c.self.inside.means c.self.inside.columns c.self.inside.query c.self.inside.saved.entries c.args.name.now
     c.in-Some.replica.now c.in-Some.replica.now c.self.inside.replicas (c.get_mut.follows.lender c.in-Some.replica.now)
     c.self.invariant there refl ((c.get_mut.follows.holds c.in-Some.replica.now).3 (ap is_some there))
 
 pub invariant_of-self-in-Ok-deliver : goal.invariant_of-self-in-Ok-deliver
 invariant_of-self-in-Ok-deliver g c =
     let there = sym c.in-Some.ensures.value in
-    store_replaced c.self.inside.means.limit c.self.inside.columns c.self.inside.query c.self.inside.saved.entries c.args.name.now
+    store_replaced c.self.inside.means c.self.inside.columns c.self.inside.query c.self.inside.saved.entries c.args.name.now
     c.in-Some.replica.now c.deliver.new.self c.self.inside.replicas (c.get_mut.follows.lender c.deliver.new.self)
     c.self.invariant there c.deliver.ensures.delivers.asked ((c.get_mut.follows.holds c.deliver.new.self).3 (ap is_some there))
 
 pub invariant_of-self-2 : goal.invariant_of-self-2
 invariant_of-self-2 g c =
     let there = sym c.in-Some.ensures.value in
-    store_replaced c.self.inside.means.limit c.self.inside.columns c.self.inside.query c.self.inside.saved.entries c.args.name.now
+    store_replaced c.self.inside.means c.self.inside.columns c.self.inside.query c.self.inside.saved.entries c.args.name.now
     c.in-Some.replica.now c.deliver.new.self c.self.inside.replicas (c.get_mut.follows.lender c.deliver.new.self)
     c.self.invariant there c.deliver.ensures.delivers.asked ((c.get_mut.follows.holds c.deliver.new.self).3 (ap is_some there))
 
@@ -87,6 +89,7 @@ returns-in-Err-clause-executes g c =
       replicas = c.self.inside.replicas.entries;
       saved = c.self.inside.saved.entries;
       limit = c.self.inside.means.limit;
+      seed = c.self.inside.means.seed;
     } in
     let new : Store = record {
       columns = c.self.inside.columns;
@@ -94,9 +97,10 @@ returns-in-Err-clause-executes g c =
       replicas = (c.get_mut.follows.lender c.in-Some.replica.now).entries;
       saved = c.self.inside.saved.entries;
       limit = c.self.inside.means.limit;
+      seed = c.self.inside.means.seed;
     } in
     let u : Updates old new c.args.name.now held =
-    updated c.self.inside.means.limit c.self.inside.columns c.self.inside.query c.self.inside.saved.entries c.args.name.now
+    updated c.self.inside.means c.self.inside.columns c.self.inside.query c.self.inside.saved.entries c.args.name.now
     c.in-Some.replica.now c.self.inside.replicas (c.get_mut.follows.lender c.in-Some.replica.now)
     ((c.get_mut.follows.holds c.in-Some.replica.now).3 (ap is_some there)) in
     let fault = IfErr-at_err (BuildFault (kinds _) c.args.origin.now c.args.number.now c.args.told owned) c.in-Err.is
@@ -122,6 +126,7 @@ returns-in-Ok-deliver-clause-executes g c =
       replicas = c.self.inside.replicas.entries;
       saved = c.self.inside.saved.entries;
       limit = c.self.inside.means.limit;
+      seed = c.self.inside.means.seed;
     } in
     let new : Store = record {
       columns = c.self.inside.columns;
@@ -129,9 +134,10 @@ returns-in-Ok-deliver-clause-executes g c =
       replicas = (c.get_mut.follows.lender c.deliver.new.self).entries;
       saved = c.self.inside.saved.entries;
       limit = c.self.inside.means.limit;
+      seed = c.self.inside.means.seed;
     } in
     let u : Updates old new c.args.name.now later =
-    updated c.self.inside.means.limit c.self.inside.columns c.self.inside.query c.self.inside.saved.entries c.args.name.now
+    updated c.self.inside.means c.self.inside.columns c.self.inside.query c.self.inside.saved.entries c.args.name.now
     c.deliver.new.self c.self.inside.replicas (c.get_mut.follows.lender c.deliver.new.self)
     ((c.get_mut.follows.holds c.deliver.new.self).3 (ap is_some there)) in
     let read = read_of_feed _ _ c.args.origin.now c.args.number.now c.args.told owned _ c.in-Ok.batch
@@ -155,6 +161,7 @@ returns-clause-executes g c =
       replicas = c.self.inside.replicas.entries;
       saved = c.self.inside.saved.entries;
       limit = c.self.inside.means.limit;
+      seed = c.self.inside.means.seed;
     } in
     let new : Store = record {
       columns = c.self.inside.columns;
@@ -162,9 +169,10 @@ returns-clause-executes g c =
       replicas = (c.get_mut.follows.lender c.deliver.new.self).entries;
       saved = c.self.inside.saved.entries;
       limit = c.self.inside.means.limit;
+      seed = c.self.inside.means.seed;
     } in
     let u : Updates old new c.args.name.now later =
-    updated c.self.inside.means.limit c.self.inside.columns c.self.inside.query c.self.inside.saved.entries c.args.name.now
+    updated c.self.inside.means c.self.inside.columns c.self.inside.query c.self.inside.saved.entries c.args.name.now
     c.deliver.new.self c.self.inside.replicas (c.get_mut.follows.lender c.deliver.new.self)
     ((c.get_mut.follows.holds c.deliver.new.self).3 (ap is_some there)) in
     let read = read_of_feed _ _ c.args.origin.now c.args.number.now c.args.told owned _ c.in-Ok.batch

@@ -2,7 +2,10 @@ use Rattle.std.specs.Prelude.{Err, Ok}
 use Rattle.std.proofs.Common.{◌∙◌, ap, sym, subst}
 use Rattle.std.proofs.lemmas.Result.{err_from_is_err_and}
 use Rattle.std.specs.Option.{option_copied}
-use Rattle.script_machine.proofs.Words.{meaning, JoinsNamed, setting_at, Store, DiskFrame}
+use Rattle.script_commands.specs.Commands as ask
+use Rattle.replies.specs.declared.reply.Reply.TheVariants as says
+use Rattle.script_machine.proofs.Words.{meaning, JoinsNamed, setting_at, Store, DiskFrame, WorksAtLimit}
+use Rattle.script_machine.proofs.ExecuteLaws.{unjoined_works}
 use Rattle.hash_agg.specs.Ran.{Refused, faults_of}
 use Rattle.replica_merge.specs.Counting.{MergeIsCounted}
 use Rattle.replica_merge.specs.MergeLaws.{joined_agree}
@@ -53,6 +56,7 @@ returns-in_err-joined g c =
       replicas = c.self.inside.replicas.entries;
       saved = c.self.inside.saved.entries;
       limit = c.self.inside.means.limit;
+      seed = c.self.inside.means.seed;
     } in
     let e = err_from_is_err_and c.from_residual.result c.from_residual.ensures.1 in
     let one = sym c.get.ensures.value ∙ ap option_copied c.in-Some.is in
@@ -71,5 +75,7 @@ returns-in_err-joined g c =
       disk = subst (λ n. DiskFrame g.D.TapeDisk n c.args.disk.now c.join.new.disk)
           (ap (λ r. faults_of (Refused r)) (sym (merge_reasons error)) ∙ reason_faults (merge_refusal error)
           ∙ ap refusal_faults (sym e.2)) ran.disk;
-      limit = λ right owned. tt;
+      limit = λ right owned. subst (λ w. WorksAtLimit store (ask.Merge c.args.into.now c.args.from.now) owned (says.Refused w)
+          (g.D.TapeDisk.writes c.args.disk.now) (g.D.TapeDisk.writes c.join.new.disk)) (sym e.2)
+          (unjoined_works store c.args.into.now c.args.from.now owned error _ _);
     }))

@@ -23,12 +23,13 @@ invariant_of-self-2 c =
       replicas = c.self.inside.replicas.entries;
       saved = c.self.inside.saved.entries;
       limit = c.self.inside.means.limit;
+      seed = c.self.inside.means.seed;
     } in
     let held : Held = c.in-Ok.made.1 in
     let u = put_named c.in-Ok.made.0.items c.args.name.now held held c.self.inside.replicas c.keep.new.kept c.in-Ok.ensures.name refl
     c.in-Ok-keep.ensures.put in
     store_updated old _ c.args.name.now held
-    (updated c.self.inside.means.limit c.self.inside.columns c.self.inside.query c.self.inside.saved.entries c.args.name.now held
+    (updated c.self.inside.means c.self.inside.columns c.self.inside.query c.self.inside.saved.entries c.args.name.now held
     c.self.inside.replicas c.keep.new.kept u)
     (loaded_asks old c.args.saved.now c.in-Some.file.now held c.self.invariant (sym c.in-Some.ensures.value)
     (λ h is. c.in-Ok.ensures.loaded.only h (Second, is))) c.self.invariant
@@ -41,6 +42,7 @@ returns-clause-answers c = λ honest owned.
       replicas = c.self.inside.replicas.entries;
       saved = c.self.inside.saved.entries;
       limit = c.self.inside.means.limit;
+      seed = c.self.inside.means.seed;
     } in
     let new : Store = record {
       columns = c.self.inside.columns;
@@ -49,13 +51,14 @@ returns-clause-answers c = λ honest owned.
       saved =
           c.self.inside.saved.entries;
       limit = c.self.inside.means.limit;
+      seed = c.self.inside.means.seed;
     } in
     let held : Held = c.in-Ok.made.1 in
     let u = put_named c.in-Ok.made.0.items c.args.name.now held held c.self.inside.replicas c.keep.new.kept c.in-Ok.ensures.name refl
     c.in-Ok-keep.ensures.put in
     turns_it c.self.view_is (loaded old new c.args.name.now c.args.saved.now owned c.in-Some.file.now held (sym c.in-Some.ensures.value)
     (λ h is. c.in-Ok.ensures.loaded.only h (Second, is))
-    (updated c.self.inside.means.limit c.self.inside.columns c.self.inside.query c.self.inside.saved.entries c.args.name.now held
+    (updated c.self.inside.means c.self.inside.columns c.self.inside.query c.self.inside.saved.entries c.args.name.now held
     c.self.inside.replicas c.keep.new.kept u))
 
 pub returns-in_default-keep-clause-answers : goal.returns-in_default-keep-clause-answers
@@ -67,7 +70,8 @@ returns-in_default-keep-clause-answers c = λ honest owned.
       saved =
           c.self.inside.saved.entries;
       limit = c.self.inside.means.limit;
+      seed = c.self.inside.means.seed;
     } in
     turns_it c.self.view_is (no_memory_same (ask.Load c.args.name.now c.args.saved.now) owned _ new
-    (same_entries c.self.inside.means.limit c.self.inside.columns c.self.inside.query c.self.inside.saved.entries
+    (same_entries c.self.inside.means c.self.inside.columns c.self.inside.query c.self.inside.saved.entries
     c.self.inside.replicas.entries c.keep.new.kept.entries c.in_default-keep.ensures.refused))

@@ -13,7 +13,7 @@ returns-in-Err g c = λ owned. record {
       c.in-Err.ensures.undamaged;
   tells = c.in-Err.ensures.tells owned;
   disk = c.in-Err.ensures.disk;
-  limit = λ right. tt;
+  limit = λ right. c.in-Err.ensures.limit right owned;
 }
 
 pub commit-requires : goal.commit-requires
@@ -37,7 +37,7 @@ invariant_of-self g c =
     c.in-Ok.ensures.joins in
     let joins = subst (λ (h : Held). JoinsHeld honest h found.1 c.in-Ok.joined) (one_there found.0 c.in-Some.replica.now found.2 there)
     found.4 in
-    store_replaced c.self.inside.means.limit c.self.inside.columns c.self.inside.query c.self.inside.saved.entries c.args.into.now
+    store_replaced c.self.inside.means c.self.inside.columns c.self.inside.query c.self.inside.saved.entries c.args.into.now
     c.in-Some.replica.now c.commit.new.self c.self.inside.replicas (c.get_mut.follows.lender c.commit.new.self)
     c.self.invariant there (c.commit.ensures honest found.1 joins).asked ((c.get_mut.follows.holds c.commit.new.self).3 (ap is_some there))
 
@@ -51,6 +51,7 @@ returns g c = λ owned.
       replicas = c.self.inside.replicas.entries;
       saved = c.self.inside.saved.entries;
       limit = c.self.inside.means.limit;
+      seed = c.self.inside.means.seed;
     } in
     let new : Store = record {
       columns = c.self.inside.columns;
@@ -59,9 +60,10 @@ returns g c = λ owned.
           (c.get_mut.follows.lender c.commit.new.self).entries;
       saved = c.self.inside.saved.entries;
       limit = c.self.inside.means.limit;
+      seed = c.self.inside.means.seed;
     } in
     let u : Updates old new c.args.into.now c.commit.new.self =
-    updated c.self.inside.means.limit c.self.inside.columns c.self.inside.query c.self.inside.saved.entries c.args.into.now
+    updated c.self.inside.means c.self.inside.columns c.self.inside.query c.self.inside.saved.entries c.args.into.now
     c.commit.new.self c.self.inside.replicas (c.get_mut.follows.lender c.commit.new.self)
     ((c.get_mut.follows.holds c.commit.new.self).3 (ap is_some there)) in
     let found = subst (λ (s : Store). (own theirs : Held) × (replica_at s c.args.into.now ≡ Some own)

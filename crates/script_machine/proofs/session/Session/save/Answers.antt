@@ -26,12 +26,13 @@ invariant_of-self-2 c =
       replicas = c.self.inside.replicas.entries;
       saved = c.self.inside.saved.entries;
       limit = c.self.inside.means.limit;
+      seed = c.self.inside.means.seed;
     } in
     let kept : List ℕ = c.in-Ok-new.file in
     let u = put_named c.in-Ok.key.items c.args.saved.now kept kept c.self.inside.saved c.keep.new.kept c.in-Ok.ensures.name refl
     c.in-Ok-keep.ensures.put in
     store_filed old _ c.args.saved.now kept
-    (filed c.self.inside.means.limit c.self.inside.columns c.self.inside.query c.self.inside.replicas.entries c.args.saved.now kept
+    (filed c.self.inside.means c.self.inside.columns c.self.inside.query c.self.inside.replicas.entries c.args.saved.now kept
     c.self.inside.saved c.keep.new.kept u)
     (record {
       held = c.in-Some.replica.now;
@@ -49,6 +50,7 @@ returns-clause-answers c = λ honest owned.
       replicas = c.self.inside.replicas.entries;
       saved = c.self.inside.saved.entries;
       limit = c.self.inside.means.limit;
+      seed = c.self.inside.means.seed;
     } in
     let new : Store = record {
       columns = c.self.inside.columns;
@@ -56,6 +58,7 @@ returns-clause-answers c = λ honest owned.
       replicas = c.self.inside.replicas.entries;
       saved = c.keep.new.kept.entries;
       limit = c.self.inside.means.limit;
+      seed = c.self.inside.means.seed;
     } in
     let held : Held = c.in-Some.replica.now in
     let kept : List ℕ = c.in-Ok-new.file in
@@ -67,7 +70,7 @@ returns-clause-answers c = λ honest owned.
     (sym c.in-Some.ensures.value)
     (subst (λ b. IsSaved b held.query held.parts) (sym same) c.in-Ok.ensures.file) (λ world fits. same ∙ c.in-Ok.ensures.world world fits)
     (counted ∙ ap length (sym same))
-    (filed c.self.inside.means.limit c.self.inside.columns c.self.inside.query c.self.inside.replicas.entries c.args.saved.now kept
+    (filed c.self.inside.means c.self.inside.columns c.self.inside.query c.self.inside.replicas.entries c.args.saved.now kept
     c.self.inside.saved c.keep.new.kept u))
 
 pub returns-in_default-keep-clause-answers : goal.returns-in_default-keep-clause-answers
@@ -78,7 +81,8 @@ returns-in_default-keep-clause-answers c = λ honest owned.
       replicas = c.self.inside.replicas.entries;
       saved = c.keep.new.kept.entries;
       limit = c.self.inside.means.limit;
+      seed = c.self.inside.means.seed;
     } in
     turns_it c.self.view_is (no_memory_same (ask.Save c.args.name.now c.args.saved.now) owned _ new
-    (same_files c.self.inside.means.limit c.self.inside.columns c.self.inside.query c.self.inside.replicas.entries
+    (same_files c.self.inside.means c.self.inside.columns c.self.inside.query c.self.inside.replicas.entries
     c.self.inside.saved.entries c.keep.new.kept.entries c.in_default-keep.ensures.refused))

@@ -1,4 +1,4 @@
-use Rattle.std.proofs.Common.{◌∙◌, sym, ap, subst}
+use Rattle.std.proofs.Common.{◌∙◌, sym, subst}
 use Rattle.hash_agg.specs.Means.{MeansState}
 use Rattle.script_commands.specs.Commands as ask
 use Rattle.script_machine.specs.Views.{Store, Steps}
@@ -15,11 +15,12 @@ returns-in-Ok-clause-answers c = λ honest owned.
       replicas = c.self.inside.replicas.entries;
       saved = c.self.inside.saved.entries;
       limit = c.self.inside.means.limit;
+      seed = c.self.inside.means.seed;
     } in
     turns_it c.self.view_is
-    (subst (λ n. Steps honest (ask.Limit c.args.bytes) owned old (says.Limit c.args.bytes) (record old { limit = n }))
-    (sym (ap (λ (m : MeansState _). m.limit) c.with_seed-self-inside.ensures
-    ∙ ap (λ (m : MeansState _). m.limit) c.in-Ok.ensures.means))
+    (subst (λ (m : MeansState _). Steps honest (ask.Limit c.args.bytes) owned old (says.Limit c.args.bytes)
+    (record old { limit = m.limit; seed = m.seed }))
+    (sym (c.with_seed-self-inside.ensures ∙ (λ i. record (c.in-Ok.ensures.means i) { seed = c.seed.ensures i })))
     (limit_told old c.args.bytes owned within.0 within.1))
 
 pub returns-in-Err-clause-answers : goal.returns-in-Err-clause-answers

@@ -18,6 +18,7 @@ invariant_of-self c =
       saved =
           c.self.inside.saved.entries;
       limit = c.self.inside.means.limit;
+      seed = c.self.inside.means.seed;
     })
     c.in-Some.schema c.in-Ok.query c.self.invariant c.in-Some.is (sym c.is_some.ensures ∙ c.if-is_some.false) c.in-Ok.ensures.columns
 

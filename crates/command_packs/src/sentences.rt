@@ -1,5 +1,4 @@
 //! Why a plain CSV is not a batch.
-#![tactic(auto)]
 
 use csv::{ByteRecord, ReaderBuilder};
 use fault_sentences::{FieldFault, Quoted, Reason};
@@ -18,13 +17,13 @@ const DELIMITERS: [(u8, &str); 4] = [
 
 /// A plain CSV that was refused.
 #[derive(Clone, Copy)]
-pub struct PlainText<'p> {
+pub(crate) struct PlainText<'p> {
     /// The columns by which it was read.
-    pub schema: &'p Schema,
+    pub(crate) schema: &'p Schema,
     /// How it was read.
-    pub layout: Layout<'p>,
+    pub(crate) layout: Layout<'p>,
     /// Its bytes.
-    pub csv: &'p [u8],
+    pub(crate) csv: &'p [u8],
 }
 
 /// Whether a byte ends a line.
@@ -274,7 +273,11 @@ impl PlainText<'_> {
     }
 
     /// Why it is not a batch, if there is more to say than the general sentence.
-    pub fn reason(&self, alloc: Global, why: PackError) -> Result<Option<Reason>, AllocError> {
+    pub(crate) fn reason(
+        &self,
+        alloc: Global,
+        why: PackError,
+    ) -> Result<Option<Reason>, AllocError> {
         let said = self.say(alloc, why)?;
         if said.is_empty() {
             return Ok(None);

@@ -1,0 +1,136 @@
+-- What was printed after something else was said or printed.
+use Rattle.std.specs.Prelude.{◌≡◌, true, false, ℕ, List, [], ◌++◌, length, Option}
+use Rattle.std.specs.Io.KnownBytes.{Appends, Keeps}
+use Rattle.std.proofs.Common.{◌∙◌, sym, subst}
+use Rattle.std.proofs.KnownBytes.{Appends-kept, Appends-nil, Appends-trans}
+use Rattle.script_io.specs.Fused.{written}
+use Rattle.replica_merge.specs.Replicas.{Held}
+use Rattle.replies.specs.Text.{said_text}
+use Rattle.replies.specs.declared.reply.Reply.{Reply}
+use Rattle.replies.specs.declared.reply.Reply.TheVariants.{Saved}
+use Rattle.replies.specs.declared.showing.Format.{Format}
+use Rattle.replies.specs.declared.ending.ExitKind.{ExitKind}
+use Rattle.replies.specs.declared.refusal.Refusal.{Refusal}
+use Rattle.command_streams.specs.Stopping.{RepliesRefused}
+use Rattle.command_files.specs.Reporting.{file_on_output, output_of, reply_on_output, OnlySays, Prints, PrintsTable, Saves}
+use Rattle.command_files.specs.declared.reporter.Reporter.{Reporter}
+
+-- something was said, and then more
+pub says_more : {W E : Type 0} (old mid new : Reporter W E) → OnlySays old mid → OnlySays mid new → OnlySays old new
+says_more old mid new first second = record { output = second.output ∙ first.output; piped = second.piped ∙ first.piped }
+
+-- something was said, and then some bytes were printed
+pub prints_behind : {W E : Type 0} (contents : W → Option (List ℕ)) (old mid new : Reporter W E) (bytes : List ℕ) → OnlySays old mid
+    → Prints contents mid new bytes → Prints contents old new bytes
+prints_behind contents old mid new bytes says prints = record {
+  output = subst (λ w. Appends (written contents w) (output_of contents new) bytes) says.output prints.output;
+  piped = prints.piped ∙ says.piped;
+}
+
+-- some bytes were printed, and then something was said
+pub prints_before : {W E : Type 0} (contents : W → Option (List ℕ)) (old mid new : Reporter W E) (bytes : List ℕ)
+    → Prints contents old mid bytes → OnlySays mid new → Prints contents old new bytes
+prints_before contents old mid new bytes prints says = record {
+  output = subst (λ w. Appends (output_of contents old) (written contents w) bytes) (sym says.output) prints.output;
+  piped = says.piped ∙ prints.piped;
+}
+
+-- some bytes were printed, and then more
+pub prints_more : {W E : Type 0} (contents : W → Option (List ℕ)) (old mid new : Reporter W E) (bytes more : List ℕ)
+    → Prints contents old mid bytes → Prints contents mid new more → Prints contents old new (bytes ++ more)
+prints_more contents old mid new bytes more first second = record {
+  output = Appends-trans _ _ _ bytes more first.output second.output;
+  piped = second.piped ∙ first.piped;
+}
+
+-- something was said, and then a reply was written
+pub replied_behind : {W E : Type 0} (contents : W → Option (List ℕ)) (old mid new : Reporter W E) (reply : Reply) → OnlySays old mid
+    → Prints contents mid new (reply_on_output mid.is_piped reply) → Prints contents old new (reply_on_output old.is_piped reply)
+replied_behind contents old mid new reply says prints =
+    subst (λ p. Prints contents old new (reply_on_output p reply)) says.piped
+    (prints_behind contents old mid new (reply_on_output mid.is_piped reply) says prints)
+
+-- nothing was printed
+pub prints_none : {W E : Type 0} (contents : W → Option (List ℕ)) (old new : Reporter W E) → OnlySays old new → Prints contents old new []
+prints_none contents old new says = record {
+  output = subst (λ w. Appends (output_of contents old) (written contents w) []) (sym says.output) (Appends-nil _);
+  piped = says.piped;
+}
+
+-- a reply stands on standard output, or beside it
+pub replied_there : {W E : Type 0} (contents : W → Option (List ℕ)) (old new : Reporter W E) (reply : Reply) → old.is_piped ≡ false
+    → Prints contents old new (said_text reply) → Prints contents old new (reply_on_output old.is_piped reply)
+replied_there contents old new reply unpiped prints = subst (λ p. Prints contents old new (reply_on_output p reply)) (sym unpiped) prints
+
+pub replied_beside : {W E : Type 0} (contents : W → Option (List ℕ)) (old new : Reporter W E) (reply : Reply) → old.is_piped ≡ true
+    → OnlySays old new → Prints contents old new (reply_on_output old.is_piped reply)
+replied_beside contents old new reply piped says =
+    subst (λ p. Prints contents old new (reply_on_output p reply)) (sym piped) (prints_none contents old new says)
+
+-- a summary file stands on standard output, or elsewhere
+pub file_there : {W E : Type 0} (contents : W → Option (List ℕ)) (old new : Reporter W E) (file : List ℕ) → old.is_piped ≡ true
+    → Prints contents old new file → Prints contents old new (file_on_output old.is_piped file)
+file_there contents old new file piped prints = subst (λ p. Prints contents old new (file_on_output p file)) (sym piped) prints
+
+pub file_elsewhere : {W E : Type 0} (contents : W → Option (List ℕ)) (old new : Reporter W E) (file : List ℕ) → old.is_piped ≡ false
+    → OnlySays old new → Prints contents old new (file_on_output old.is_piped file)
+file_elsewhere contents old new file unpiped says =
+    subst (λ p. Prints contents old new (file_on_output p file)) (sym unpiped) (prints_none contents old new says)
+
+-- a summary file was put out, and then the reply that says how long it is
+pub saves_both : {W E : Type 0} (contents : W → Option (List ℕ)) (old mid new : Reporter W E) (file : List ℕ) (count : ℕ)
+    → count ≡ length file → Prints contents old mid (file_on_output old.is_piped file)
+    → Prints contents mid new (reply_on_output mid.is_piped (Saved count))
+    → Prints contents old new (file_on_output old.is_piped file ++ reply_on_output old.is_piped (Saved (length file)))
+saves_both contents old mid new file count same first second =
+    prints_more contents old mid new (file_on_output old.is_piped file) (reply_on_output old.is_piped (Saved (length file))) first
+    (subst (λ n. Prints contents mid new (reply_on_output old.is_piped (Saved n))) same
+    (subst (λ p. Prints contents mid new (reply_on_output p (Saved count))) first.piped second))
+
+-- something was said, and then a replica was saved
+pub saves_behind : {W E : Type 0} (contents : W → Option (List ℕ)) (held : Held) (old mid new : Reporter W E) → OnlySays old mid
+    → Saves contents held mid new → Saves contents held old new
+saves_behind contents held old mid new says saves = record {
+  file = saves.file;
+  saved = saves.saved;
+  printed = subst (λ p. Prints contents old new (file_on_output p saves.file ++ reply_on_output p (Saved (length saves.file)))) says.piped
+      (prints_behind contents old mid new
+      (file_on_output mid.is_piped saves.file ++ reply_on_output mid.is_piped (Saved (length saves.file))) says saves.printed);
+}
+
+-- something was said before an answer was printed, or behind it
+pub table_behind : {W E : Type 0} (contents : W → Option (List ℕ)) (format : Format) (held : Held) (old mid new : Reporter W E)
+    → OnlySays old mid → PrintsTable contents format held mid new → PrintsTable contents format held old new
+table_behind contents format held old mid new says table = record {
+  rows = table.rows;
+  table = table.table;
+  foot = table.foot;
+  answers = table.answers;
+  footless = table.footless;
+  printed = prints_behind contents old mid new (table.table ++ table.foot) says table.printed;
+}
+
+pub table_before : {W E : Type 0} (contents : W → Option (List ℕ)) (format : Format) (held : Held) (old mid new : Reporter W E)
+    → PrintsTable contents format held old mid → OnlySays mid new → PrintsTable contents format held old new
+table_before contents format held old mid new table says = record {
+  rows = table.rows;
+  table = table.table;
+  foot = table.foot;
+  answers = table.answers;
+  footless = table.footless;
+  printed = prints_before contents old mid new (table.table ++ table.foot) table.printed says;
+}
+
+-- some bytes were printed, and then all was sent out
+pub prints_kept : {W E : Type 0} (contents : W → Option (List ℕ)) (old mid new : Reporter W E) (bytes : List ℕ)
+    → Prints contents old mid bytes → Keeps (output_of contents mid) (output_of contents new) → new.is_piped ≡ mid.is_piped
+    → Prints contents old new bytes
+prints_kept contents old mid new bytes prints kept same =
+    record { output = Appends-kept _ _ _ bytes prints.output kept; piped = same ∙ prints.piped }
+
+-- something was said, and then a command was refused
+pub refused_behind : {W E : Type 0} (contents : W → Option (List ℕ)) (old mid : Reporter W E) (line : List ℕ) (new : Option (List ℕ))
+    (why : Refusal) (exit : ExitKind) → OnlySays old mid → RepliesRefused line (output_of contents mid) new why exit
+    → RepliesRefused line (output_of contents old) new why exit
+refused_behind contents old mid line new why exit says refused =
+    subst (λ w. RepliesRefused line (written contents w) new why exit) says.output refused

@@ -1,0 +1,5 @@
+use Rattle.command_files.specs.Reporting.{OnlySays}
+use Rattle.command_files.proofs.session.Session.explain_holding.Given as goal
+
+abbrev pub invariant-loop-line : goal.invariant-loop-line
+invariant-loop-line g l = OnlySays l.fn.self.reporter l.self.reporter

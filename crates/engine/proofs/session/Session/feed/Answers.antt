@@ -1,0 +1,20 @@
+use Rattle.std.specs.Prelude.{refl}
+use Rattle.std.proofs.Common.{subst}
+use Rattle.batch_reader.specs.File.{read_file}
+use Rattle.engine.specs.Calls.{FeedsSession}
+use Rattle.engine.specs.Sessions.{SessionState}
+use Rattle.engine.specs.contracts.session.Session.{the_view}
+use Rattle.engine.proofs.SessionLaws.{fed_by_limit}
+use Rattle.engine.proofs.session.Session.feed.Goals as goal
+
+pub returns-clause-feeds : goal.returns-clause-feeds
+returns-clause-feeds c =
+    let new : SessionState = record {
+      held = c.feed.new.replica;
+      limit = c.self.inside.means.limit;
+      seed = c.self.inside.means.seed;
+      work = c.feed.new.work;
+    } in
+    subst (λ (s : SessionState). FeedsSession (read_file c.args.file.now) s new c.feed.result) c.self.view_is
+    (fed_by_limit c.self.inside.means (the_view c.self.inside) new _ _ refl c.new-disk.ensures.count (record { limit = refl; seed = refl })
+    (read_file c.args.file.now) c.feed.result c.feed.ensures.feeds c.feed.ensures.ran)
