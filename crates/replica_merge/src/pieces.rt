@@ -63,8 +63,8 @@ fn copied(alloc: Global, spans: &[Span<'_>]) -> Result<Run, AllocError>
 
 /// The groups of all spans in one run, each once, with the states of all that have it.
 ///
-/// The groups of a span are in key order already, so this is a merge sort: each half of the spans is united, and the second run is added
-/// to the first. So a group is copied once for each halving, not once for each span. The only error is out of memory.
+/// The groups of a span are in key order already, so this is a merge sort. Each half of the spans is united, and the second run is added to
+/// the first. So a group is copied once for each halving, not once for each span. The only error is out of memory.
 fn united(alloc: Global, query: &Query, spans: &[Span<'_>]) -> Result<Run, AllocError>
     requires inputs { AllByRecursion (IsInput (meaning query.now)) (brought_to spans.now) }
     requires within { AllByRecursion IsSpan spans.now }
@@ -173,7 +173,7 @@ fn next_spans<'a>(
     spans_below(alloc, spans, step, None)
 }
 
-/// How far the next piece is to reach, after one that reached `step` groups further on. It had far fewer groups than `most`, or far more,
+/// How far the next piece reaches, after one that reached `step` groups further on. A piece has far fewer groups than `most`, or far more,
 /// where the keys of the origins are spread unevenly. The answer does not depend on it.
 fn next_step(spans: &[Span<'_>], step: usize, most: usize) -> usize {
     let mut size: usize = 0;
@@ -208,7 +208,7 @@ fn rows_of_piece<S: RowSink>(
 }
 
 /// Gives a sink the rows of the groups that spans leave, in key order: each group once, with the states of all that have it. Without groups
-/// they are those of an answer over no rows. So there is memory for the groups of one piece, and not for all. The only error is out of
+/// they are those of an answer over no rows. This takes memory for the groups of one piece, and not for all. The only error is out of
 /// memory.
 pub(crate) fn rows_of_left<S: RowSink>(
     alloc: Global,
