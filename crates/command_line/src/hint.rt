@@ -62,6 +62,17 @@ fn files_of(words: &[String]) -> ([&str; 2], usize) {
     (files, count)
 }
 
+/// The suffix that names of summaries have in all examples.
+const SUMMARY_SUFFIX: &str = ".sum";
+
+/// The summary and the batch of two files: the second is the summary if it alone is named as one.
+fn in_order<'w>(first: &'w str, second: &'w str) -> (&'w str, &'w str) {
+    if second.ends_with(SUMMARY_SUFFIX) && !first.ends_with(SUMMARY_SUFFIX) {
+        return (second, first);
+    }
+    (first, second)
+}
+
 /// What may be meant by a command line that the parser refused with this kind of error. The first word is the program's name.
 pub(crate) fn hint_of(words: &[String], kind: ErrorKind) -> Hint<'_> {
     let Some((_, [name, rest @ ..])) = words.split_first() else {
@@ -71,10 +82,8 @@ pub(crate) fn hint_of(words: &[String], kind: ErrorKind) -> Hint<'_> {
     let [first, second] = files;
     match (name.as_str(), kind) {
         ("feed", ErrorKind::MissingRequiredArgument) if count == 2 && first != second => {
-            Hint::FeedTwice {
-                summary: first,
-                batch: second,
-            }
+            let (summary, batch) = in_order(first, second);
+            Hint::FeedTwice { summary, batch }
         }
         ("script", ErrorKind::UnknownArgument) if count > 0 => Hint::ScriptFile(first),
         _ => Hint::Nothing,
