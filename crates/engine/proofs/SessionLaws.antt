@@ -11,7 +11,7 @@ use Rattle.tape_disks.specs.Memory.{MemoryState}
 use Rattle.tape_disks.specs.contracts.mem_disk.MemDiskTapeDisk.TheImpl as memory
 use Rattle.tape_disks.specs.declared.disk.TapeDisk.{Ghosts}
 use Rattle.spill_partitions.specs.declared.error.SpillError.{SpillError}
-use Rattle.hash_agg.specs.Counting.{AreCounted, setting_by}
+use Rattle.hash_agg.specs.Counting.{HasGrown, AreCounted, setting_by}
 use Rattle.hash_agg.specs.Lemmas.RanLaws.{Counting, ran_weaker}
 use Rattle.hash_agg.specs.Means.{MeansState}
 use Rattle.hash_agg.specs.Passes.{setting_for}
@@ -64,7 +64,7 @@ module _ {D H T : Type 0} (g : Ghosts D) (means : MeansState H) (Counts : Counti
               (ran.counted honest)),
         );
         uncounted = tt;
-        within = subst (λ l. old.work.most_held ≤ l → new.work.most_held ≤ l) limit ran.held;
+        grown = subst (λ l. HasGrown l old.work new.work) limit ran.grown;
       }
 
   pub refused_by_limit : (reason : Option SpillError) (why : Refusal)
@@ -74,7 +74,7 @@ module _ {D H T : Type 0} (g : Ghosts D) (means : MeansState H) (Counts : Counti
       record {
         counted = tt;
         uncounted = ran.uncounted;
-        within = subst (λ l. old.work.most_held ≤ l → new.work.most_held ≤ l) limit ran.held;
+        grown = subst (λ l. HasGrown l old.work new.work) limit ran.grown;
       }
 
   pub ran_by_limit : (result : Result T Refusal)

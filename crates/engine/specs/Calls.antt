@@ -16,7 +16,7 @@ use Rattle.having_filter.specs.Kept.{by_names}
 use Rattle.having_filter.specs.Meaning.{meaning}
 use Rattle.packed_rows.specs.Columns.{printed}
 use Rattle.query_checks.specs.Spelling.{spelling}
-use Rattle.hash_agg.specs.Counting.{no_work}
+use Rattle.hash_agg.specs.Counting.{HasGrown, no_work}
 use Rattle.hash_agg.specs.Means.{AreMeans}
 use Rattle.hash_agg.specs.Passes.{setting_for}
 use Rattle.hash_agg.specs.declared.means.TheConstants.{MIN_LIMIT, MAX_LIMIT}
@@ -93,7 +93,7 @@ pub record RunsByLimit {T : Type 0} (Counts : Query → Setting → Work → ℕ
   pub counted : OnOk result ((pages : ℕ) × Counts (meaning old.held.query) (setting_for (meaning old.held.query) old.limit fnv_1a) old.work
       0 new.work pages)
   pub uncounted : OnErr result (new.work ≡ old.work)
-  pub within : old.work.most_held ≤ old.limit → new.work.most_held ≤ old.limit
+  pub grown : HasGrown old.limit old.work new.work
 
 -- no refusal of a session is one of tapes, which lie in memory: they neither fail nor give back what was not written to them
 abbrev pub IsUntaped : Refusal → Type 0
