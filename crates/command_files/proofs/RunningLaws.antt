@@ -104,12 +104,23 @@ runs_command contents subcommand means held disk first work begun listed was_lis
           output same_disk same_work same_listed same_passed says performs,
     )
 
+-- all was sent out after a replica was saved, alone or after files were taken
+saves_kept : (held : Held) (is_piped : Bool) (old output sent : Option (List ℕ)) → Keeps output sent → SavesHeld held is_piped old output
+    → SavesHeld held is_piped old sent
+saves_kept held is_piped old output sent kept saves =
+    record { file = saves.file; saved = saves.saved; printed = Appends-kept _ _ _ _ saves.printed kept }
+
+takes_kept : {F H : Type 0} (manner : Manner H) (count : ℕ) (old : CommandState F) (passed passed_now : ℕ) (output sent : Option (List ℕ))
+    → Keeps output sent → TakesAndSaves manner count old passed passed_now output → TakesAndSaves manner count old passed passed_now sent
+takes_kept manner count old passed passed_now output sent kept done =
+    record { mid = done.mid; takes = done.takes; saves = saves_kept _ _ _ output sent kept done.saves }
+
 -- all was sent out after a command did its work
 performs_kept : {F H : Type 0} (subcommand : Subcommand) (means : MeansState H) (held : Held) (from : Standpoint F) (passed_now : ℕ)
     (output sent : Option (List ℕ)) → Keeps output sent → Performs subcommand means held from passed_now output
     → Performs subcommand means held from passed_now sent
 performs_kept New means held from passed_now output sent kept saves =
-    record { file = saves.file; saved = saves.saved; printed = Appends-kept _ _ _ _ saves.printed kept }
+    saves_kept _ _ _ output sent kept saves
 performs_kept Known means held from passed_now output sent kept (format, printed) = (format, Appends-kept _ _ _ _ printed kept)
 performs_kept Answer means held from passed_now output sent kept (format, table) = (
   format,
@@ -122,30 +133,8 @@ performs_kept Answer means held from passed_now output sent kept (format, table)
     printed = Appends-kept _ _ _ _ table.printed kept;
   },
 )
-performs_kept Feed means held from passed_now output sent kept (count, done) = (
-  count,
-  record {
-    mid = done.mid;
-    takes = done.takes;
-    saves = record {
-      file = done.saves.file;
-      saved = done.saves.saved;
-      printed = Appends-kept _ _ _ _ done.saves.printed kept;
-    };
-  },
-)
-performs_kept Merge means held from passed_now output sent kept (count, done) = (
-  count,
-  record {
-    mid = done.mid;
-    takes = done.takes;
-    saves = record {
-      file = done.saves.file;
-      saved = done.saves.saved;
-      printed = Appends-kept _ _ _ _ done.saves.printed kept;
-    };
-  },
-)
+performs_kept Feed means held from passed_now output sent kept (count, done) = (count, takes_kept _ _ _ _ _ output sent kept done)
+performs_kept Merge means held from passed_now output sent kept (count, done) = (count, takes_kept _ _ _ _ _ output sent kept done)
 
 pub done_kept : (F : Type 0) (subcommand : Subcommand) (limit : ℕ) (old output sent : Option (List ℕ)) → Keeps output sent
     → IsDone F subcommand limit old output → IsDone F subcommand limit old sent
