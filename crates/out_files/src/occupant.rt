@@ -1,5 +1,8 @@
 //! What exists at a path.
 
+ghost use Rattle.std.specs.Prelude.{◌≡◌, ◌<◌, ℕ, IfOk, length};
+ghost use Rattle.out_files.specs.declared.occupant.Occupant.TheVariants.{Listed};
+
 use std::fs::Metadata;
 use std::io::ErrorKind;
 use std::os::unix::fs::MetadataExt;
@@ -30,7 +33,9 @@ fn is_same_file<R: Files>(rt: &R, found: &Metadata, path: &str) -> io::Result<bo
 }
 
 /// What exists at a path. If it is one of the files of a list, the first place of it is given. The error is that this can't be found out.
-pub fn occupant_of<R: Files>(rt: &R, path: &str, listed: &[&str]) -> io::Result<Occupant> {
+pub fn occupant_of<R: Files>(rt: &R, path: &str, listed: &[&str]) -> io::Result<Occupant>
+    ensures { IfOk result (λ found. (place : ℕ) → found ≡ Listed place → place < length listed.now) }
+{
     let found = match fs::metadata(rt, path) {
         Ok(found) => found,
         Err(error) if error.kind() == ErrorKind::NotFound => return Ok(Occupant::Nothing),

@@ -56,7 +56,8 @@ pub fn front_from<F: Read>(reader: &mut F, front: &mut [u8]) -> io::Result<usize
     Ok(count)
 }
 
-/// Reads the first bytes of a file, as [`front_from`] reads them of a reader, and answers how many they are.
+/// Reads the first bytes of a file, as [`front_from`] reads them of a reader, and answers how many they are. No clause can name the bytes
+/// of a file of the system.
 pub fn front_of<R: Files>(rt: &R, path: &str, front: &mut [u8]) -> io::Result<usize>
     ensures bound { IfOk result (λ count. count ≤ length front.new) }
 {

@@ -1,7 +1,9 @@
 //! Writes files.
 
-ghost use Rattle.std.specs.Prelude.{OnOk};
+ghost use Rattle.std.specs.Prelude.{◌≡◌, ◌≢◌, IfOk, IsErrAnd, IsSome, OnOk};
 ghost use Rattle.std.specs.Io.KnownBytes.{Appends};
+ghost use Rattle.out_files.specs.declared.trial.Place.TheVariants.{Device};
+ghost use Rattle.out_files.specs.declared.writing.Unwritten.TheVariants.{Changed};
 
 use crate::beside::create_beside;
 use crate::reading::has_bytes;
@@ -60,7 +62,9 @@ fn put_in_place<R: Files>(
     path: &str,
     bytes: &[u8],
     old: Option<&[u8]>,
-) -> Result<bool, Unwritten> {
+) -> Result<bool, Unwritten>
+    ensures { OnOk result (Appends (R.File.contents file.old) (R.File.contents file.new) bytes.now) }
+{
     if let Ok(found) = fs::metadata(rt, path) {
         file.set_permissions(found.permissions())?;
     }
@@ -80,7 +84,9 @@ fn write_over<R: Files>(
     path: &str,
     bytes: &[u8],
     old: Option<&[u8]>,
-) -> Result<Place, Unwritten> {
+) -> Result<Place, Unwritten>
+    ensures { IsSome old.entry → IfOk result (λ place. place ≢ Device) }
+{
     let mut file = open_over(rt, path)?;
     keep_others(rt, path, old)?;
     file.write_all(bytes)?;
@@ -96,7 +102,9 @@ fn replace<R: Files + AllocGlobal>(
     path: &str,
     bytes: &[u8],
     old: Option<&[u8]>,
-) -> Result<Place, Unwritten> {
+) -> Result<Place, Unwritten>
+    ensures { IsSome old.entry → IfOk result (λ place. place ≢ Device) }
+{
     let (beside, mut file) = match create_beside(rt, path) {
         Ok(made) => made,
         Err(error) if error.kind() == ErrorKind::PermissionDenied => {
@@ -148,8 +156,18 @@ fn make<R: Files + AllocGlobal>(rt: &R, path: &str, bytes: &[u8]) -> io::Result<
     made
 }
 
-/// Writes to a device or a pipe.
-fn write_to<R: Files>(rt: &R, path: &str, bytes: &[u8]) -> Result<Place, Unwritten> {
+/// Writes to a device or a pipe. Where old bytes are known, a file had them and is gone by now, and nothing is written.
+fn write_to<R: Files>(
+    rt: &R,
+    path: &str,
+    bytes: &[u8],
+    old: Option<&[u8]>,
+) -> Result<Place, Unwritten>
+    ensures { IsSome old.entry → IsErrAnd result (λ why. why ≡ Changed) }
+{
+    if old.is_some() {
+        return Err(Unwritten::Changed);
+    }
     fs::write(rt, path, bytes)?;
     Ok(Place::Device)
 }
@@ -160,9 +178,11 @@ fn write_at<R: Files + AllocGlobal>(
     path: &str,
     bytes: &[u8],
     old: Option<&[u8]>,
-) -> Result<Place, Unwritten> {
+) -> Result<Place, Unwritten>
+    ensures { IsSome old.entry → IfOk result (λ place. place ≢ Device) }
+{
     match fs::metadata(rt, path) {
-        Ok(found) if !found.is_file() => write_to(rt, path, bytes),
+        Ok(found) if !found.is_file() => write_to(rt, path, bytes, old),
         _ => replace(rt, path, bytes, old),
     }
 }
@@ -173,7 +193,9 @@ fn write_new<R: Files>(
     link: &str,
     bytes: &[u8],
     old: Option<&[u8]>,
-) -> Result<Place, Unwritten> {
+) -> Result<Place, Unwritten>
+    ensures { IsSome old.entry → IfOk result (λ place. place ≢ Device) }
+{
     keep_others(rt, link, old)?;
     fs::write(rt, link, bytes)?;
     Ok(Place::Beside)
@@ -186,7 +208,9 @@ fn write_through<R: Files + AllocGlobal>(
     link: &str,
     bytes: &[u8],
     old: Option<&[u8]>,
-) -> Result<Place, Unwritten> {
+) -> Result<Place, Unwritten>
+    ensures { IsSome old.entry → IfOk result (λ place. place ≢ Device) }
+{
     match fs::canonicalize(rt, link) {
         Ok(target) => write_at(rt, target.as_str(), bytes, old),
         Err(error) if error.kind() == ErrorKind::NotFound => write_new(rt, link, bytes, old),
@@ -195,13 +219,16 @@ fn write_through<R: Files + AllocGlobal>(
 }
 
 /// Writes a file. An existing one is replaced atomically; a device or a pipe is written to; a link is followed. If the old bytes are given,
-/// and the file has others or none by now, it stays. The answer is how it was written: in place only if no new file can replace it.
+/// and the file has others or none by now, or is a device or a pipe, it stays. The answer is how it was written: in place only if no new
+/// file can replace it.
 pub fn write_file<R: Files + AllocGlobal>(
     rt: &R,
     path: &str,
     bytes: &[u8],
     old: Option<&[u8]>,
-) -> Result<Place, Unwritten> {
+) -> Result<Place, Unwritten>
+    ensures { IsSome old.entry → IfOk result (λ place. place ≢ Device) }
+{
     match fs::symlink_metadata(rt, path) {
         Ok(found) if found.is_symlink() => write_through(rt, path, bytes, old),
         _ => write_at(rt, path, bytes, old),
