@@ -2,3 +2,4 @@ pub mod Bytes
 pub mod LineEnd
 pub mod Streams
 pub mod Subcommands
+pub mod Told

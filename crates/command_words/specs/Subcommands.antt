@@ -28,3 +28,11 @@ aggregates Merge = true
 aggregates New = false
 aggregates Known = false
 aggregates Answer = false
+
+-- whether a command writes a file
+abbrev pub writes_out : Subcommand → Bool
+writes_out New = true
+writes_out Feed = true
+writes_out Merge = true
+writes_out Known = false
+writes_out Answer = false

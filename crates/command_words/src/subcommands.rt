@@ -1,9 +1,10 @@
 //! The commands on files, by their words.
 
-ghost use Rattle.std.specs.Prelude.{◌≡◌};
+ghost use Rattle.std.specs.Prelude.{◌≡◌, map, option_copied};
 ghost use Rattle.command_words.specs.Subcommands.{subcommand_named, takes_limit, aggregates};
+ghost use Rattle.command_words.specs.Told.{limit_told, out_told, spill_told, value_told, values_told};
 
-use crate::{BATCH, COMPLETE, FORCE, IN, NO_CLOBBER, OUT, PROGRESS, SPILL};
+use crate::{BATCH, COMPLETE, FORCE, IN, LIMIT, NO_CLOBBER, OUT, PROGRESS, SPILL};
 use clap::ArgMatches;
 use std::alloc::{AllocError, Global};
 
@@ -51,7 +52,9 @@ impl Subcommand {
     }
 
     /// The file that it writes, if it writes one.
-    pub fn out<'p>(self, matches: &ArgMatches<'p>) -> Option<&'p str> {
+    pub fn out<'p>(self, matches: &ArgMatches<'p>) -> Option<&'p str>
+        ensures { option_copied result ≡ out_told self matches.now }
+    {
         match self {
             Subcommand::New | Subcommand::Feed | Subcommand::Merge => matches.get_str(OUT),
             Subcommand::Known | Subcommand::Answer => None,
@@ -72,8 +75,20 @@ impl Subcommand {
         has_option && matches.get_flag(option)
     }
 
+    /// The limit that it tells.
+    pub fn limit<'p>(self, matches: &ArgMatches<'p>) -> Option<&'p str>
+        ensures { option_copied result ≡ limit_told self matches.now }
+    {
+        if !self.takes_limit() {
+            return None;
+        }
+        matches.get_str(LIMIT)
+    }
+
     /// The file for what is spilled that it tells.
-    pub fn spill<'p>(self, matches: &ArgMatches<'p>) -> Option<&'p str> {
+    pub fn spill<'p>(self, matches: &ArgMatches<'p>) -> Option<&'p str>
+        ensures { option_copied result ≡ spill_told self matches.now }
+    {
         if !self.takes_limit() {
             return None;
         }
@@ -101,6 +116,15 @@ impl Subcommand {
 }
 
 /// The value of an argument. The parser has seen to it that there is one.
-pub fn value<'a>(matches: &ArgMatches<'a>, id: &str) -> &'a str {
+pub fn value<'a>(matches: &ArgMatches<'a>, id: &str) -> &'a str
+    ensures { result.now ≡ value_told matches.now id.now }
+{
     matches.get_str(id).unwrap_or("")
+}
+
+/// The values of an argument, in their order on the command line.
+pub fn values<'m, 'a>(matches: &'m ArgMatches<'a>, id: &str) -> &'m [&'a str]
+    ensures { map (λ s. s.now) result.now ≡ values_told matches.now id.now }
+{
+    matches.get_strs(id).unwrap_or_default()
 }

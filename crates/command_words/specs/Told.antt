@@ -1,0 +1,31 @@
+-- What a command line tells of a command on files, by the names of arguments. All of this is our own; how values are found is clap's.
+use Rattle.std.specs.Prelude.{Bool, false, ℕ, List, [], Option, None, unwrap_or, codes, if◌then◌else◌}
+use Rattle.std.specs.Option.{option_map_or}
+use Rattle.clap.specs.Matches.{found_of, first_value, matched_of, raw_values}
+use Rattle.clap.specs.declared.parser.matches.ArgMatches.{ArgMatches}
+use Rattle.command_words.specs.Streams.{is_stream}
+use Rattle.command_words.specs.Subcommands.{takes_limit, writes_out}
+use Rattle.command_words.specs.declared.subcommands.Subcommand.{Subcommand}
+
+-- the value of an argument, which is empty where it has none
+abbrev pub value_told : ArgMatches → List ℕ → List ℕ
+value_told matches id = unwrap_or (first_value (found_of matches) id) []
+
+-- the values of an argument, in their order
+abbrev pub values_told : ArgMatches → List ℕ → List (List ℕ)
+values_told matches id = option_map_or raw_values (matched_of (found_of matches) id) []
+
+-- the limit, and the file for what is spilled, of a command that takes them
+abbrev pub limit_told : Subcommand → ArgMatches → Option (List ℕ)
+limit_told subcommand matches = if takes_limit subcommand then first_value (found_of matches) (codes "limit") else None
+
+abbrev pub spill_told : Subcommand → ArgMatches → Option (List ℕ)
+spill_told subcommand matches = if takes_limit subcommand then first_value (found_of matches) (codes "spill") else None
+
+-- the file that a command writes
+abbrev pub out_told : Subcommand → ArgMatches → Option (List ℕ)
+out_told subcommand matches = if writes_out subcommand then first_value (found_of matches) (codes "OUT") else None
+
+-- whether it is standard output
+abbrev pub is_out_stream : Subcommand → ArgMatches → Bool
+is_out_stream subcommand matches = option_map_or is_stream (out_told subcommand matches) false
