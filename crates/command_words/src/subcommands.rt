@@ -1,8 +1,8 @@
 //! The commands on files, by their words.
 
 ghost use Rattle.std.specs.Prelude.{◌≡◌, map, option_copied};
-ghost use Rattle.command_words.specs.Subcommands.{subcommand_named, takes_limit, aggregates};
-ghost use Rattle.command_words.specs.Told.{limit_told, out_told, spill_told, value_told, values_told};
+ghost use Rattle.command_words.specs.Subcommands.{subcommand_named, has_flag, takes_limit, aggregates};
+ghost use Rattle.command_words.specs.Told.{limit_told, out_told, spill_told, value_told, values_told, IsFlagTold};
 
 use crate::{BATCH, COMPLETE, FORCE, IN, LIMIT, NO_CLOBBER, OUT, PROGRESS, SPILL};
 use clap::ArgMatches;
@@ -61,9 +61,11 @@ impl Subcommand {
         }
     }
 
-    /// Whether an option that it has stands on the command line.
-    pub fn is_told(self, matches: &ArgMatches<'_>, option: &str) -> bool {
-        let has_option = match option {
+    /// Whether it has a flag.
+    fn has_flag(self, flag: &str) -> bool
+        ensures { result ≡ has_flag self flag.now }
+    {
+        match flag {
             NO_CLOBBER | FORCE => matches!(
                 self,
                 Subcommand::New | Subcommand::Feed | Subcommand::Merge
@@ -71,8 +73,14 @@ impl Subcommand {
             PROGRESS => matches!(self, Subcommand::Feed | Subcommand::Merge),
             COMPLETE => matches!(self, Subcommand::Answer),
             _ => !matches!(self, Subcommand::New),
-        };
-        has_option && matches.get_flag(option)
+        }
+    }
+
+    /// Whether a flag that it has stands on the command line.
+    pub fn is_told(self, matches: &ArgMatches<'_>, flag: &str) -> bool
+        ensures { IsFlagTold self matches.now flag.now result }
+    {
+        self.has_flag(flag) && matches.get_flag(flag)
     }
 
     /// The limit that it tells.
