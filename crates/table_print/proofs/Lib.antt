@@ -2,3 +2,4 @@ pub mod RowLaws
 pub mod WriterLaws
 pub mod AlignedLaws
 pub mod JsonLaws
+pub mod NameLaws

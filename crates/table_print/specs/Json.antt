@@ -41,10 +41,14 @@ json_value (Plain (Text text)) = json_string text
 json_value number = cell_text number
 
 -- the name of a column in an object: its header, behind which, where an earlier column has the same, a dot and its place stand,
--- the first being 1. So no object has a name twice, since no header has a dot (own)
+-- the first being 1. No header of a query has a dot, so no object has a name twice (own; `json_names_differ`)
 abbrev pub name_of : List (List ℕ) → ℕ × List ℕ → List ℕ
 name_of headers column =
     column.1 ++ (if list_any (bytes_eq column.1) (take column.0 headers) then codes "." ++ decimal (column.0 + 1) else [])
+
+-- the names in an object, and as strings
+abbrev pub member_names : List (List ℕ) → List (List ℕ)
+member_names headers = map (name_of headers) (enumerate_from 0 headers)
 
 abbrev pub json_names : List (List ℕ) → List (List ℕ)
 json_names headers = map (λ column. json_string (name_of headers column)) (enumerate_from 0 headers)
