@@ -89,7 +89,7 @@ impl<R: Files + AllocGlobal, E: Write> Complaints<'_, R, E> {
         why: Refusal,
     ) -> Result<Option<Reason>, AllocError> {
         let alloc = self.rt.alloc();
-        self.place.go_to(alloc, script, line)?;
+        self.place.go_to(script, line)?;
         match (why, self.spill) {
             (Refusal::BadSchema, _) => say_columns(alloc, head),
             (Refusal::Query(why), _) => self.place.say_query(alloc, head, why),
@@ -167,7 +167,7 @@ fn run_over<R: Files + AllocGlobal, I: Read, W: Write, E: Write, D: TapeDisk>(
     let mut complaints = Complaints {
         rt,
         errors: &mut *errors,
-        place: ScriptPlace::new(),
+        place: ScriptPlace::new(alloc),
         spill,
     };
     let run = run_observed(alloc, script, writer, &mut complaints, disk, seed);

@@ -11,13 +11,22 @@ ghost use Rattle.replies.specs.declared.refusal.Refusal.TheVariants.{Run};
 
 use crate::problem::Problem;
 use command_words::{input_name, is_stream};
-use file_sentences::length_reason;
+use fault_sentences::Reason;
 use grouping_model::limits::MAX_INPUT_LEN;
 use replies::{Refusal, RunError};
 use script_io::{Fused, InputError, Unread, read_file, read_input};
-use std::alloc::Global;
+use std::alloc::{AllocError, Global};
 use std::io::Read;
 use std::rt::Files;
+
+/// Says how long a file that is too long is, if that is known.
+fn length_reason(alloc: Global, length: Option<u64>) -> Result<Option<Reason>, AllocError> {
+    let Some(len) = length else {
+        return Ok(None);
+    };
+    let said = format!(in alloc; "more than 67,108,864 bytes: it has {len}")?;
+    Ok(Some(Reason::whole(alloc, said)))
+}
 
 /// That a file has more bytes than 67,108,864: so many, where that is known.
 fn too_long(alloc: Global, subject: &str, length: Option<u64>) -> Problem<'_>

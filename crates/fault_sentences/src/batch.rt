@@ -10,6 +10,7 @@ use grouping_model::limits::{LAST_NUMBER, LAST_ORIGIN, MAX_ROWS};
 use packed_rows::Schema;
 use script_io::{read_digits, read_row_count};
 use std::alloc::{AllocError, Global};
+use std::fmt;
 
 /// The records of a batch: its head is the first of a text.
 #[derive(Clone, Copy)]
@@ -38,6 +39,51 @@ fn is_within(field: &[u8], least: u64, most: u64) -> bool {
     match read_digits(field, MAX_DIGITS) {
         Some(number) => least <= number && number <= most,
         None => false,
+    }
+}
+
+/// A part of the head of a batch.
+#[derive(Clone, Copy)]
+enum HeadPart {
+    Origin,
+    Number,
+    Rows,
+}
+
+impl HeadPart {
+    /// Its name.
+    fn name(self) -> &'static str {
+        match self {
+            HeadPart::Origin => "ORIGIN",
+            HeadPart::Number => "NUMBER",
+            HeadPart::Rows => "ROWS",
+        }
+    }
+}
+
+/// What it must be.
+impl fmt::Display for HeadPart {
+    fn fmt<W: fmt::Write>(&self, f: &mut fmt::Formatter<W>) -> fmt::Result {
+        match self {
+            HeadPart::Origin => write!(f, "0 to {LAST_ORIGIN}"),
+            HeadPart::Number => write!(f, "1 to {LAST_NUMBER}"),
+            HeadPart::Rows => f.write_str("1 to 9 digits"),
+        }
+    }
+}
+
+impl<'h> Head<'h> {
+    /// The first part that is not what it must be, of the rows, the origin and the number.
+    fn bad_part(&self) -> Option<(HeadPart, &'h [u8])> {
+        if read_row_count(self.rows).is_none() {
+            Some((HeadPart::Rows, self.rows))
+        } else if !is_within(self.origin, 0, u64::from(LAST_ORIGIN)) {
+            Some((HeadPart::Origin, self.origin))
+        } else if !is_within(self.number, 1, u64::from(LAST_NUMBER)) {
+            Some((HeadPart::Number, self.number))
+        } else {
+            None
+        }
     }
 }
 
@@ -89,28 +135,24 @@ impl<'b> BatchText<'b> {
         format!(in alloc; "line {line}: ")
     }
 
+    /// The part of a head that is not what it must be.
+    fn bad_part<'h>(&self, record: &'h ByteRecord) -> Option<(HeadPart, &'h [u8])> {
+        if self.is_file && record.get(0) != Some(b"batch".as_slice()) {
+            return None;
+        }
+        self.head(record)?.bad_part()
+    }
+
     /// Says of a batch whose head is refused which part of it that is.
     fn say_head(&self, alloc: Global, record: &ByteRecord) -> Result<Option<String>, AllocError> {
-        let Some(head) = self.head(record) else {
+        let Some((part, field)) = self.bad_part(record) else {
             return Ok(None);
         };
-        if self.is_file && record.get(0) != Some(b"batch".as_slice()) {
-            return Ok(None);
-        }
         let line = self.head_line(alloc, record)?;
-        let said = if read_row_count(head.rows).is_none() {
-            let (shown, space) = (Quoted(head.rows), space_of(head.rows));
-            format!(in alloc; "{line}ROWS is {shown}; it must be 1 to 9 digits{space}")?
-        } else if !is_within(head.origin, 0, u64::from(LAST_ORIGIN)) {
-            let (shown, space) = (Quoted(head.origin), space_of(head.origin));
-            format!(in alloc; "{line}ORIGIN is {shown}; it must be 0 to {LAST_ORIGIN}{space}")?
-        } else if !is_within(head.number, 1, u64::from(LAST_NUMBER)) {
-            let (shown, space) = (Quoted(head.number), space_of(head.number));
-            format!(in alloc; "{line}NUMBER is {shown}; it must be 1 to {LAST_NUMBER}{space}")?
-        } else {
-            return Ok(None);
-        };
-        Ok(Some(said))
+        let (name, shown, space) = (part.name(), Quoted(field), space_of(field));
+        let said = format!(in alloc; "{line}{name} is {shown}; it must be {part}{space}");
+        drop(line);
+        Ok(Some(said?))
     }
 
     /// Says of a file that its first line is not a head of a batch.
@@ -270,6 +312,25 @@ impl<'b> BatchText<'b> {
         Ok(is_header(schema, &fields))
     }
 
+    /// Says why a row is refused: for a field, or for how many it has.
+    fn say_row(
+        &self,
+        alloc: Global,
+        schema: &Schema,
+        row: usize,
+        column: Option<usize>,
+    ) -> Result<Option<String>, AllocError> {
+        let Some(record) = record_at(alloc, self.text, row.saturating_add(1))? else {
+            return Ok(None);
+        };
+        let said = match column {
+            Some(column) => self.say_field(alloc, schema, &record, column),
+            None => self.say_width(alloc, schema, &record),
+        };
+        drop(record);
+        Ok(Some(said?))
+    }
+
     /// Says why the records are not a batch of a schema. It says nothing if it finds no fault.
     pub fn say(
         &self,
@@ -278,7 +339,9 @@ impl<'b> BatchText<'b> {
         why: BatchError,
     ) -> Result<Option<String>, AllocError> {
         let head = record_at(alloc, self.text, 0)?;
-        self.say_behind(alloc, schema, head.as_ref(), why)
+        let said = self.say_behind(alloc, schema, head.as_ref(), why);
+        drop(head);
+        said
     }
 
     /// The same of records whose first one, if there is one, is read.
@@ -294,17 +357,9 @@ impl<'b> BatchText<'b> {
             BatchError::BadBatchHead => self.say_bad_head(alloc, schema, head)?,
             BatchError::TooManyRows => self.say_too_many(alloc, head)?,
             BatchError::RowCount => self.say_count(alloc, head)?,
-            BatchError::WrongWidth { row } => {
-                match record_at(alloc, self.text, row.saturating_add(1))? {
-                    Some(record) => self.say_width(alloc, schema, &record)?,
-                    None => return Ok(None),
-                }
-            }
+            BatchError::WrongWidth { row } => return self.say_row(alloc, schema, row, None),
             BatchError::BadField { row, column } => {
-                match record_at(alloc, self.text, row.saturating_add(1))? {
-                    Some(record) => self.say_field(alloc, schema, &record, column)?,
-                    None => return Ok(None),
-                }
+                return self.say_row(alloc, schema, row, Some(column));
             }
         };
         Ok(Some(said))

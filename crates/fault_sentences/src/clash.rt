@@ -5,7 +5,7 @@ use packed_rows::ValueKind;
 use std::fmt;
 
 /// What asks for a truth value.
-#[derive(Clone, Copy, PartialEq, Eq)]
+#[derive(Clone, Copy)]
 pub(crate) enum Asker {
     Not,
     And,

@@ -2,42 +2,53 @@
 
 use grouping_model::limits::MAX_TEXT_LEN;
 use packed_rows::{ValueKind, read_value};
-use std::str;
-use thiserror::Error;
+use std::{fmt, str};
 
 /// Why a field is not a value of its column.
-#[derive(Clone, Copy, Debug, PartialEq, Eq, Error)]
+#[derive(Clone, Copy)]
 pub enum FieldFault {
     /// It is empty.
-    #[error("empty field; write null as \\N")]
     Empty,
     /// A value with white space around it.
-    #[error("a value has no white space around it")]
     Space,
     /// Another word for null.
-    #[error("write null as \\N")]
     Null,
     /// A number of more than 64 bits.
-    #[error("out of range (-9223372036854775808 to 9223372036854775807)")]
     OutOfRange,
     /// A number with a fraction.
-    #[error("a bigint has no fraction: use cents, as 1250 for 12.50")]
     Fraction,
     /// Not a number.
-    #[error("a bigint is an optional + or - and digits")]
     NoBigint,
     /// Not a truth value.
-    #[error("a boolean is t, true, f or false")]
     NoBoolean,
     /// A text that is too long.
-    #[error("the text has {len} bytes; the limit is 255")]
     TooLong { len: usize },
     /// A text with the character 0.
-    #[error("a text cannot contain the character 0")]
     Zero,
     /// Bytes that are not UTF-8.
-    #[error("not UTF-8 from byte {at} of the field, counted from 1")]
     NoText { at: usize },
+}
+
+impl fmt::Display for FieldFault {
+    fn fmt<W: fmt::Write>(&self, f: &mut fmt::Formatter<W>) -> fmt::Result {
+        let said = match *self {
+            FieldFault::Empty => "empty field; write null as \\N",
+            FieldFault::Space => "a value has no white space around it",
+            FieldFault::Null => "write null as \\N",
+            FieldFault::OutOfRange => "out of range (-9223372036854775808 to 9223372036854775807)",
+            FieldFault::Fraction => "a bigint has no fraction: use cents, as 1250 for 12.50",
+            FieldFault::NoBigint => "a bigint is an optional + or - and digits",
+            FieldFault::NoBoolean => "a boolean is t, true, f or false",
+            FieldFault::Zero => "a text cannot contain the character 0",
+            FieldFault::TooLong { len } => {
+                return write!(f, "the text has {len} bytes; the limit is 255");
+            }
+            FieldFault::NoText { at } => {
+                return write!(f, "not UTF-8 from byte {at} of the field, counted from 1");
+            }
+        };
+        f.write_str(said)
+    }
 }
 
 /// Other words for null.

@@ -1,6 +1,7 @@
 //! Sentences on faults, for people: one line that quotes the faulty bytes, and says what was expected.
 #![tactic(auto)]
 
+mod asides;
 mod batch;
 mod clash;
 mod disagreement;

@@ -53,6 +53,12 @@ pub(crate) fn first_line(text: &[u8]) -> &[u8] {
     &[]
 }
 
+/// The record behind so many others, if there is one.
+fn record_behind(records: &mut Records<'_>, many: usize) -> Result<Option<ByteRecord>, AllocError> {
+    records.skip(many)?;
+    records.next()
+}
+
 /// The record at a place of a text, the first being 0, if there are so many.
 pub(crate) fn record_at(
     alloc: Global,
@@ -60,17 +66,16 @@ pub(crate) fn record_at(
     place: usize,
 ) -> Result<Option<ByteRecord>, AllocError> {
     let mut records = Records::new(alloc, text);
-    records.skip(place)?;
-    records.next()
+    let found = record_behind(&mut records, place);
+    drop(records);
+    found
 }
 
-/// How many records a text has.
-pub(crate) fn count_records(alloc: Global, text: &[u8]) -> Result<u64, AllocError> {
-    let mut records = Records::new(alloc, text);
-    let mut record = ByteRecord::new(alloc);
+/// How many records are left.
+fn count_left(records: &mut Records<'_>, buffer: &mut ByteRecord) -> Result<u64, AllocError> {
     let mut count = 0u64;
     for _ in 0..u64::MAX {
-        if !records.read(&mut record)? {
+        if !records.read(buffer)? {
             break;
         }
         count = count.saturating_add(1);
@@ -78,8 +83,18 @@ pub(crate) fn count_records(alloc: Global, text: &[u8]) -> Result<u64, AllocErro
     Ok(count)
 }
 
+/// How many records a text has.
+pub(crate) fn count_records(alloc: Global, text: &[u8]) -> Result<u64, AllocError> {
+    let mut records = Records::new(alloc, text);
+    let mut buffer = ByteRecord::new(alloc);
+    let count = count_left(&mut records, &mut buffer);
+    drop(buffer);
+    drop(records);
+    count
+}
+
 /// Where a reader of CSV stands in a field.
-#[derive(Clone, Copy, PartialEq, Eq)]
+#[derive(Clone, Copy)]
 enum Within {
     /// Before its first byte.
     Front,

@@ -1,5 +1,6 @@
 //! Names that are near to another.
 
+use packed_rows::Schema;
 use std::alloc::{AllocError, Global};
 use strsim::levenshtein;
 
@@ -13,20 +14,45 @@ fn most_edits(len: usize) -> usize {
     }
 }
 
-/// The name that is nearest to a word, if one is near.
-pub(crate) fn nearest<'n>(
-    alloc: Global,
-    word: &str,
-    names: &[&'n str],
-) -> Result<Option<&'n str>, AllocError> {
-    let mut found = None;
-    let mut least = most_edits(word.len());
-    for name in names {
-        let edits = levenshtein(alloc, word, name)?;
-        if edits < least || edits == least && found.is_none() {
-            least = edits;
-            found = Some(*name);
+/// The name that is nearest to a word, of those that were looked at.
+#[derive(Clone, Copy)]
+pub(crate) struct Nearest<'w, 'n> {
+    word: &'w str,
+    /// How many letters differ in it, or may differ where none was near.
+    edits: usize,
+    pub(crate) found: Option<&'n str>,
+}
+
+impl<'w, 'n> Nearest<'w, 'n> {
+    /// No name was looked at.
+    pub(crate) fn to(word: &'w str) -> Nearest<'w, 'n> {
+        Nearest {
+            word,
+            edits: most_edits(word.len()),
+            found: None,
         }
     }
-    Ok(found)
+
+    /// Looks at a name.
+    pub(crate) fn look_at(&mut self, alloc: Global, name: &'n str) -> Result<(), AllocError> {
+        let edits = levenshtein(alloc, self.word, name)?;
+        if edits < self.edits || edits == self.edits && self.found.is_none() {
+            self.edits = edits;
+            self.found = Some(name);
+        }
+        Ok(())
+    }
+}
+
+/// The column whose name is nearest to a word, if one is near.
+pub(crate) fn nearest_column<'s>(
+    alloc: Global,
+    word: &str,
+    schema: &'s Schema,
+) -> Result<Option<&'s str>, AllocError> {
+    let mut nearest = Nearest::to(word);
+    for column in 0..schema.width() {
+        nearest.look_at(alloc, schema.name(column))?;
+    }
+    Ok(nearest.found)
 }

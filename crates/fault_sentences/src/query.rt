@@ -1,7 +1,8 @@
 //! Why a text is not a query over a schema.
 
+use crate::asides::{Aside, Near};
 use crate::hints::of_word;
-use crate::nearest::nearest;
+use crate::nearest::nearest_column;
 use crate::places::tokens_before;
 use crate::quoted::Quoted;
 use crate::reason::Reason;
@@ -26,15 +27,6 @@ struct Refused<'t> {
     schema: &'t Schema,
     query: &'t RawQuery,
     tour: Tour<'t>,
-}
-
-/// The names of a schema's columns.
-fn names_of<'s>(alloc: Global, schema: &'s Schema) -> Result<Vec<&'s str>, AllocError> {
-    let mut names = Vec::new(alloc);
-    for column in 0..schema.width() {
-        names.push(schema.name(column))?;
-    }
-    Ok(names)
 }
 
 /// Whether two items are the same column or call.
@@ -66,6 +58,45 @@ impl fmt::Display for Spelled<'_> {
                 }
                 Ok(())
             }
+        }
+    }
+}
+
+/// What is said of the name of an item where it means nothing.
+#[derive(Clone, Copy)]
+enum Advice {
+    /// In HAVING.
+    Having,
+    /// In WHERE or a FILTER, of a column.
+    Condition,
+    /// In WHERE or a FILTER, of a call.
+    Aggregate,
+    /// In GROUP BY, of a column.
+    Key,
+}
+
+impl Advice {
+    /// What is said where a name has a role, if it means nothing there.
+    fn on(role: Role, item: &Item<String>) -> Option<Advice> {
+        match (role, item) {
+            (Role::Having, _) => Some(Advice::Having),
+            (Role::Condition, Item::Column(_)) => Some(Advice::Condition),
+            (Role::Condition, Item::Call(_)) => Some(Advice::Aggregate),
+            (Role::Key, Item::Column(_)) => Some(Advice::Key),
+            _ => None,
+        }
+    }
+
+    /// What stands before and behind the item.
+    fn words(self) -> (&'static str, &'static str) {
+        match self {
+            Advice::Having => ("which is not visible in HAVING: write ", ""),
+            Advice::Condition => ("which is not visible in WHERE and FILTER: write ", ""),
+            Advice::Aggregate => (
+                "which is not visible in WHERE and FILTER: test ",
+                " in HAVING",
+            ),
+            Advice::Key => ("and GROUP BY takes columns: write ", ""),
         }
     }
 }
@@ -112,62 +143,53 @@ impl<'t> Refused<'t> {
 
     /// Says which column there is not, which is near to it, and which there are.
     fn say_no_column(&self) -> Result<Option<Reason>, AllocError> {
-        let names = names_of(self.alloc, self.schema)?;
         for mention in &self.tour.mentions {
             if self.schema.place(mention.name).is_none() {
-                return Ok(Some(self.say_name(mention, &names)?));
+                return Ok(Some(self.say_name(mention)?));
             }
         }
         self.say_no_item()
     }
 
-    /// Says of a name that it is an item's, which HAVING and other parts don't see, and what is to be written; nothing where it is none.
-    fn say_alias(&self, mention: &Mention<'_>) -> Result<Option<String>, AllocError> {
-        let Some(found) = self
-            .query
-            .items
-            .iter()
-            .find(|item| has_name(*item, mention.name))
-        else {
-            return Ok(None);
+    /// The item that has a name, as it is written, and what stands before and behind it where the name means nothing.
+    fn unseen(&self, mention: &Mention<'_>) -> Option<(Spelled<'_>, Advice)> {
+        for item in &self.query.items {
+            if has_name(item, mention.name) {
+                let advice = Advice::on(mention.role, &item.0)?;
+                return Some((Spelled(&item.0), advice));
+            }
+        }
+        None
+    }
+
+    /// What stands behind a name that is no column's.
+    fn say_help(&self, mention: &Mention<'_>) -> Result<String, AllocError> {
+        let near = nearest_column(self.alloc, mention.name, self.schema)?;
+        let hint = match (near, of_word(mention.name), mention.role) {
+            (None, None, Role::Condition) => Some("write texts in single quotes"),
+            (None, hint, _) => hint,
+            (Some(_), _, _) => None,
         };
-        let name = Quoted(mention.name.as_bytes());
-        let item = Spelled(&found.0);
-        let said = match (mention.role, &found.0) {
-            (Role::Having, _) => format!(in self.alloc;
-                "{name} names an item, which is not visible in HAVING: write {item}"
-            )?,
-            (Role::Condition, Item::Column(_)) => format!(in self.alloc;
-                "{name} names an item, which is not visible in WHERE and FILTER: write {item}"
-            )?,
-            (Role::Condition, Item::Call(_)) => format!(in self.alloc;
-                "{name} names an item, which is not visible in WHERE and FILTER: test {item} in HAVING"
-            )?,
-            (Role::Key, Item::Column(_)) => format!(in self.alloc;
-                "{name} names an item, and GROUP BY takes columns: write {item}"
-            )?,
-            _ => return Ok(None),
-        };
-        Ok(Some(said))
+        let (near, hint) = (Near(near), Aside(hint));
+        format!(in self.alloc; "{near}{hint}")
     }
 
     /// Says of a name that it is no column's.
-    fn say_name(&self, mention: &Mention<'_>, names: &[&str]) -> Result<Reason, AllocError> {
-        if let Some(said) = self.say_alias(mention)? {
+    fn say_name(&self, mention: &Mention<'_>) -> Result<Reason, AllocError> {
+        let name = Quoted(mention.name.as_bytes());
+        if let Some((item, advice)) = self.unseen(mention) {
+            let (before, behind) = advice.words();
+            let said = format!(in self.alloc; "{name} names an item, {before}{item}{behind}")?;
             return self.at(mention.at, said);
         }
-        let name = mention.name;
-        let mut said = format!(in self.alloc; "{} is not a column", Quoted(name.as_bytes()))?;
-        if let Some(near) = nearest(self.alloc, name, names)? {
-            write!(said, " (did you mean {near}?)")?;
-        } else if let Some(hint) = of_word(name) {
-            write!(said, "; {hint}")?;
-        } else if mention.role == Role::Condition {
-            said.push_str("; write texts in single quotes")?;
-        }
         let columns = self.schema.print()?;
-        write!(said, "; the columns are {columns}")?;
-        self.at(mention.at, said)
+        let help = self.say_help(mention)?;
+        let said = format!(in self.alloc;
+            "{name} is not a column{help}; the columns are {columns}"
+        );
+        drop(help);
+        drop(columns);
+        self.at(mention.at, said?)
     }
 
     /// Says of what a term of ORDER BY names that it is not an item, if it is none.
@@ -334,6 +356,27 @@ fn say_open(alloc: Global, text: &str, tokens: &[Token]) -> Result<Reason, Alloc
     Reason::at(alloc, text, at, said)
 }
 
+/// Says why a check refuses a query that was read from a text of these tokens.
+fn say_checked(
+    alloc: Global,
+    schema: &Schema,
+    text: &str,
+    tokens: &[Token],
+    query: &RawQuery,
+    why: QueryError,
+) -> Result<Option<Reason>, AllocError> {
+    let refused = Refused {
+        alloc,
+        text,
+        schema,
+        query,
+        tour: Tour::of(alloc, schema, tokens, query)?,
+    };
+    let reason = refused.say_check(why);
+    drop(refused);
+    reason
+}
+
 /// Says why a text that has these tokens is refused, though each of them may stand where it does.
 fn say_refused(
     alloc: Global,
@@ -342,22 +385,16 @@ fn say_refused(
     tokens: &[Token],
     why: QueryError,
 ) -> Result<Option<Reason>, AllocError> {
-    let query = match read(alloc, text) {
-        Ok(query) => query,
-        Err(ParseError::Query(QueryError::TooDeep)) => {
-            return Ok(Some(say_open(alloc, text, tokens)?));
+    match read(alloc, text) {
+        Ok(query) => {
+            let reason = say_checked(alloc, schema, text, tokens, &query, why);
+            drop(query);
+            reason
         }
-        Err(ParseError::Query(QueryError::NoMemory)) => return Err(AllocError),
-        Err(_) => return Ok(None),
-    };
-    let refused = Refused {
-        alloc,
-        text,
-        schema,
-        query: &query,
-        tour: Tour::of(alloc, schema, tokens, &query)?,
-    };
-    refused.say_check(why)
+        Err(ParseError::Query(QueryError::TooDeep)) => Ok(Some(say_open(alloc, text, tokens)?)),
+        Err(ParseError::Query(QueryError::NoMemory)) => Err(AllocError),
+        Err(_) => Ok(None),
+    }
 }
 
 /// Says that a text is too long.
@@ -381,7 +418,9 @@ pub fn say_query(
         ParseError::NumberTooLarge => say_large(alloc, text),
         ParseError::Query(why) => {
             let tokens = tokens_before(alloc, text, text.len())?;
-            say_refused(alloc, schema, text, &tokens, why)
+            let reason = say_refused(alloc, schema, text, &tokens, why);
+            drop(tokens);
+            reason
         }
     }
 }

@@ -1,9 +1,10 @@
 //! Why a command of a script is refused.
 
+use crate::asides::{Aside, Near};
 use crate::batch::BatchText;
 use crate::foreign::known_by_front;
 use crate::lines::ends_line;
-use crate::nearest::nearest;
+use crate::nearest::Nearest;
 use crate::query::say_query;
 use crate::quoted::Quoted;
 use crate::reason::Reason;
@@ -13,14 +14,14 @@ use csv::ByteRecord;
 use group_parser::ParseError;
 use grouping_model::limits::MAX_NAME_LEN;
 use packed_rows::Schema;
-use script_commands::{Request, next_command};
+use script_commands::{Command, Request, next_command};
 use script_io::{Records, read_limit, read_row_count};
 use std::alloc::{AllocError, Global};
 use std::collections::BTreeMap;
-use std::str;
+use std::{fmt, str};
 
 /// What a command has behind its word.
-#[derive(Clone, Copy, PartialEq, Eq)]
+#[derive(Clone, Copy)]
 enum Part {
     Text,
     Limit,
@@ -123,26 +124,35 @@ impl Part {
     }
 }
 
+/// The words of all commands.
+#[derive(Clone, Copy)]
+struct AllWords;
+
+impl fmt::Display for AllWords {
+    fn fmt<W: fmt::Write>(&self, f: &mut fmt::Formatter<W>) -> fmt::Result {
+        for (place, form) in FORMS.iter().enumerate() {
+            let joint = if place == 0 { "" } else { ", " };
+            let word = form.word;
+            write!(f, "{joint}{word}")?;
+        }
+        Ok(())
+    }
+}
+
+/// The word of a command that is nearest to another word, if one is near.
+fn nearest_word(alloc: Global, word: &[u8]) -> Result<Option<&'static str>, AllocError> {
+    let mut nearest = Nearest::to(str::from_utf8(word).unwrap_or(""));
+    for form in &FORMS {
+        nearest.look_at(alloc, form.word)?;
+    }
+    Ok(nearest.found)
+}
+
 /// Says that a word is no command's, and which is near to it.
 fn say_word(alloc: Global, word: &[u8]) -> Result<String, AllocError> {
-    let mut words = Vec::new(alloc);
-    for form in &FORMS {
-        words.push(form.word)?;
-    }
-    let mut said = format!(in alloc; "{} is not a command", Quoted(word))?;
-    if let Some(near) = nearest(alloc, str::from_utf8(word).unwrap_or(""), &words)? {
-        write!(said, " (did you mean {near}?)")?;
-    }
-    said.push_str("; the commands are")?;
-    for (place, word) in words.iter().enumerate() {
-        said.push_str(if place == 0 { " " } else { ", " })?;
-        said.push_str(word)?;
-    }
-    if let Some(known) = known_by_front(word) {
-        said.push_str("; ")?;
-        said.push_str(known)?;
-    }
-    Ok(said)
+    let near = Near(nearest_word(alloc, word)?);
+    let (shown, words, known) = (Quoted(word), AllWords, Aside(known_by_front(word)));
+    format!(in alloc; "{shown} is not a command{near}; the commands are {words}{known}")
 }
 
 /// Says why a record is not a command, or none at its place.
@@ -176,6 +186,9 @@ fn say_command(
     String::from_str(alloc, said)
 }
 
+/// The words of commands that give columns, or make a replica.
+const KEPT: [&[u8]; 3] = [b"columns", b"replica", b"load"];
+
 /// Whether a text has a word, wherever it stands.
 fn has_word(text: &[u8], word: &[u8]) -> bool {
     for at in 0..text.len() {
@@ -186,64 +199,25 @@ fn has_word(text: &[u8], word: &[u8]) -> bool {
     false
 }
 
-/// The schema that the first command of a text tells that is right.
-fn schema_in(alloc: Global, text: &[u8]) -> Result<Option<Schema>, AllocError> {
-    // A reader of records takes longer to be made than a short text to be looked through.
-    if !has_word(text, b"columns") {
-        return Ok(None);
-    }
-    let mut records = Records::new(alloc, text);
-    for _ in 0..u64::MAX {
-        let Some(command) = next_command(&mut records)? else {
-            break;
-        };
-        if let Request::Columns(text) = command.request() {
-            if let Ok(schema) = Schema::parse(alloc, text) {
-                return Ok(Some(schema));
-            }
-        }
-        records.skip(command.owned())?;
-    }
-    Ok(None)
-}
-
-/// Keeps the names of replicas that the commands of a text make, where they are done.
-fn gather_names(
-    alloc: Global,
-    text: &[u8],
-    names: &mut BTreeMap<String, ()>,
-) -> Result<(), AllocError> {
-    let mut records = Records::new(alloc, text);
-    for _ in 0..u64::MAX {
-        let Some(command) = next_command(&mut records)? else {
-            break;
-        };
-        if let Request::Replica(name) | Request::Load { name, .. } = command.request() {
-            let name = String::from_str(alloc, str::from_utf8(name).unwrap_or(""))?;
-            names.insert(name, ())?;
-        }
-        records.skip(command.owned())?;
-    }
-    Ok(())
-}
-
 /// How far a script was read: the line of a command, the columns that were given before it, and the replicas that may exist.
 #[derive(Drop)]
 pub struct ScriptPlace {
+    alloc: Global,
     at: usize,
     line: u64,
     schema: Option<Schema>,
-    names: Option<BTreeMap<String, ()>>,
+    names: BTreeMap<String, ()>,
 }
 
 impl ScriptPlace {
     /// The beginning of a script.
-    pub fn new() -> ScriptPlace {
+    pub fn new(alloc: Global) -> ScriptPlace {
         ScriptPlace {
+            alloc,
             at: 0,
             line: 1,
             schema: None,
-            names: None,
+            names: BTreeMap::new(alloc),
         }
     }
 
@@ -263,38 +237,65 @@ impl ScriptPlace {
         script.len()
     }
 
-    /// Goes on to the command at a line, which is not before the last one.
-    pub fn go_to(&mut self, alloc: Global, script: &[u8], line: u64) -> Result<(), AllocError> {
-        let at = self.begin_of(script, line);
-        let passed = script.get(self.at..at).unwrap_or_default();
-        if self.schema.is_none() {
-            self.schema = schema_in(alloc, passed)?;
+    /// Keeps the name of a replica.
+    fn keep_name(&mut self, name: &[u8]) -> Result<(), AllocError> {
+        let name = String::from_str(self.alloc, str::from_utf8(name).unwrap_or(""))?;
+        self.names.insert(name, ())?;
+        Ok(())
+    }
+
+    /// Keeps the columns that a command gives, where they are right and the first, and the name of the replica that it makes.
+    fn keep(&mut self, command: &Command) -> Result<(), AllocError> {
+        match command.request() {
+            Request::Columns(text) if self.schema.is_none() => {
+                self.schema = Schema::parse(self.alloc, text).ok();
+                Ok(())
+            }
+            Request::Replica(name) | Request::Load { name, .. } => self.keep_name(name),
+            _ => Ok(()),
         }
-        self.pass_names(alloc, passed)?;
+    }
+
+    /// Keeps what commands give and make, where they are done.
+    fn pass(&mut self, records: &mut Records<'_>) -> Result<(), AllocError> {
+        for _ in 0..u64::MAX {
+            let Some(command) = next_command(records)? else {
+                break;
+            };
+            let (kept, owned) = (self.keep(&command), command.owned());
+            drop(command);
+            kept?;
+            records.skip(owned)?;
+        }
+        Ok(())
+    }
+
+    /// Keeps what the commands of a text give and make, where they are done.
+    fn pass_text(&mut self, text: &[u8]) -> Result<(), AllocError> {
+        // A reader of records takes longer to be made than a short text to be looked through.
+        if !KEPT.iter().any(|word| has_word(text, word)) {
+            return Ok(());
+        }
+        let mut records = Records::new(self.alloc, text);
+        let kept = self.pass(&mut records);
+        drop(records);
+        kept
+    }
+
+    /// Goes on to the command at a line, which is not before the last one.
+    pub fn go_to(&mut self, script: &[u8], line: u64) -> Result<(), AllocError> {
+        let at = self.begin_of(script, line);
+        self.pass_text(script.get(self.at..at).unwrap_or_default())?;
         self.at = at;
         self.line = line;
         Ok(())
     }
 
-    /// Keeps the names of replicas that the commands of a text make.
-    fn pass_names(&mut self, alloc: Global, passed: &[u8]) -> Result<(), AllocError> {
-        if !has_word(passed, b"replica") && !has_word(passed, b"load") {
-            return Ok(());
-        }
-        if self.names.is_none() {
-            self.names = Some(BTreeMap::new(alloc));
-        }
-        match &mut self.names {
-            Some(names) => gather_names(alloc, passed, names),
-            None => Ok(()),
-        }
-    }
-
     /// Whether there is no replica of a name. Where it is not known, there may be one.
     fn is_missing(&self, name: &[u8]) -> bool {
-        match (&self.names, str::from_utf8(name)) {
-            (Some(names), Ok(name)) => !names.contains_key(name),
-            _ => true,
+        match str::from_utf8(name) {
+            Ok(name) => !self.names.contains_key(name),
+            Err(_) => true,
         }
     }
 

@@ -8,6 +8,6 @@ mod reasons;
 pub use out::{CutShort, FRONT_BYTES, Fate, FrontKind, Standing, WrittenOver};
 pub use progress::{Explained, PassedOver, Progress, text_of};
 pub use reasons::{
-    FileKind, columns_reason, file_reason, length_reason, limit_reason, query_reason,
-    replaced_reason, saving_reason, summary_reason,
+    FileKind, columns_reason, file_reason, limit_reason, query_reason, replaced_reason,
+    saving_reason, summary_reason,
 };

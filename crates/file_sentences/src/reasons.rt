@@ -4,7 +4,7 @@ use fault_sentences::{
     BatchText, Plain, Quoted, Reason, no_summary, say_disagreement, say_query, say_schema,
 };
 use packed_rows::Schema;
-use replica_merge::{Replica, SummaryError};
+use replica_merge::{KnownOrigin, Replica, SummaryError};
 use replies::{Refusal, RunError};
 use std::alloc::{AllocError, Global};
 
@@ -21,7 +21,11 @@ pub fn query_reason(
     why: Refusal,
 ) -> Result<Option<Reason>, AllocError> {
     match (why, Schema::parse(alloc, columns)) {
-        (Refusal::Query(why), Ok(schema)) => say_query(alloc, &schema, text, why),
+        (Refusal::Query(why), Ok(schema)) => {
+            let reason = say_query(alloc, &schema, text, why);
+            drop(schema);
+            reason
+        }
         _ => Ok(None),
     }
 }
@@ -106,14 +110,34 @@ fn other_query(alloc: Global, ours: &Replica, theirs: &Replica) -> Result<String
     format!(in alloc; "it answers {one}, and the first IN answers {other}")
 }
 
-/// The prefix of an origin that a replica knows something of.
-fn prefix_of(replica: &Replica, origin: u16) -> Result<Option<u32>, AllocError> {
-    for known in &replica.known()? {
-        if known.origin == origin {
-            return Ok(Some(known.upto));
+/// Says in what the query of a summary file differs from that of a replica, if the file is read.
+fn file_query(alloc: Global, replica: &Replica, file: &[u8]) -> Result<Option<String>, AllocError> {
+    match Replica::load(alloc, file) {
+        Ok(other) => {
+            let said = other_query(alloc, replica, &other);
+            drop(other);
+            Ok(Some(said?))
+        }
+        Err(_) => Ok(None),
+    }
+}
+
+/// The prefix of an origin, of what is known of each.
+fn prefix_in(known: &[KnownOrigin], origin: u16) -> Option<u32> {
+    for one in known {
+        if one.origin == origin {
+            return Some(one.upto);
         }
     }
-    Ok(None)
+    None
+}
+
+/// The prefix of an origin that a replica knows something of.
+fn prefix_of(replica: &Replica, origin: u16) -> Result<Option<u32>, AllocError> {
+    let known = replica.known()?;
+    let prefix = prefix_in(&known, origin);
+    drop(known);
+    Ok(prefix)
 }
 
 /// Says why a file is not merged into a replica.
@@ -124,10 +148,7 @@ fn merge_reason(
     why: Refusal,
 ) -> Result<Option<Reason>, AllocError> {
     let said = match why {
-        Refusal::DifferentQuery => match Replica::load(alloc, file) {
-            Ok(other) => Some(other_query(alloc, replica, &other)?),
-            Err(_) => None,
-        },
+        Refusal::DifferentQuery => file_query(alloc, replica, file)?,
         Refusal::OriginDisagrees { origin, number } => {
             let prefix = prefix_of(replica, origin)?;
             Some(say_disagreement(alloc, origin, number, prefix)?)
@@ -188,14 +209,5 @@ pub fn replaced_reason(alloc: Global, out: &str) -> Result<Option<Reason>, Alloc
     let said = format!(in alloc;
         "{out} was replaced by another command meanwhile: run this one again"
     )?;
-    Ok(Some(Reason::whole(alloc, said)))
-}
-
-/// Says how long a file that is too long is, if that is known.
-pub fn length_reason(alloc: Global, length: Option<u64>) -> Result<Option<Reason>, AllocError> {
-    let Some(len) = length else {
-        return Ok(None);
-    };
-    let said = format!(in alloc; "more than 67,108,864 bytes: it has {len}")?;
     Ok(Some(Reason::whole(alloc, said)))
 }
