@@ -1,9 +1,9 @@
 //! Callers that know a context by its trait alone: what they promise of it is proved by the trait's clauses.
 ghost use Rattle.std.specs.Prelude.{◌≡◌, true, IfOk, length, ◌≤◌, slice_index};
 
-use crate::tests::kinds::{with_alloc_set, with_bump, with_generation, with_slab};
 use chunk_contexts::{ChunkContext, ContextError};
-use std::test::Fail;
+use std::alloc::AllocError;
+use test_cases::Answered;
 
 /// Takes two chunks and gives them up, the newer one first. The older one keeps its bytes.
 fn take_and_free<C: ChunkContext>(context: &mut C, bytes: &[u8]) -> Result<bool, ContextError>
@@ -82,53 +82,19 @@ fn lengthen_and_free<C: ChunkContext>(
     Ok(same)
 }
 
-/// Whether the calls above answer what they should, where the chunk that is made longer gets `n` bytes.
-fn answers<C: ChunkContext>(context: &mut C, n: u32) -> Result<[bool; 5], ContextError>
-    requires { 3 ≤ n }
-{
-    let freed = take_and_free(context, b"abc")?;
-    let written = write_over(context, b"abc", b"xyz")? == (true, true);
-    let byte = write_byte(context, 7)? == 7;
-    let longer = lengthen(context, b"abc", n)? == (b'a', true);
-    let kept = lengthen_and_free(context, b"abc", n)?;
-    Ok([freed, written, byte, longer, kept])
-}
-
-fn answers_of_any_size<C: ChunkContext>(context: &mut C) -> Result<[bool; 5], ContextError> {
-    answers(context, 100)
-}
-
-const RIGHT: [bool; 5] = [true; 5];
-
-#[test]
-fn chunks_keep_their_bytes(rt: HostRuntime) -> Result<(), Fail> {
-    assert!(rt; with_alloc_set(rt, answers_of_any_size)? == RIGHT);
-    assert!(rt; with_generation(rt, answers_of_any_size)? == RIGHT);
-    Ok(())
-}
-
-/// What the calls above answer where a chunk is not made longer: all of them, and why the last is refused.
-fn answers_of_one_size<C: ChunkContext>(
+/// Tells what a caller answers. The chunk that it makes longer gets `n` bytes, three at least.
+pub(crate) fn tell_caller<C: ChunkContext>(
     context: &mut C,
-) -> Result<([bool; 5], Option<ContextError>), ContextError> {
-    let right = answers(context, 3)?;
-    Ok((right, lengthen(context, b"abc", 4).err()))
-}
-
-/// What the calls above answer where no chunk is given up.
-fn answers_of_kept_chunks<C: ChunkContext>(
-    context: &mut C,
-) -> Result<(Option<ContextError>, (bool, bool), u8), ContextError> {
-    let refused = take_and_free(context, b"abc").err();
-    let written = write_over(context, b"abc", b"xyz")?;
-    Ok((refused, written, write_byte(context, 7)?))
-}
-
-#[test]
-fn chunks_of_one_size_keep_their_bytes(rt: HostRuntime) -> Result<(), Fail> {
-    let slab = with_slab(rt, 3, answers_of_one_size)?;
-    assert!(rt; slab == (RIGHT, Some(ContextError::WrongSize)));
-    let bump = with_bump(rt, answers_of_kept_chunks)?;
-    assert!(rt; bump == (Some(ContextError::NotSupported), (true, true), 7));
-    Ok(())
+    caller: &str,
+    n: u32,
+    told: &mut Answered,
+) -> Result<(), AllocError> {
+    let n = n.max(3);
+    match caller {
+        "newer_first" => told.tell(take_and_free(context, b"abc")),
+        "write_over" => told.tell(write_over(context, b"abc", b"xyz")),
+        "write_byte" => told.tell(write_byte(context, 7)),
+        "longer" => told.tell(lengthen(context, b"abc", n)),
+        _ => told.tell(lengthen_and_free(context, b"abc", n)),
+    }
 }

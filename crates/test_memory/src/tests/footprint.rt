@@ -5,52 +5,45 @@
 //! of a process go back at all: it takes more than a process can have.
 
 use crate::tests::contexts::{reset, take_all};
-use crate::tests::kinds::{with_alloc_set, with_bump, with_generation, with_slab};
+use crate::tests::kinds::{number, told};
 use chunk_contexts::{ChunkContext, ContextError};
+use std::alloc::AllocError;
 use std::fs;
 use std::test::Fail;
+use test_cases::{Answered, cut, expect_lines, halves};
 
 /// How often memory is taken and goes back: each time a megabyte at least.
 const TURNS: u32 = 32;
-
-/// The length of a chunk that has a block of its own, and of one that has none in an `AllocSet`.
-const LARGE: u32 = 1_048_576;
-
-const SMALL: u32 = 8000;
 
 /// By how many pages of 4,096 bytes the process may have grown after all turns: 16 megabytes.
 const SLACK: u64 = 4096;
 
 /// How many pages the process has in memory, as Linux counts them.
-fn pages(rt: &HostRuntime) -> Result<u64, Fail> {
-    let counts = fs::read_to_string(rt, "/proc/self/statm")?;
-    let resident = counts.split(' ').nth(1).ok_or("no count of pages")?;
-    Ok(resident.parse().ok().ok_or("no number")?)
+fn pages(rt: &HostRuntime) -> Option<u64> {
+    let counts = fs::read_to_string(rt, "/proc/self/statm").ok()?;
+    counts.split(' ').nth(1)?.parse().ok()
 }
 
-/// Whether the process has about as many pages as before.
-fn is_even(rt: &HostRuntime, before: u64) -> Result<bool, Fail> {
-    Ok(pages(rt)? <= before.saturating_add(SLACK))
+/// How many pages the process may have after all turns.
+fn most_pages(rt: &HostRuntime) -> Result<u64, Fail> {
+    Ok(pages(rt).ok_or("no count of pages")?.saturating_add(SLACK))
+}
+
+/// Whether the process has so many pages at most.
+fn is_even(rt: &HostRuntime, most: u64) -> bool {
+    match pages(rt) {
+        Some(pages) => pages <= most,
+        None => false,
+    }
 }
 
 /// Whether the process gets smaller when memory goes back at all.
 fn shrinks(rt: &HostRuntime) -> Result<bool, Fail> {
-    let before = pages(rt)?;
+    let most = most_pages(rt)?;
     for _ in 0..TURNS {
-        let _bytes = vec![in rt.alloc(); 1u8; LARGE as usize]?;
+        let _bytes = vec![in rt.alloc(); 1u8; 1_048_576]?;
     }
-    is_even(rt, before)
-}
-
-/// Takes a megabyte in small chunks.
-fn take_small<C: ChunkContext>(context: &mut C) -> Result<(), ContextError> {
-    take_all(context, SMALL, 128)
-}
-
-/// Takes two megabytes, one in small chunks and one in a chunk.
-fn take_both<C: ChunkContext>(context: &mut C) -> Result<(), ContextError> {
-    take_all(context, SMALL, 128)?;
-    take_all(context, LARGE, 1)
+    Ok(is_even(rt, most))
 }
 
 /// Takes a megabyte and more, and gives all up at once, again and again.
@@ -67,7 +60,7 @@ fn take_and_reset<C: ChunkContext>(
 }
 
 /// Takes a chunk, resizes it and gives it up, again and again.
-fn take_and_free<C: ChunkContext>(
+fn resize_and_free<C: ChunkContext>(
     context: &mut C,
     n: u32,
     resized: u32,
@@ -81,113 +74,68 @@ fn take_and_free<C: ChunkContext>(
     Ok(())
 }
 
-/// Whether the process has about as many pages as before once contexts took memory and were let go of. Then the same behind each use of one
-/// context.
-fn goes_back<
-    T: Fn(HostRuntime) -> Result<(), ContextError>,
-    U: Fn(HostRuntime, u64) -> Result<[bool; 2], Fail>,
->(rt: HostRuntime, take_and_drop: T, use_again: U) -> Result<(bool, [bool; 2]), Fail>
-    requires once { T.IsAlwaysCallable take_and_drop }
-    requires again { U.IsAlwaysCallable use_again }
-{
+/// Tells a step of what footprints are told of.
+pub(crate) fn tell_use<C: ChunkContext>(
+    rt: HostRuntime,
+    context: &mut C,
+    name: &str,
+    with: &str,
+    told: &mut Answered,
+) -> Result<(), AllocError> {
+    let (n, with) = cut(with, " ");
+    let (other, turns) = cut(with, " ");
+    let (n, other) = (number(n), number(other));
+    match name {
+        "take_and_reset" => told.tell(take_and_reset(context, n, other)),
+        "resize_and_free" => told.tell(resize_and_free(context, n, other, number(turns))),
+        _ => told.tell(is_even(&rt, u64::from(n))),
+    }
+}
+
+/// What the last of so many new contexts of a case answers, or the first that refuses a step.
+fn told_often(rt: HostRuntime, case: &str) -> Result<String, Fail> {
+    for _ in 1..TURNS {
+        let told = told(rt, case)?;
+        if told.contains("Err") {
+            return Ok(told);
+        }
+    }
+    told(rt, case)
+}
+
+/// What a case answers in which `even` asks whether the process has at most so many pages.
+fn told_even(rt: HostRuntime, case: &str, most: u64) -> Result<String, Fail> {
+    let even = format!(in rt.alloc(); "even {most}")?;
+    let case = case.replace(rt.alloc(), "even", &even)?;
+    told(rt, &case)
+}
+
+/// What two cases answer: one of many contexts that are let go of, and one of a context that is used again and again. In that `even` asks
+/// whether the process has about as many pages as before both.
+fn told_of_uses(rt: HostRuntime, cases: &str) -> Result<String, Fail> {
+    let most = most_pages(&rt)?;
+    let (often, again) = halves(cases, "; ")?;
+    let often = told_often(rt, often)?;
+    let again = told_even(rt, again, most)?;
+    Ok(format!(in rt.alloc(); "{often}; {again}")?)
+}
+
+/// Uses, and what they answer where memory goes back.
+const USES: &str = "\
+alloc_set: take_all 8000 128, take_all 1048576 1; alloc_set: even, take_and_reset 8000 128, take_and_reset 1048576 1, even, \
+resize_and_free 1048576 2097152 32, even => Ok(()) Ok(()); true Ok(()) Ok(()) true Ok(()) true
+slab 8000: take_all 8000 128; slab 8000: even, take_and_reset 8000 128, even, resize_and_free 8000 8000 4096, even => \
+Ok(()); true Ok(()) true Ok(()) true
+generation: take_all 8000 128, take_all 1048576 1; generation: even, take_and_reset 8000 128, even, resize_and_free 8000 8000 4096, \
+resize_and_free 1048576 2097152 32, even => Ok(()) Ok(()); true Ok(()) true Ok(()) Ok(()) true
+bump: take_all 8000 128, take_all 1048576 1; bump: even, take_and_reset 8000 128, even, take_and_reset 1048576 1, even => \
+Ok(()) Ok(()); true Ok(()) true Ok(()) true
+";
+
+#[test]
+fn contexts_go_back(rt: HostRuntime) -> Result<(), Fail> {
     if !shrinks(&rt)? {
-        return Ok(EVEN);
+        return Ok(());
     }
-    let before = pages(&rt)?;
-    for _ in 0..TURNS {
-        take_and_drop(rt)?;
-    }
-    Ok((is_even(&rt, before)?, use_again(rt, before)?))
-}
-
-const EVEN: (bool, [bool; 2]) = (true, [true, true]);
-
-fn use_alloc_set<C: ChunkContext>(
-    rt: HostRuntime,
-    set: &mut C,
-    before: u64,
-) -> Result<[bool; 2], Fail> {
-    take_and_reset(set, SMALL, 128)?;
-    take_and_reset(set, LARGE, 1)?;
-    let reset = is_even(&rt, before)?;
-    take_and_free(set, LARGE, 2 * LARGE, TURNS)?;
-    Ok([reset, is_even(&rt, before)?])
-}
-
-#[test]
-fn an_alloc_set_goes_back(rt: HostRuntime) -> Result<(), Fail> {
-    let even = goes_back(
-        rt,
-        |rt| with_alloc_set(rt, take_both),
-        |rt, before| with_alloc_set(rt, |set| use_alloc_set(rt, set, before)),
-    )?;
-    assert!(rt; even == EVEN);
-    Ok(())
-}
-
-fn use_slab<C: ChunkContext>(
-    rt: HostRuntime,
-    slab: &mut C,
-    before: u64,
-) -> Result<[bool; 2], Fail> {
-    take_and_reset(slab, SMALL, 128)?;
-    let reset = is_even(&rt, before)?;
-    take_and_free(slab, SMALL, SMALL, 128 * TURNS)?;
-    Ok([reset, is_even(&rt, before)?])
-}
-
-#[test]
-fn a_slab_goes_back(rt: HostRuntime) -> Result<(), Fail> {
-    let even = goes_back(
-        rt,
-        |rt| with_slab(rt, SMALL, take_small),
-        |rt, before| with_slab(rt, SMALL, |slab| Ok(use_slab(rt, slab, before)))?,
-    )?;
-    assert!(rt; even == EVEN);
-    Ok(())
-}
-
-fn use_generation<C: ChunkContext>(
-    rt: HostRuntime,
-    generation: &mut C,
-    before: u64,
-) -> Result<[bool; 2], Fail> {
-    take_and_reset(generation, SMALL, 128)?;
-    let reset = is_even(&rt, before)?;
-    take_and_free(generation, SMALL, SMALL, 128 * TURNS)?;
-    take_and_free(generation, LARGE, 2 * LARGE, TURNS)?;
-    Ok([reset, is_even(&rt, before)?])
-}
-
-#[test]
-fn a_generation_goes_back(rt: HostRuntime) -> Result<(), Fail> {
-    let even = goes_back(
-        rt,
-        |rt| with_generation(rt, take_both),
-        |rt, before| with_generation(rt, |generation| use_generation(rt, generation, before)),
-    )?;
-    assert!(rt; even == EVEN);
-    Ok(())
-}
-
-fn use_bump<C: ChunkContext>(
-    rt: HostRuntime,
-    bump: &mut C,
-    before: u64,
-) -> Result<[bool; 2], Fail> {
-    take_and_reset(bump, SMALL, 128)?;
-    let small = is_even(&rt, before)?;
-    take_and_reset(bump, LARGE, 1)?;
-    Ok([small, is_even(&rt, before)?])
-}
-
-#[test]
-fn a_bump_goes_back(rt: HostRuntime) -> Result<(), Fail> {
-    let even = goes_back(
-        rt,
-        |rt| with_bump(rt, take_both),
-        |rt, before| with_bump(rt, |bump| use_bump(rt, bump, before)),
-    )?;
-    assert!(rt; even == EVEN);
-    Ok(())
+    expect_lines(rt, USES, told_of_uses)
 }

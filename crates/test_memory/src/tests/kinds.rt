@@ -1,41 +1,75 @@
-//! A new context of each kind, lent to what the test asks of it. It is let go of here alone, since each function that lets
-//! go of one is proved to do so.
+//! What steps answer over a new context of a kind, which is named. Contexts are let go of here alone, since each function that lets go of
+//! one is proved to do so.
 
-use chunk_contexts::{AllocSet, Bump, ContextError, Generation, Slab};
+use crate::tests::contexts::tell_step;
+use chunk_contexts::{AllocSet, Bump, ChunkContext, Generation, Slab};
+use std::alloc::AllocError;
 use std::test::*;
+use test_cases::{Answered, cut};
 
-/// What calls of a new `AllocSet` answer.
-pub(crate) fn with_alloc_set<R, F: FnOnce(&mut AllocSet) -> R>(rt: HostRuntime, calls: F) -> R
-    requires { F.IsAlwaysCallable calls }
-{
-    let mut set = AllocSet::new(rt.alloc());
-    calls(&mut set)
+/// A number in a step, or 0.
+pub(crate) fn number(text: &str) -> u32 {
+    text.parse().unwrap_or(0)
 }
 
-/// What calls of a new `Generation` answer.
-pub(crate) fn with_generation<R, F: FnOnce(&mut Generation) -> R>(rt: HostRuntime, calls: F) -> R
-    requires { F.IsAlwaysCallable calls }
-{
-    let mut generation = Generation::new(rt.alloc());
-    calls(&mut generation)
-}
-
-/// What calls of a new `Bump` answer.
-pub(crate) fn with_bump<R, F: FnOnce(&mut Bump) -> R>(rt: HostRuntime, calls: F) -> R
-    requires { F.IsAlwaysCallable calls }
-{
-    let mut bump = Bump::new(rt.alloc());
-    calls(&mut bump)
-}
-
-/// What calls of a new `Slab` answer, for chunks of `size` bytes.
-pub(crate) fn with_slab<R, F: FnOnce(&mut Slab) -> Result<R, ContextError>>(
+/// What steps answer, one behind the other: `STEP, STEP ..`, each with what it takes behind its name.
+fn tell_all<C: ChunkContext>(
     rt: HostRuntime,
-    size: u32,
-    calls: F,
-) -> Result<R, ContextError>
-    requires { F.IsAlwaysCallable calls }
-{
-    let mut slab = Slab::new(rt.alloc(), size)?;
-    calls(&mut slab)
+    context: &mut C,
+    steps: &str,
+) -> Result<String, AllocError> {
+    let mut told = Answered::new(rt.alloc());
+    for step in steps.split(", ") {
+        let (name, with) = cut(step, " ");
+        tell_step(rt, context, name, with, &mut told)?;
+    }
+    let mut text = told.into_text();
+    text.pop();
+    Ok(text)
+}
+
+fn over_alloc_set(rt: HostRuntime, steps: &str) -> Result<String, AllocError> {
+    let mut set = AllocSet::new(rt.alloc());
+    let told = tell_all(rt, &mut set, steps);
+    drop(set);
+    told
+}
+
+fn over_generation(rt: HostRuntime, steps: &str) -> Result<String, AllocError> {
+    let mut generation = Generation::new(rt.alloc());
+    let told = tell_all(rt, &mut generation, steps);
+    drop(generation);
+    told
+}
+
+fn over_bump(rt: HostRuntime, steps: &str) -> Result<String, AllocError> {
+    let mut bump = Bump::new(rt.alloc());
+    let told = tell_all(rt, &mut bump, steps);
+    drop(bump);
+    told
+}
+
+/// The same over a slab for chunks of `size` bytes, or why there is none.
+fn over_slab(rt: HostRuntime, size: u32, steps: &str) -> Result<String, AllocError> {
+    match Slab::new(rt.alloc(), size) {
+        Ok(mut slab) => {
+            let told = tell_all(rt, &mut slab, steps);
+            drop(slab);
+            told
+        }
+        Err(refused) => format!(in rt.alloc(); "{refused:?}"),
+    }
+}
+
+/// What the steps of a case answer: `KIND: STEP, STEP ..`. Behind a slab stands how many bytes its chunks have.
+pub(crate) fn told(rt: HostRuntime, case: &str) -> Result<String, Fail> {
+    let (kind, steps) = cut(case, ": ");
+    let (kind, size) = cut(kind, " ");
+    let told = match kind {
+        "alloc_set" => over_alloc_set(rt, steps),
+        "generation" => over_generation(rt, steps),
+        "bump" => over_bump(rt, steps),
+        _ => over_slab(rt, number(size), steps),
+    };
+    Ok(told?)
 }

@@ -5,27 +5,11 @@ ghost use Rattle.context_tree.specs.Tree.{is_there, context_at};
 
 use context_tree::{ChunkName, ContextId, Kind, Tree, TreeError};
 use std::alloc::Global;
-use std::test::Fail;
-use test_cases::{Answered, expect_told};
+use std::test::*;
+use test_cases::{Answered, cut, expect_told_lines};
 
 /// The length of a chunk so long that no context has one.
 const TOO_LARGE: u32 = 1_073_741_824;
-
-/// What is told of a tree whose root has this stamp.
-fn of_tree<F: FnOnce(&mut Tree, &mut Answered) -> Result<(), TreeError>>(
-    alloc: Global,
-    first: u64,
-    tell: F,
-) -> Result<String, TreeError>
-    requires { F.IsAlwaysCallable tell }
-{
-    let mut tree = Tree::with_stamp(alloc, first);
-    let mut told = Answered::new(alloc);
-    let outcome = tell(&mut tree, &mut told);
-    drop(tree);
-    outcome?;
-    Ok(told.into_text())
-}
 
 /// Whether a chunk has these bytes.
 fn has(tree: &Tree, id: ContextId, name: ChunkName, bytes: &[u8]) -> Result<bool, TreeError>
@@ -68,14 +52,6 @@ fn tell_chunks(tree: &mut Tree, told: &mut Answered) -> Result<(), TreeError> {
     told.tell(write_within(tree))?;
     told.tell(tree.held(tree.root()))?;
     Ok(told.tell(tree.growth_for(tree.root(), 9000))?)
-}
-
-#[test]
-fn chunks_of_a_root(rt: HostRuntime) -> Result<(), Fail> {
-    expect_told(
-        of_tree(rt.alloc(), 0, tell_chunks),
-        "Ok(true) Ok(true) Ok((true, true)) Ok(8192) Ok(9008) ",
-    )
 }
 
 /// A context that is gone, and a chunk that it had.
@@ -177,16 +153,6 @@ fn tell_stale(tree: &mut Tree, told: &mut Answered) -> Result<(), TreeError> {
     tell_chunk_refusals(tree, gone, told)
 }
 
-#[test]
-fn an_id_names_one_context(rt: HostRuntime) -> Result<(), Fail> {
-    expect_told(
-        of_tree(rt.alloc(), 0, tell_stale),
-        "false Ok((true, 2)) false Err(RootKept) Err(NoSuchContext) Err(NoSuchContext) Err(NoSuchContext) \
-         Err(NoSuchContext) Err(NoSuchContext) Err(NoSuchContext) Err(NoSuchContext) Err(NoSuchContext) \
-         Err(NoSuchContext) Err(NoSuchContext) Err(NoSuchContext) Err(NoSuchContext) ",
-    )
-}
-
 /// Makes a generation below the root, and tells its stamp.
 fn next_stamp(tree: &mut Tree) -> Result<u64, TreeError> {
     let root = tree.root();
@@ -200,18 +166,6 @@ fn tell_stamps(tree: &mut Tree, told: &mut Answered) -> Result<(), TreeError> {
     told.tell(large)?;
     told.tell(next_stamp(tree))?;
     Ok(told.tell(next_stamp(tree))?)
-}
-
-#[test]
-fn stamps_are_spent(rt: HostRuntime) -> Result<(), Fail> {
-    expect_told(
-        of_tree(rt.alloc(), u64::MAX, tell_stamps),
-        "Some(StampsSpent) Err(StampsSpent) Err(StampsSpent) ",
-    )?;
-    expect_told(
-        of_tree(rt.alloc(), u64::MAX - 1, tell_stamps),
-        "Some(Context(TooLarge)) Ok(18446744073709551615) Err(StampsSpent) ",
-    )
 }
 
 /// Makes a context that takes a chunk of zeros.
@@ -286,14 +240,6 @@ fn tell_descendants(tree: &mut Tree, told: &mut Answered) -> Result<(), TreeErro
     tell_deleted(tree, pass, told)
 }
 
-#[test]
-fn descendants_go_together(rt: HostRuntime) -> Result<(), Fail> {
-    expect_told(
-        of_tree(rt.alloc(), 7, tell_descendants),
-        "Ok(None) true Ok(8200) Ok(16392) Ok(32776) true false false true Ok(8192) Ok(16384) false Ok(8192) ",
-    )
-}
-
 /// Tells what a bump refuses.
 fn tell_bump(tree: &mut Tree, told: &mut Answered) -> Result<(), TreeError> {
     let root = tree.root();
@@ -312,21 +258,6 @@ fn tell_slab(tree: &mut Tree, told: &mut Answered) -> Result<(), TreeError> {
     told.tell(tree.alloc_zeroed(slab, TOO_LARGE))?;
     told.tell(tree.growth_for(slab, 39))?;
     Ok(told.tell(tree.growth_for(slab, 40))?)
-}
-
-/// Tells what contexts refuse by their kinds.
-fn tell_kinds(tree: &mut Tree, told: &mut Answered) -> Result<(), TreeError> {
-    tell_bump(tree, told)?;
-    tell_slab(tree, told)
-}
-
-#[test]
-fn contexts_refuse_by_their_kinds(rt: HostRuntime) -> Result<(), Fail> {
-    expect_told(
-        of_tree(rt.alloc(), 0, tell_kinds),
-        "[Some(Context(NotSupported)), Some(Context(NotSupported))] \
-         Err(Context(WrongSize)) Err(Context(TooLarge)) Ok(0) Ok(8192) ",
-    )
 }
 
 /// Makes a context below the root, and one more below that, and deletes both.
@@ -353,11 +284,6 @@ fn tell_slots(tree: &mut Tree, told: &mut Answered) -> Result<(), TreeError> {
     let highest = highest_slot(tree)?;
     told.tell(highest <= 3)?;
     Ok(told.tell(next_stamp(tree))?)
-}
-
-#[test]
-fn slots_are_used_again(rt: HostRuntime) -> Result<(), Fail> {
-    expect_told(of_tree(rt.alloc(), 0, tell_slots), "true Ok(2001) ")
 }
 
 /// Makes a context below one that is in a high slot, and another below the root, and deletes both. Answers the higher slot.
@@ -389,11 +315,6 @@ fn highest_in_turn(tree: &mut Tree) -> Result<u32, TreeError> {
 fn tell_rounds(tree: &mut Tree, told: &mut Answered) -> Result<(), TreeError> {
     told.tell(highest_in_turn(tree))?;
     Ok(told.tell(next_stamp(tree))?)
-}
-
-#[test]
-fn slots_stay_few_below_any_slot(rt: HostRuntime) -> Result<(), Fail> {
-    expect_told(of_tree(rt.alloc(), 0, tell_rounds), "Ok(3) Ok(2000004) ")
 }
 
 /// How many contexts a large tree has beside its root.
@@ -459,14 +380,6 @@ fn tell_deep(tree: &mut Tree, told: &mut Answered) -> Result<(), TreeError> {
     tell_next(tree, told)
 }
 
-#[test]
-fn a_tree_is_ten_thousand_deep(rt: HostRuntime) -> Result<(), Fail> {
-    expect_told(
-        of_tree(rt.alloc(), 0, tell_deep),
-        "Ok(819200) Ok(409600) Ok(409600) Ok(0) Ok(409600) Err(NoSuchContext) Ok(0) true ",
-    )
-}
-
 /// Tells what a wide tree holds, when one context in its middle is deleted, and when that above all of them is reset.
 fn tell_wide(tree: &mut Tree, told: &mut Answered) -> Result<(), TreeError> {
     let root = tree.root();
@@ -479,10 +392,60 @@ fn tell_wide(tree: &mut Tree, told: &mut Answered) -> Result<(), TreeError> {
     tell_next(tree, told)
 }
 
+/// Tells what a case names.
+fn tell_case(tree: &mut Tree, case: &str, told: &mut Answered) -> Result<(), TreeError> {
+    match case {
+        "chunks" => tell_chunks(tree, told),
+        "stale" => tell_stale(tree, told),
+        "stamps" => tell_stamps(tree, told),
+        "descendants" => tell_descendants(tree, told),
+        "bump" => tell_bump(tree, told),
+        "slab" => tell_slab(tree, told),
+        "slots" => tell_slots(tree, told),
+        "rounds" => tell_rounds(tree, told),
+        "deep" => tell_deep(tree, told),
+        _ => tell_wide(tree, told),
+    }
+}
+
+/// What is told of a case in a tree whose root has this stamp: `CASE STAMP`.
+fn told(alloc: Global, line: &str) -> Result<String, TreeError> {
+    let (case, stamp) = cut(line, " ");
+    let mut tree = Tree::with_stamp(alloc, stamp.parse().unwrap_or(0));
+    let mut told = Answered::new(alloc);
+    let outcome = tell_case(&mut tree, case, &mut told);
+    drop(tree);
+    outcome?;
+    let mut text = told.into_text();
+    text.pop();
+    Ok(text)
+}
+
+/// What trees answer. The id of a context that is gone reaches nothing, slots are used again, and stamps are not.
+const TOLD: &str = "\
+chunks 0 => Ok(true) Ok(true) Ok((true, true)) Ok(8192) Ok(9008)
+stale 0 => false Ok((true, 2)) false Err(RootKept) Err(NoSuchContext) Err(NoSuchContext) Err(NoSuchContext) \
+Err(NoSuchContext) Err(NoSuchContext) Err(NoSuchContext) Err(NoSuchContext) Err(NoSuchContext) \
+Err(NoSuchContext) Err(NoSuchContext) Err(NoSuchContext) Err(NoSuchContext)
+stamps 18446744073709551615 => Some(StampsSpent) Err(StampsSpent) Err(StampsSpent)
+stamps 18446744073709551614 => Some(Context(TooLarge)) Ok(18446744073709551615) Err(StampsSpent)
+descendants 7 => Ok(None) true Ok(8200) Ok(16392) Ok(32776) true false false true Ok(8192) Ok(16384) false Ok(8192)
+bump 0 => [Some(Context(NotSupported)), Some(Context(NotSupported))]
+slab 0 => Err(Context(WrongSize)) Err(Context(TooLarge)) Ok(0) Ok(8192)
+slots 0 => true Ok(2001)
+deep 0 => Ok(819200) Ok(409600) Ok(409600) Ok(0) Ok(409600) Err(NoSuchContext) Ok(0) true
+wide 0 => Ok(819200) Ok(8192) Ok(811008) Ok(811008) Ok(0) true
+";
+
+/// A million rounds.
+const ROUNDS: &str = "rounds 0 => Ok(3) Ok(2000004)";
+
 #[test]
-fn a_tree_is_ten_thousand_wide(rt: HostRuntime) -> Result<(), Fail> {
-    expect_told(
-        of_tree(rt.alloc(), 0, tell_wide),
-        "Ok(819200) Ok(8192) Ok(811008) Ok(811008) Ok(0) true ",
-    )
+fn slots_stay_few_below_any_slot(rt: HostRuntime) -> Result<(), Fail> {
+    expect_told_lines(rt, ROUNDS, told)
+}
+
+#[test]
+fn trees_answer(rt: HostRuntime) -> Result<(), Fail> {
+    expect_told_lines(rt, TOLD, told)
 }
