@@ -4,7 +4,7 @@ use std::alloc::{AllocError, Global};
 use std::io;
 use std::io::{Error, ErrorKind, Read, Write};
 use std::test::*;
-use test_cases::{cut, expect_told_lines};
+use test_cases::{cut, expect_lines};
 
 // A reader that gives a byte a call, up to a number of bytes, and then answers an error of this kind, once.
 #[derive(Drop)]
@@ -106,27 +106,10 @@ fn taken_of(alloc: Global, size: u32, most: u32) -> Result<String, AllocError> {
     }
 }
 
-/// The bytes that a reader has, the limit, and how many are taken where they are over it, or that all come as they are.
-const SIZES: &str = "\
-0 0 => true
-1 0 => 1
-5 5 => true
-6 5 => 6
-8191 8192 => true
-8192 8192 => true
-8193 8192 => 8193
-20000 20000 => true
-20001 20000 => 20001";
-
 /// The same of a size and a limit.
 fn taken(alloc: Global, case: &str) -> Result<String, AllocError> {
     let (size, most) = cut(case, " ");
     taken_of(alloc, size.parse().unwrap_or(0), most.parse().unwrap_or(0))
-}
-
-#[test]
-fn reads_up_to_the_limit(rt: HostRuntime) -> Result<(), Fail> {
-    expect_told_lines(rt, SIZES, taken)
 }
 
 /// Whether a reader without an end is refused.
@@ -134,13 +117,6 @@ fn is_refused(alloc: Global, most: u32) -> bool {
     let mut reader = Fused::new(io::repeat(b'x'));
     let result = read_input(alloc, &mut reader, most as usize);
     matches!(&result, Err(InputError::TooLong)) && reader.fault().is_none()
-}
-
-#[test]
-fn refuses_a_reader_without_an_end(rt: HostRuntime) {
-    for most in [0u32, 1, 8191, 8192, 100_000] {
-        assert!(rt; is_refused(rt.alloc(), most), "at {most}");
-    }
 }
 
 /// Whether what a reader has left can't be read, for a fault of this kind.
@@ -171,13 +147,6 @@ fn stops_at_each(alloc: Global, sound: usize) -> bool {
     stops(alloc, sound, ErrorKind::Other)
         && stops(alloc, sound, ErrorKind::Interrupted)
         && stops(alloc, sound, ErrorKind::UnexpectedEof)
-}
-
-#[test]
-fn stops_at_a_fault_of_the_reader(rt: HostRuntime) {
-    for sound in [0usize, 1, 5] {
-        assert!(rt; stops_at_each(rt.alloc(), sound), "at {sound}");
-    }
 }
 
 /// Tells the fields of a record, with `|` after each.
@@ -234,35 +203,6 @@ fn records_of(alloc: Global, script: &str) -> Result<String, AllocError> {
     records_told(alloc, &script)
 }
 
-/// Scripts and their records.
-const RECORDS: &str = "\
-/\r// => 
- => 
-a,b/c/ => a|b|;c|;
-a,b\r/c,d,e\r/\r/f => a|b|;c|d|e|;f|;
-a\rb => a|;b|;
-,/ => ||;
-\"\"/ => |;
-\"a,\"\"b\"\"/c\",d/ => a,\"b\"/c|d|;
-a\"b\",\" c \"/ => a\"b\"| c |;
-\"open,//to the end => open,//to the end|;
-\u{feff}a,b/ => a|b|;
-a/\u{feff}b/ => a|;\u{feff}b|;";
-
-#[test]
-fn reads_the_records(rt: HostRuntime) -> Result<(), Fail> {
-    expect_told_lines(rt, RECORDS, records_of)
-}
-
-/// How many of five records are passed over in turn, and which are left.
-const PASSED: &str = "\
-0 0 => a|;b|;c|;d|;e|;
-2 0 => c|;d|;e|;
-2 2 => e|;
-2 9 => 
-5 1 => 
-18446744073709551615 18446744073709551615 => ";
-
 /// Tells the records that are left where so many are passed over, and then so many again.
 fn tell_left(
     alloc: Global,
@@ -286,11 +226,6 @@ fn left(alloc: Global, case: &str) -> Result<String, AllocError> {
     drop(records);
     told?;
     Ok(text)
-}
-
-#[test]
-fn passes_over_records_past_the_end(rt: HostRuntime) -> Result<(), Fail> {
-    expect_told_lines(rt, PASSED, left)
 }
 
 /// Whether a text is written to a writer with so much room, or else its front, and a fault is told then, and stays.
@@ -324,13 +259,6 @@ fn fills_at_each_end(rt: HostRuntime, a_call: usize) -> bool {
         && fills_any(rt, a_call, AtRoom::Fail(ErrorKind::Interrupted))
 }
 
-#[test]
-fn writes_all_or_the_front(rt: HostRuntime) {
-    for a_call in [1usize, 3, 100] {
-        assert!(rt; fills_at_each_end(rt, a_call), "at {a_call}");
-    }
-}
-
 /// Whether a writer of so much room is flushed when it is asked to, and then alone. Then how often it is, if that is asked twice.
 fn flushes(rt: HostRuntime, room: usize) -> (bool, usize) {
     let at_room = AtRoom::Fail(ErrorKind::StorageFull);
@@ -344,33 +272,99 @@ fn flushes(rt: HostRuntime, room: usize) -> (bool, usize) {
     (is_written && is_told, short.flushes)
 }
 
-#[test]
-fn flushes_the_writer_behind(rt: HostRuntime) {
-    assert!(rt;
-        flushes(rt, 8) == (true, 2),
-        "twice, and not by what writes"
-    );
-    assert!(rt;
-        flushes(rt, 0) == (true, 1),
-        "a flush that failed is not tried again"
-    );
-}
-
-#[test]
-fn writes_nothing_without_a_call(rt: HostRuntime) {
+/// Whether a text is written to a writer that takes nothing, and again, whether there is no fault then, and whether the writer is flushed.
+/// Then how often it was asked to write.
+fn asks(rt: HostRuntime, text: &[u8]) -> ([bool; 4], usize) {
     let mut short = ShortWriter::new(rt.alloc(), 0, 1, AtRoom::TakeNone);
     let mut writer = Fused::new(&mut short);
-    assert!(rt; put_all(&mut writer, b"").is_ok());
-    assert!(rt; writer.fault().is_none());
-    assert_eq!(rt; short.calls, 0);
+    let first = put_all(&mut writer, text).is_ok();
+    let again = put_all(&mut writer, text).is_ok();
+    let is_sound = writer.fault().is_none();
+    let flushed = writer.flush().is_ok();
+    ([first, again, is_sound, flushed], short.calls)
 }
 
+/// What is told of a writer: `WHAT: NUMBER`, or `asks: TEXT`.
+fn told_of_writer(rt: HostRuntime, what: &str, case: &str) -> Result<String, AllocError> {
+    let number = case.parse().unwrap_or(0);
+    match what {
+        "fills" => format!(in rt.alloc(); "{}", fills_at_each_end(rt, number)),
+        "flushes" => format!(in rt.alloc(); "{:?}", flushes(rt, number)),
+        _ => format!(in rt.alloc(); "{:?}", asks(rt, case.as_bytes())),
+    }
+}
+
+/// What is told of a case: `WHAT: CASE`.
+fn told(rt: HostRuntime, line: &str) -> Result<String, Fail> {
+    let alloc = rt.alloc();
+    let (what, case) = cut(line, ": ");
+    let told = match what {
+        "reads" => taken(alloc, case),
+        "records" => records_of(alloc, case),
+        "left" => left(alloc, case),
+        "endless" => format!(in alloc; "{}", is_refused(alloc, case.parse().unwrap_or(7))),
+        "stops" => format!(in alloc; "{}", stops_at_each(alloc, case.parse().unwrap_or(7))),
+        _ => told_of_writer(rt, what, case),
+    };
+    Ok(told?)
+}
+
+/// The bytes that a reader has, the limit, and how many are taken where they are over it, or that all come as they are. Then the limits of
+/// a reader without an end, which is refused, and how many bytes come before a fault of a reader, which is told, and asked no more.
+const READ: &str = "\
+reads: 0 0 => true
+reads: 1 0 => 1
+reads: 5 5 => true
+reads: 6 5 => 6
+reads: 8191 8192 => true
+reads: 8192 8192 => true
+reads: 8193 8192 => 8193
+reads: 20000 20000 => true
+reads: 20001 20000 => 20001
+endless: 0 => true
+endless: 1 => true
+endless: 8191 => true
+endless: 8192 => true
+endless: 100000 => true
+stops: 0 => true
+stops: 1 => true
+stops: 5 => true";
+
+/// Scripts and their records. Then how many of five records are passed over in turn, and which are left.
+const RECORDS: &str = "\
+records: /\r// => 
+records:  => 
+records: a,b/c/ => a|b|;c|;
+records: a,b\r/c,d,e\r/\r/f => a|b|;c|d|e|;f|;
+records: a\rb => a|;b|;
+records: ,/ => ||;
+records: \"\"/ => |;
+records: \"a,\"\"b\"\"/c\",d/ => a,\"b\"/c|d|;
+records: a\"b\",\" c \"/ => a\"b\"| c |;
+records: \"open,//to the end => open,//to the end|;
+records: \u{feff}a,b/ => a|b|;
+records: a/\u{feff}b/ => a|;\u{feff}b|;
+left: 0 0 => a|;b|;c|;d|;e|;
+left: 2 0 => c|;d|;e|;
+left: 2 2 => e|;
+left: 2 9 => 
+left: 5 1 => 
+left: 18446744073709551615 18446744073709551615 => ";
+
+/// How many bytes a writer takes at a call: it takes all or the front. A flush is asked for twice, of a writer that has room and of one
+/// that has none; one that failed is not tried again. A writer that takes nothing is not asked for nothing, and once it failed no more.
+const WRITTEN: &str = "\
+fills: 1 => true
+fills: 3 => true
+fills: 100 => true
+flushes: 8 => (true, 2)
+flushes: 0 => (true, 1)
+asks:  => ([true, true, true, true], 0)
+asks: x => ([false, false, false, false], 1)";
+
 #[test]
-fn asks_a_failed_writer_no_more(rt: HostRuntime) {
-    let mut short = ShortWriter::new(rt.alloc(), 0, 1, AtRoom::TakeNone);
-    let mut writer = Fused::new(&mut short);
-    assert!(rt; put_all(&mut writer, b"x").is_err());
-    assert!(rt; put_all(&mut writer, b"x").is_err());
-    assert!(rt; writer.flush().is_err());
-    assert_eq!(rt; short.calls, 1);
+fn streams_give_and_take(rt: HostRuntime) -> Result<(), Fail> {
+    expect_lines(rt, READ, told)?;
+    expect_lines(rt, RECORDS, told)?;
+    expect_lines(rt, WRITTEN, told)
 }
