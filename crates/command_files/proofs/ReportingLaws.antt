@@ -1,5 +1,5 @@
 -- What was printed after something else was said or printed.
-use Rattle.std.specs.Prelude.{◌≡◌, true, false, ℕ, List, [], ◌++◌, length, Option}
+use Rattle.std.specs.Prelude.{◌≡◌, refl, true, false, ℕ, List, [], ◌++◌, length, Option}
 use Rattle.std.specs.Io.KnownBytes.{Appends, Keeps}
 use Rattle.std.proofs.Common.{◌∙◌, sym, subst}
 use Rattle.std.proofs.KnownBytes.{Appends-kept, Appends-nil, Appends-trans}
@@ -14,6 +14,10 @@ use Rattle.replies.specs.declared.refusal.Refusal.{Refusal}
 use Rattle.command_streams.specs.Stopping.{RepliesRefused}
 use Rattle.command_files.specs.Reporting.{file_on_output, output_of, reply_on_output, OnlySays, Prints, PrintsTable, Saves}
 use Rattle.command_files.specs.declared.reporter.Reporter.{Reporter}
+
+-- nothing was said
+pub says_nothing : {W E : Type 0} (reporter : Reporter W E) → OnlySays reporter reporter
+says_nothing reporter = record { output = refl; piped = refl }
 
 -- something was said, and then more
 pub says_more : {W E : Type 0} (old mid new : Reporter W E) → OnlySays old mid → OnlySays mid new → OnlySays old new

@@ -1,9 +1,10 @@
 -- Commands that do their work, and what was said or sent out beside that.
-use Rattle.std.specs.Prelude.{◌≡◌, ℕ, Bool, List, Option, Result, Ok, Err, OnOk}
+use Rattle.std.specs.Prelude.{◌≡◌, ◌≢◌, refl, ◌⊎◌, ℕ, Bool, true, List, Option, Some, Result, Ok, Err, IfErr, OnOk}
 use Rattle.std.specs.Io.KnownBytes.{Appends, Keeps}
-use Rattle.std.proofs.Common.{ap, subst, sym}
-use Rattle.std.proofs.KnownBytes.{Appends-kept}
+use Rattle.std.proofs.Common.{◌∙◌, ap, inl, inr, subst, sym}
+use Rattle.std.proofs.KnownBytes.{Appends-kept, Keeps-refl, Keeps-trans}
 use Rattle.grouping_model.specs.Replies.{known_list}
+use Rattle.clap.specs.declared.parser.matches.ArgMatches.{ArgMatches}
 use Rattle.hash_agg.specs.Means.{MeansState}
 use Rattle.hash_agg.specs.declared.work.Work.{Work}
 use Rattle.tape_disks.specs.Files.{SystemState}
@@ -11,16 +12,23 @@ use Rattle.tape_disks.specs.declared.spill_disk.SpillDisk.{SpillDisk}
 use Rattle.script_io.specs.Fused.{written}
 use Rattle.replica_merge.specs.Replicas.{Held, told}
 use Rattle.replies.specs.KnownTables.{known_in}
+use Rattle.replies.specs.declared.ending.ExitKind.{ExitKind}
+use Rattle.replies.specs.declared.ending.ExitKind.TheVariants.{Fault}
 use Rattle.replies.specs.declared.showing.Format.{Format}
 use Rattle.replies.specs.declared.showing.KnownFormat.{KnownFormat}
 use Rattle.command_words.specs.declared.subcommands.Subcommand.{Subcommand}
 use Rattle.command_words.specs.declared.subcommands.Subcommand.TheVariants.{New, Feed, Merge, Known, Answer}
+use Rattle.command_words.specs.Told.{is_out_stream, limit_told}
+use Rattle.command_streams.specs.Stopping.{ending_of, EndsRefused}
+use Rattle.command_streams.specs.declared.problem.Problem.{Problem}
+use Rattle.key_hashes.specs.declared.hash.Fnv1a.{Fnv1a}
+use Rattle.command_files.specs.Limits.{limit_of}
 use Rattle.command_files.specs.Reporting.{output_of, OnlySays, Prints, PrintsTable, Saves}
-use Rattle.command_files.specs.Running.{standpoint_of, AnswersHeld, BeginsWith, IsDone, Performs, RunsCommand, SavesHeld, Standpoint}
-use Rattle.command_files.specs.Running.{TakesAndSaves}
+use Rattle.command_files.specs.Running.{standpoint_of, AnswersHeld, BeginsWith, IsDone, IsDoneOrSilent, Performs, RunsCommand, SavesHeld}
+use Rattle.command_files.specs.Running.{StandsAsTold, Standpoint, TakesAndSaves}
 use Rattle.command_files.specs.Taking.{CommandState, Manner, TakesAll, state_of}
 use Rattle.command_files.specs.declared.reporter.Reporter.{Reporter}
-use Rattle.command_files.proofs.ReportingLaws.{saves_behind}
+use Rattle.command_files.proofs.ReportingLaws.{says_more, saves_behind}
 
 -- a replica was saved, and what that wrote
 pub saves_held : {W E A X : Type 0} (contents : W → Option (List ℕ)) (held : Held) (old new : Reporter W E) (result : Result A X)
@@ -31,29 +39,28 @@ saves_held contents held old new (Ok value) saves =
 saves_held contents held old new (Err error) saves = tt
 
 -- what is known was printed
-pub lists_held : {W E A X : Type 0} (contents : W → Option (List ℕ)) (format : KnownFormat) (held : Held) (old new : Reporter W E)
-    (result : Result A X) → OnOk result (Prints contents old new (known_in format (known_list (told held.parts))))
-    → OnOk result ((format : KnownFormat)
-    × Appends (output_of contents old) (output_of contents new) (known_in format (known_list (told held.parts))))
-lists_held contents format held old new (Ok value) prints = (format, prints.output)
-lists_held contents format held old new (Err error) prints = tt
+pub lists_held : {W E A X : Type 0} (contents : W → Option (List ℕ)) (format told_format : KnownFormat) (held : Held)
+    (old new : Reporter W E) (result : Result A X) → format ≡ told_format
+    → OnOk result (Prints contents old new (known_in format (known_list (told held.parts))))
+    → OnOk result (Appends (output_of contents old) (output_of contents new) (known_in told_format (known_list (told held.parts))))
+lists_held contents format told_format held old new (Ok value) same prints =
+    subst (λ f. Appends (output_of contents old) (output_of contents new) (known_in f (known_list (told held.parts)))) same prints.output
+lists_held contents format told_format held old new (Err error) same prints = tt
 
 -- an answer was printed
-pub answers_held : {W E A X : Type 0} (contents : W → Option (List ℕ)) (format : Format) (held : Held) (old new : Reporter W E)
-    (result : Result A X) → OnOk result (PrintsTable contents format held old new)
-    → OnOk result ((format : Format) × AnswersHeld format held (output_of contents old) (output_of contents new))
-answers_held contents format held old new (Ok value) table = (
-  format,
-  record {
-    rows = table.rows;
-    table = table.table;
-    foot = table.foot;
-    answers = table.answers;
-    footless = table.footless;
-    printed = table.printed.output;
-  },
-)
-answers_held contents format held old new (Err error) table = tt
+pub answers_held : {W E A X : Type 0} (contents : W → Option (List ℕ)) (format told_format : Format) (held : Held)
+    (old new : Reporter W E) (result : Result A X) → format ≡ told_format → OnOk result (PrintsTable contents format held old new)
+    → OnOk result (AnswersHeld told_format held (output_of contents old) (output_of contents new))
+answers_held contents format told_format held old new (Ok value) same table =
+    subst (λ f. AnswersHeld f held (output_of contents old) (output_of contents new)) same (record {
+      rows = table.rows;
+      table = table.table;
+      foot = table.foot;
+      answers = table.answers;
+      footless = table.footless;
+      printed = table.printed.output;
+    })
+answers_held contents format told_format held old new (Err error) same table = tt
 
 -- files were taken, something was said, and the replica was saved
 pub takes_and_saves : {F H W E : Type 0} (contents : W → Option (List ℕ)) (manner : Manner H) (count : ℕ) (old : CommandState F)
@@ -69,16 +76,24 @@ takes_and_saves contents manner count old held disk work passed passed_now taken
           (record { file = all.file; saved = all.saved; printed = all.printed.output });
     }
 
+-- so many files were taken, as another number says
+pub takes_counted : {F H A X : Type 0} (manner : Manner H) (count many : ℕ) (old : CommandState F) (passed passed_now : ℕ)
+    (output : Option (List ℕ)) (result : Result A X) → count ≡ many → OnOk result (TakesAndSaves manner count old passed passed_now output)
+    → OnOk result (TakesAndSaves manner many old passed passed_now output)
+takes_counted manner count many old passed passed_now output result same takes =
+    subst (λ n. OnOk result (TakesAndSaves manner n old passed passed_now output)) same takes
+
 -- a command did its work from where it stood, which is the same place
-pub performs_as : {F H W E : Type 0} (contents : W → Option (List ℕ)) (subcommand : Subcommand) (means : MeansState H) (held : Held)
+pub performs_as : {F H W E : Type 0} (contents : W → Option (List ℕ)) (subcommand : Subcommand) (matches : ArgMatches)
+    (means : MeansState H) (held : Held)
     (disk first : SpillDisk (SystemState F)) (work begun : Work) (listed was_listed : Option ℕ) (passed was_passed passed_now : ℕ)
     (old mid : Reporter W E) (output : Option (List ℕ)) → disk ≡ first → work ≡ begun → listed ≡ was_listed → passed ≡ was_passed
-    → OnlySays old mid → Performs subcommand means held (standpoint_of contents disk work listed passed mid) passed_now output
-    → Performs subcommand means held (standpoint_of contents first begun was_listed was_passed old) passed_now output
-performs_as {F} contents subcommand means held disk first work begun listed was_listed passed was_passed passed_now old mid output same_disk
-    same_work same_listed same_passed says done =
+    → OnlySays old mid → Performs subcommand matches means held (standpoint_of contents disk work listed passed mid) passed_now output
+    → Performs subcommand matches means held (standpoint_of contents first begun was_listed was_passed old) passed_now output
+performs_as {F} contents subcommand matches means held disk first work begun listed was_listed passed was_passed passed_now old mid output
+    same_disk same_work same_listed same_passed says done =
     let at = λ (d : SpillDisk (SystemState F)) (w : Work) (l : Option ℕ) (n : ℕ) (p : Bool) (o : Option (List ℕ)).
-    Performs subcommand means held
+    Performs subcommand matches means held
     (record { disk = d; work = w; listed = l; passed = n; is_piped = p; output = o }) passed_now output in
     subst (λ d. at d begun was_listed was_passed old.is_piped (output_of contents old)) same_disk
     (subst (λ w. at disk w was_listed was_passed old.is_piped (output_of contents old)) same_work
@@ -88,19 +103,20 @@ performs_as {F} contents subcommand means held disk first work begun listed was_
     (subst (λ o. at disk work listed passed mid.is_piped o) (ap (written contents) says.output) done)))))
 
 -- a command did its work, of the replica that it began with
-pub runs_command : {F H W E A X : Type 0} (contents : W → Option (List ℕ)) (subcommand : Subcommand) (means : MeansState H) (held : Held)
+pub runs_command : {F H W E A X : Type 0} (contents : W → Option (List ℕ)) (subcommand : Subcommand) (matches : ArgMatches)
+    (means : MeansState H) (held : Held)
     (disk first : SpillDisk (SystemState F)) (work begun : Work) (listed was_listed : Option ℕ) (passed was_passed passed_now : ℕ)
-    (old mid : Reporter W E) (output : Option (List ℕ)) (done : Result A X) → BeginsWith subcommand held → disk ≡ first → work ≡ begun
-    → listed ≡ was_listed → passed ≡ was_passed → OnlySays old mid
-    → OnOk done (Performs subcommand means held (standpoint_of contents disk work listed passed mid) passed_now output)
-    → OnOk done (RunsCommand subcommand means (standpoint_of contents first begun was_listed was_passed old) passed_now output)
-runs_command contents subcommand means held disk first work begun listed was_listed passed was_passed passed_now old mid output (Err error)
-    begins same_disk same_work same_listed same_passed says performs = tt
-runs_command contents subcommand means held disk first work begun listed was_listed passed was_passed passed_now old mid output (Ok value)
-    begins same_disk same_work same_listed same_passed says performs = (
+    (old mid : Reporter W E) (output : Option (List ℕ)) (done : Result A X) → BeginsWith subcommand matches held → disk ≡ first
+    → work ≡ begun → listed ≡ was_listed → passed ≡ was_passed → OnlySays old mid
+    → OnOk done (Performs subcommand matches means held (standpoint_of contents disk work listed passed mid) passed_now output)
+    → OnOk done (RunsCommand subcommand matches means (standpoint_of contents first begun was_listed was_passed old) passed_now output)
+runs_command contents subcommand matches means held disk first work begun listed was_listed passed was_passed passed_now old mid output
+    (Err error) begins same_disk same_work same_listed same_passed says performs = tt
+runs_command contents subcommand matches means held disk first work begun listed was_listed passed was_passed passed_now old mid output
+    (Ok value) begins same_disk same_work same_listed same_passed says performs = (
       held,
       begins,
-      performs_as contents subcommand means held disk first work begun listed was_listed passed was_passed passed_now old mid
+      performs_as contents subcommand matches means held disk first work begun listed was_listed passed was_passed passed_now old mid
           output same_disk same_work same_listed same_passed says performs,
     )
 
@@ -116,49 +132,130 @@ takes_kept manner count old passed passed_now output sent kept done =
     record { mid = done.mid; takes = done.takes; saves = saves_kept _ _ _ output sent kept done.saves }
 
 -- all was sent out after a command did its work
-performs_kept : {F H : Type 0} (subcommand : Subcommand) (means : MeansState H) (held : Held) (from : Standpoint F) (passed_now : ℕ)
-    (output sent : Option (List ℕ)) → Keeps output sent → Performs subcommand means held from passed_now output
-    → Performs subcommand means held from passed_now sent
-performs_kept New means held from passed_now output sent kept saves =
+performs_kept : {F H : Type 0} (subcommand : Subcommand) (matches : ArgMatches) (means : MeansState H) (held : Held)
+    (from : Standpoint F) (passed_now : ℕ) (output sent : Option (List ℕ)) → Keeps output sent
+    → Performs subcommand matches means held from passed_now output → Performs subcommand matches means held from passed_now sent
+performs_kept New matches means held from passed_now output sent kept saves =
     saves_kept _ _ _ output sent kept saves
-performs_kept Known means held from passed_now output sent kept (format, printed) = (format, Appends-kept _ _ _ _ printed kept)
-performs_kept Answer means held from passed_now output sent kept (format, table) = (
-  format,
-  record {
-    rows = table.rows;
-    table = table.table;
-    foot = table.foot;
-    answers = table.answers;
-    footless = table.footless;
-    printed = Appends-kept _ _ _ _ table.printed kept;
-  },
-)
-performs_kept Feed means held from passed_now output sent kept (count, done) = (count, takes_kept _ _ _ _ _ output sent kept done)
-performs_kept Merge means held from passed_now output sent kept (count, done) = (count, takes_kept _ _ _ _ _ output sent kept done)
+performs_kept Known matches means held from passed_now output sent kept printed = Appends-kept _ _ _ _ printed kept
+performs_kept Answer matches means held from passed_now output sent kept table = record {
+  rows = table.rows;
+  table = table.table;
+  foot = table.foot;
+  answers = table.answers;
+  footless = table.footless;
+  printed = Appends-kept _ _ _ _ table.printed kept;
+}
+performs_kept Feed matches means held from passed_now output sent kept done = takes_kept _ _ _ _ _ output sent kept done
+performs_kept Merge matches means held from passed_now output sent kept done = takes_kept _ _ _ _ _ output sent kept done
 
-pub done_kept : (F : Type 0) (subcommand : Subcommand) (limit : ℕ) (old output sent : Option (List ℕ)) → Keeps output sent
-    → IsDone F subcommand limit old output → IsDone F subcommand limit old sent
-done_kept F subcommand limit old output sent kept done = record {
+pub done_kept : (F : Type 0) (subcommand : Subcommand) (matches : ArgMatches) (passed : ℕ) (old output sent : Option (List ℕ))
+    → Keeps output sent → IsDone F subcommand matches passed old output → IsDone F subcommand matches passed old sent
+done_kept F subcommand matches passed old output sent kept done = record {
   means = done.means;
   from = done.from;
   limited = done.limited;
+  stands = done.stands;
   begun = done.begun;
   runs = (
     done.runs.0,
     done.runs.1,
-    performs_kept subcommand done.means done.runs.0 done.from 0 output sent kept done.runs.2,
+    performs_kept subcommand matches done.means done.runs.0 done.from passed output sent kept done.runs.2,
   );
 }
 
 -- something was said before a command, or behind it
-pub done_behind : {W E : Type 0} (F : Type 0) (contents : W → Option (List ℕ)) (subcommand : Subcommand) (limit : ℕ)
-    (old mid : Reporter W E) (output : Option (List ℕ)) → mid.streams.writer.now ≡ old.streams.writer.now
-    → IsDone F subcommand limit (output_of contents mid) output → IsDone F subcommand limit (output_of contents old) output
-done_behind F contents subcommand limit old mid output same done =
-    subst (λ w. IsDone F subcommand limit (written contents w) output) same done
+pub done_behind : {W E : Type 0} (F : Type 0) (contents : W → Option (List ℕ)) (subcommand : Subcommand) (matches : ArgMatches)
+    (passed : ℕ) (old mid : Reporter W E) (output : Option (List ℕ)) → mid.streams.writer.now ≡ old.streams.writer.now
+    → IsDone F subcommand matches passed (output_of contents mid) output
+    → IsDone F subcommand matches passed (output_of contents old) output
+done_behind F contents subcommand matches passed old mid output same done =
+    subst (λ w. IsDone F subcommand matches passed (written contents w) output) same done
 
-pub done_before : {W E : Type 0} (F : Type 0) (contents : W → Option (List ℕ)) (subcommand : Subcommand) (limit : ℕ)
-    (old : Option (List ℕ)) (mid new : Reporter W E) → OnlySays mid new → IsDone F subcommand limit old (output_of contents mid)
-    → IsDone F subcommand limit old (output_of contents new)
-done_before F contents subcommand limit old mid new says done =
-    subst (λ w. IsDone F subcommand limit old (written contents w)) (sym says.output) done
+pub done_before : {W E : Type 0} (F : Type 0) (contents : W → Option (List ℕ)) (subcommand : Subcommand) (matches : ArgMatches)
+    (passed : ℕ) (old : Option (List ℕ)) (mid new : Reporter W E) → OnlySays mid new
+    → IsDone F subcommand matches passed old (output_of contents mid) → IsDone F subcommand matches passed old (output_of contents new)
+done_before F contents subcommand matches passed old mid new says done =
+    subst (λ w. IsDone F subcommand matches passed old (written contents w)) (sym says.output) done
+
+-- ---- commands that stop where OUT is standard output
+
+-- nothing was written
+pub silent_said : {W E : Type 0} (F : Type 0) (contents : W → Option (List ℕ)) (subcommand : Subcommand) (matches : ArgMatches)
+    (old new : Reporter W E) → OnlySays old new → IsDoneOrSilent F subcommand matches (output_of contents old) (output_of contents new)
+silent_said F contents subcommand matches old new says =
+    inr (subst (λ w. Keeps (output_of contents old) (written contents w)) (sym says.output) (Keeps-refl (output_of contents old)))
+
+-- a command was refused after something was said
+pub refused_silently : {W E : Type 0} (F : Type 0) (contents : W → Option (List ℕ)) (subcommand : Subcommand) (matches : ArgMatches)
+    (old mid new : Reporter W E) → OnlySays old mid → old.is_piped ≡ is_out_stream subcommand matches
+    → is_out_stream subcommand matches ≡ true → (mid.is_piped ≡ true → OnlySays mid new)
+    → IsDoneOrSilent F subcommand matches (output_of contents old) (output_of contents new)
+refused_silently F contents subcommand matches old mid new says told piped silent =
+    silent_said F contents subcommand matches old new (says_more old mid new says (silent (says.piped ∙ told ∙ piped)))
+
+-- something was said before that, or behind it
+pub stopped_behind : {W E : Type 0} (F : Type 0) (contents : W → Option (List ℕ)) (subcommand : Subcommand) (matches : ArgMatches)
+    (old mid : Reporter W E) (output : Option (List ℕ)) → mid.streams.writer.now ≡ old.streams.writer.now
+    → IsDoneOrSilent F subcommand matches (output_of contents mid) output
+    → IsDoneOrSilent F subcommand matches (output_of contents old) output
+stopped_behind F contents subcommand matches old mid output same stopped =
+    subst (λ w. IsDoneOrSilent F subcommand matches (written contents w) output) same stopped
+
+pub stopped_before : {W E : Type 0} (F : Type 0) (contents : W → Option (List ℕ)) (subcommand : Subcommand) (matches : ArgMatches)
+    (old : Option (List ℕ)) (mid new : Reporter W E) → OnlySays mid new → IsDoneOrSilent F subcommand matches old (output_of contents mid)
+    → IsDoneOrSilent F subcommand matches old (output_of contents new)
+stopped_before F contents subcommand matches old mid new says stopped =
+    subst (λ w. IsDoneOrSilent F subcommand matches old (written contents w)) (sym says.output) stopped
+
+-- all was sent out then
+pub stopped_kept : (F : Type 0) (subcommand : Subcommand) (matches : ArgMatches) (old output sent : Option (List ℕ)) → Keeps output sent
+    → IsDoneOrSilent F subcommand matches old output → IsDoneOrSilent F subcommand matches old sent
+stopped_kept F subcommand matches old output sent kept (inl done) =
+    inl (done.0, done_kept F subcommand matches done.0 old output sent kept done.1)
+stopped_kept F subcommand matches old output sent kept (inr silent) = inr (Keeps-trans old output sent silent kept)
+
+-- a command did its work, and something was said, or it stopped before it wrote anything
+pub stopped_by : {F H W E T : Type 0} (contents : W → Option (List ℕ)) (subcommand : Subcommand) (matches : ArgMatches)
+    (means : MeansState H) (from : Standpoint F) (old mid said new : Reporter W E) (done : Result T Problem) (exit : ExitKind)
+    (passed passed_said passed_now : ℕ)
+    → OnOk done (RunsCommand subcommand matches means from passed (output_of contents mid))
+    → IfErr done (λ problem. ending_of problem.why ≢ Fault → OnlySays old mid) → OnlySays mid said
+    → OnOk done (OnlySays said new) → (said.is_piped ≡ true → OnlySays said new) → IfErr done (λ problem. EndsRefused problem.why exit)
+    → passed_said ≡ passed → passed_now ≡ passed_said → old.is_piped ≡ true → exit ≢ Fault
+    → RunsCommand subcommand matches means from passed_now (output_of contents new) ⊎ OnlySays old new
+stopped_by contents subcommand matches means from old mid said new (Ok value) exit passed passed_said passed_now runs unput says told silent
+    ends same same_now piped sound =
+    let more = says_more mid said new says told in
+    inl (subst (λ n. RunsCommand subcommand matches means from n (output_of contents new)) (sym (same_now ∙ same))
+    (subst (λ w. RunsCommand subcommand matches means from passed (written contents w)) (sym more.output) runs))
+stopped_by contents subcommand matches means from old mid said new (Err problem) exit passed passed_said passed_now runs unput says told
+    silent ends same same_now piped sound = by_ending ends
+  where
+    by_ending : EndsRefused problem.why exit
+        → RunsCommand subcommand matches means from passed_now (output_of contents new) ⊎ OnlySays old new
+    by_ending (inr fault) = absurd (sound fault)
+    by_ending (inl ended) =
+        let before = says_more old mid said (unput (λ fault. sound (ended ∙ fault))) says in
+        inr (says_more old said new before (silent (before.piped ∙ piped)))
+
+-- and that was by its means, from where it stood
+pub stopped_as : {F W E : Type 0} (contents : W → Option (List ℕ)) (subcommand : Subcommand) (matches : ArgMatches)
+    (means : MeansState Fnv1a) (disk : SpillDisk (SystemState F)) (work : Work) (listed : Option ℕ) (passed passed_now : ℕ)
+    (old new : Reporter W E) → limit_of (limit_told subcommand matches) ≡ Some means.limit
+    → StandsAsTold subcommand matches (standpoint_of contents disk work listed passed old)
+    → (RunsCommand subcommand matches means (standpoint_of contents disk work listed passed old) passed_now (output_of contents new)
+    ⊎ OnlySays old new) → IsDoneOrSilent F subcommand matches (output_of contents old) (output_of contents new)
+stopped_as contents subcommand matches means disk work listed passed passed_now old new limited stands (inl runs) = inl (
+  passed_now,
+  record {
+    means = means;
+    from = standpoint_of contents disk work listed passed old;
+    limited = limited;
+    stands = stands;
+    begun = refl;
+    runs = runs;
+  },
+)
+stopped_as {F} contents subcommand matches means disk work listed passed passed_now old new limited stands (inr says) =
+    silent_said F contents subcommand matches old new says

@@ -1,7 +1,10 @@
 -- What becomes of a file in the place of OUT. All of this is our own.
-use Rattle.std.specs.Prelude.{◌≡◌, ◌==◌, ℕ, Bool, true, false, Option, Some, None, Result, Ok, Err, IsErr, if◌then◌else◌}
+use Rattle.std.specs.Prelude.{◌≡◌, ◌==◌, ℕ, Bool, codes, true, false, Option, Some, None, Result, Ok, Err, IsErr, if◌then◌else◌}
 use Rattle.out_files.specs.declared.occupant.Occupant.{Occupant}
 use Rattle.out_files.specs.declared.occupant.Occupant.TheVariants.{Another, Listed}
+use Rattle.command_words.specs.Told.{IsFlagTold}
+use Rattle.command_words.specs.declared.subcommands.Subcommand.{Subcommand}
+use Rattle.clap.specs.declared.parser.matches.ArgMatches.{ArgMatches}
 use Rattle.file_sentences.specs.Standing.{is_foreign}
 use Rattle.file_sentences.specs.declared.out.Fate.{Fate}
 use Rattle.file_sentences.specs.declared.out.Fate.TheVariants.{Replaced, Spared, Forced}
@@ -33,3 +36,7 @@ abbrev pub IsFile : Occupant → (keeps : Bool) → Type 0
 IsFile Another false = Unit {0}
 IsFile (Listed place) keeps = Unit {0}
 IsFile occupant keeps = ⊥
+
+-- a command line does not force its command
+abbrev pub IsUnforced : Subcommand → ArgMatches → Type 0
+IsUnforced subcommand matches = (told : Bool) → IsFlagTold subcommand matches (codes "force") told → told ≡ false

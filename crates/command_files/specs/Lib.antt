@@ -1,4 +1,5 @@
 pub mod Limits
+pub mod Texts
 pub mod Taking
 pub mod Fates
 pub mod Formats

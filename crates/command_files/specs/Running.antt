@@ -1,6 +1,7 @@
 -- What a command on files does, from the replica that it begins with to what it prints. All of this is our own.
-use Rattle.std.specs.Prelude.{◌≡◌, ◌≢◌, ℕ, Bool, List, [], ◌++◌, length, Option}
-use Rattle.std.specs.Io.KnownBytes.{Appends}
+use Rattle.std.specs.Prelude.{◌≡◌, ◌≢◌, ◌⊎◌, ◌-◌, ℕ, Bool, List, [], ◌++◌, length, codes, Option, Some, is_none}
+use Rattle.std.specs.Io.KnownBytes.{Appends, Keeps}
+use Rattle.clap.specs.declared.parser.matches.ArgMatches.{ArgMatches}
 use Rattle.grouping_model.specs.Replies.{known_list}
 use Rattle.key_hashes.specs.declared.hash.Fnv1a.{Fnv1a}
 use Rattle.hash_agg.specs.Means.{MeansState}
@@ -16,21 +17,32 @@ use Rattle.replies.specs.declared.reply.Reply.TheVariants.{Saved}
 use Rattle.replies.specs.Printed.{PrintsAnswer}
 use Rattle.replies.specs.declared.showing.Format.{Format}
 use Rattle.replies.specs.declared.showing.Format.TheVariants.{Aligned}
-use Rattle.replies.specs.declared.showing.KnownFormat.{KnownFormat}
 use Rattle.command_replicas.specs.Commands.{IsNew}
 use Rattle.file_sentences.specs.declared.reasons.FileKind.{FileKind}
 use Rattle.file_sentences.specs.declared.reasons.FileKind.TheVariants.{Batch, Summary}
+use Rattle.command_streams.specs.Disks.{is_in_memory}
+use Rattle.command_words.specs.Told.{is_out_stream, limit_told, spill_told, value_told, values_told}
 use Rattle.command_words.specs.declared.subcommands.Subcommand.{Subcommand}
 use Rattle.command_words.specs.declared.subcommands.Subcommand.TheVariants.{New, Feed, Merge, Known, Answer}
+use Rattle.command_files.specs.Formats.{format_told, known_format_told}
+use Rattle.command_files.specs.Limits.{limit_of}
 use Rattle.command_files.specs.Reporting.{file_on_output, output_of, reply_on_output}
+use Rattle.command_files.specs.Texts.{AreTextsTold}
 use Rattle.command_files.specs.Taking.{CommandState, Manner, TakesAll, manner_of, state_of}
 use Rattle.command_files.specs.declared.reporter.Reporter.{Reporter}
 use Rattle.command_files.specs.declared.session.Session.{Session}
 
--- the replica that a command begins with: of the texts of columns and a query, or of a summary file
-abbrev pub BeginsWith : Subcommand → Held → Type 0
-BeginsWith New held = (columns query : List ℕ) × IsNew columns query held
-BeginsWith subcommand held = (file : List ℕ) × IsLoaded file held
+-- a replica is new, of the texts of columns and a query that a command line tells
+pub record IsNewAsTold (matches : ArgMatches) (held : Held) : Type 0 where
+  pub columns : List ℕ
+  pub query : List ℕ
+  pub are_told : AreTextsTold matches columns query
+  pub is_new : IsNew columns query held
+
+-- the replica that a command begins with: a new one, or that of a summary file
+abbrev pub BeginsWith : Subcommand → ArgMatches → Held → Type 0
+BeginsWith New matches held = IsNewAsTold matches held
+BeginsWith subcommand matches held = (file : List ℕ) × IsLoaded file held
 
 -- what standard output gets where a replica is saved: its file, where OUT is standard output, and else the reply how long that is
 abbrev pub saved_on_output : (is_piped : Bool) → (file : List ℕ) → List ℕ
@@ -79,35 +91,55 @@ standpoint_of contents disk work listed passed reporter = record {
   output = output_of contents reporter;
 }
 
--- it takes files of a kind from there on, and saves its replica
-abbrev pub TakesFiles : {F H : Type 0} → FileKind → MeansState H → Held → (old : Standpoint F) → (passed_now : ℕ)
+-- it takes so many files of a kind from there on, and saves its replica
+abbrev pub TakesFiles : {F H : Type 0} → FileKind → (count : ℕ) → MeansState H → Held → (old : Standpoint F) → (passed_now : ℕ)
     → (output : Option (List ℕ)) → Type 0
-TakesFiles kind means held old passed_now output = (count : ℕ) × TakesAndSaves (manner_of kind means old.disk old.is_piped old.listed) count
-    (state_of held old.disk old.work old.output) old.passed passed_now output
+TakesFiles kind count means held old passed_now output =
+    TakesAndSaves (manner_of kind means old.disk old.is_piped old.listed) count (state_of held old.disk old.work old.output) old.passed
+    passed_now output
 
--- what a command does with its replica: it saves it as it is, or with what files bring to it, or it prints what it knows or its answer
-abbrev pub Performs : {F H : Type 0} → Subcommand → MeansState H → Held → (old : Standpoint F) → (passed_now : ℕ)
+-- the name of the format that a command line tells
+abbrev pub format_name : ArgMatches → List ℕ
+format_name matches = value_told matches (codes "format")
+
+-- what a command does with its replica, by what its command line tells: it saves it as it is, or with what files bring to it, or it prints
+-- what it knows or its answer. The files of a merge begin with the one whose replica it is
+abbrev pub Performs : {F H : Type 0} → Subcommand → ArgMatches → MeansState H → Held → (old : Standpoint F) → (passed_now : ℕ)
     → (output : Option (List ℕ)) → Type 0
-Performs New means held old passed_now output = SavesHeld held old.is_piped old.output output
-Performs Known means held old passed_now output =
-    (format : KnownFormat) × Appends old.output output (known_in format (known_list (told held.parts)))
-Performs Answer means held old passed_now output = (format : Format) × AnswersHeld format held old.output output
-Performs Feed means held old passed_now output = TakesFiles Batch means held old passed_now output
-Performs Merge means held old passed_now output = TakesFiles Summary means held old passed_now output
+Performs New matches means held old passed_now output = SavesHeld held old.is_piped old.output output
+Performs Known matches means held old passed_now output =
+    Appends old.output output (known_in (known_format_told (format_name matches)) (known_list (told held.parts)))
+Performs Answer matches means held old passed_now output = AnswersHeld (format_told (format_name matches)) held old.output output
+Performs Feed matches means held old passed_now output =
+    TakesFiles Batch (length (values_told matches (codes "BATCH"))) means held old passed_now output
+Performs Merge matches means held old passed_now output =
+    TakesFiles Summary (length (values_told matches (codes "IN")) - 1) means held old passed_now output
 
 -- a command does its work, of a replica that it begins with
-abbrev pub RunsCommand : {F H : Type 0} → Subcommand → MeansState H → (old : Standpoint F) → (passed_now : ℕ)
+abbrev pub RunsCommand : {F H : Type 0} → Subcommand → ArgMatches → MeansState H → (old : Standpoint F) → (passed_now : ℕ)
     → (output : Option (List ℕ)) → Type 0
-RunsCommand subcommand means old passed_now output =
-    (held : Held) × BeginsWith subcommand held × Performs subcommand means held old passed_now output
+RunsCommand subcommand matches means old passed_now output =
+    (held : Held) × BeginsWith subcommand matches held × Performs subcommand matches means held old passed_now output
 
--- a command is done: it did its work from where it stood, by a limit and with a seed of its own, and passed no file over
-pub record IsDone (F : Type 0) (subcommand : Subcommand) (limit : ℕ) (old new : Option (List ℕ)) : Type 0 where
+-- where a command stands as its command line tells: tapes lie in a file exactly where one is told for what is spilled, and OUT is standard
+-- output exactly where that is told
+pub record StandsAsTold {F : Type 0} (subcommand : Subcommand) (matches : ArgMatches) (from : Standpoint F) : Type 0 where
+  pub spilled : is_in_memory from.disk ≡ is_none (spill_told subcommand matches)
+  pub piped : from.is_piped ≡ is_out_stream subcommand matches
+
+-- a command did its work as its command line tells, from where it stood, by the limit that is told or the usual one, and passed so many
+-- files over
+pub record IsDone (F : Type 0) (subcommand : Subcommand) (matches : ArgMatches) (passed : ℕ) (old new : Option (List ℕ)) : Type 0 where
   pub means : MeansState Fnv1a
   pub from : Standpoint F
-  pub limited : means.limit ≡ limit
+  pub limited : limit_of (limit_told subcommand matches) ≡ Some means.limit
+  pub stands : StandsAsTold subcommand matches from
   pub begun : from.output ≡ old
-  pub runs : RunsCommand subcommand means from 0 new
+  pub runs : RunsCommand subcommand matches means from passed new
+
+-- a command did its work, but for files that it passed over, or nothing was written to standard output
+abbrev pub IsDoneOrSilent : (F : Type 0) → Subcommand → ArgMatches → (old new : Option (List ℕ)) → Type 0
+IsDoneOrSilent F subcommand matches old new = ((passed : ℕ) × IsDone F subcommand matches passed old new) ⊎ Keeps old new
 
 -- what standard output holds in a session, if that is known
 abbrev pub session_output : {R I W E A B : Type 0} → (W → Option (List ℕ)) → Session R I W E A B → Option (List ℕ)

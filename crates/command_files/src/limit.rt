@@ -1,6 +1,7 @@
 //! The limit of a table of groups that a command tells.
 
 ghost use Rattle.std.specs.Prelude.{◌≡◌, Some, IfOk, IfErr, option_copied};
+ghost use Rattle.command_words.specs.Told.{limit_told};
 ghost use Rattle.command_files.specs.Limits.{limit_of, IsNoLimit};
 
 use clap::ArgMatches;
@@ -35,12 +36,11 @@ fn means_told(told: Option<&str>) -> Result<Means<Fnv1a>, Refusal>
 pub(crate) fn means_of(
     subcommand: Subcommand,
     matches: &ArgMatches<'_>,
-) -> Result<Means<Fnv1a>, Refusal> {
-    means_told(if subcommand.takes_limit() {
-        matches.get_str(LIMIT)
-    } else {
-        None
-    })
+) -> Result<Means<Fnv1a>, Refusal>
+    ensures limit { IfOk result (λ means. limit_of (limit_told subcommand matches.now) ≡ Some means.limit) }
+    ensures why { IfErr result (IsNoLimit (limit_of (limit_told subcommand matches.now))) }
+{
+    means_told(subcommand.limit(matches))
 }
 
 /// Says why the limit that a command tells is none.

@@ -12,6 +12,7 @@ ghost use Rattle.command_streams.specs.Inputs.{IsUnread};
 ghost use Rattle.key_hashes.specs.Hashes.{fnv_1a};
 ghost use Rattle.hash_agg.specs.Ran.{Ran};
 ghost use Rattle.replies.specs.Refusals.{refusal_ended};
+ghost use Rattle.command_files.specs.Running.{IsNewAsTold};
 ghost use Rattle.command_files.specs.Taking.{Takes, TakeIsCounted};
 
 use crate::texts::{TextOption, Told, read_text};
@@ -90,7 +91,7 @@ pub(crate) fn new_replica<'p, R: Files + AllocGlobal, I: Read>(
     inputs: &mut Inputs<'_, R, I>,
     matches: &ArgMatches<'p>,
 ) -> Result<Replica, Problem<'p>>
-    ensures made { IfOk result (λ replica. (columns query : List ℕ) × IsNew columns query replica) }
+    ensures made { IfOk result (IsNewAsTold matches.now) }
 {
     let columns = read_text(inputs, matches, COLUMNS_TEXT)?;
     let query = read_text(inputs, matches, QUERY_TEXT)?;

@@ -117,6 +117,7 @@ impl<'c, W: Write, E: Write> Reporter<'c, W, E> {
     pub(crate) fn reply(&mut self, reply: &Reply<'_>) -> Result<(), Problem<'static>>
         ensures replied { OnOk result (Prints W.contents self.old self.new (reply_on_output self.old.is_piped reply.now)) }
         ensures fault { IfErr result (λ problem. problem.why ≡ Run WriteFault) }
+        ensures silent { self.old.is_piped ≡ true → OnlySays self.old self.new }
     {
         if self.is_piped {
             put_beside(self.streams.errors, reply);
@@ -199,6 +200,7 @@ impl<'c, W: Write, E: Write> Reporter<'c, W, E> {
     pub(crate) fn reply_to(&mut self, path: &str, reply: &Reply<'_>) -> Result<(), Problem<'static>>
         ensures replied { OnOk result (Prints W.contents self.old self.new (reply_on_output self.old.is_piped reply.now)) }
         ensures fault { IfErr result (λ problem. problem.why ≡ Run WriteFault) }
+        ensures silent { self.old.is_piped ≡ true → OnlySays self.old self.new }
     {
         self.reply(reply)?;
         self.tell_progress(path, reply);
@@ -266,6 +268,7 @@ impl<'c, W: Write, E: Write> Reporter<'c, W, E> {
         ensures piped { self.old.is_piped ≡ true → result ≡ ending_of problem.entry.why }
         ensures replied { self.old.is_piped ≡ false → RepliesRefused (said_text (Refused problem.entry.why))
             (output_of W.contents self.old) (output_of W.contents self.new) problem.entry.why result }
+        ensures silent { self.old.is_piped ≡ true → OnlySays self.old self.new }
     {
         self.complain(&problem, output);
         if self.is_piped {

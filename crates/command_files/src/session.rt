@@ -1,6 +1,7 @@
 //! The commands on files.
 
-ghost use Rattle.std.specs.Prelude.{◌≡◌, ◌≢◌, ◌+◌, ◌^◌, ◌<◌, ◌≤◌, ℕ, false, List, Option, Some, length, IfOk, IfErr, OnOk};
+ghost use Rattle.std.specs.Prelude.{◌≡◌, ◌≢◌, ◌⊎◌, ◌+◌, ◌-◌, ◌^◌, ◌<◌, ◌≤◌, ℕ, true, false, List, Option, Some, codes, length};
+ghost use Rattle.std.specs.Prelude.{is_none, IfOk, IfErr, OnOk};
 ghost use Rattle.grouping_model.specs.Replies.{known_list};
 ghost use Rattle.replica_merge.specs.Replicas.{told};
 ghost use Rattle.script_io.specs.Fused.{written};
@@ -9,10 +10,13 @@ ghost use Rattle.replies.specs.declared.ending.ExitKind.TheVariants.{Done, Fault
 ghost use Rattle.replies.specs.declared.reply.Reply.TheVariants.{Refused};
 ghost use Rattle.command_streams.specs.Disks.{is_in_memory};
 ghost use Rattle.command_streams.specs.Stopping.{ending_of, EndsRefused};
+ghost use Rattle.command_words.specs.Told.{is_out_stream, limit_told, spill_told, values_told};
 ghost use Rattle.command_files.specs.Ending.{ending_beside};
 ghost use Rattle.command_files.specs.Formats.{format_told, known_format_told};
+ghost use Rattle.command_files.specs.Limits.{limit_of};
 ghost use Rattle.command_files.specs.Reporting.{output_of, file_on_output, reply_on_output, OnlySays, Prints, PrintsTable, Saves};
-ghost use Rattle.command_files.specs.Running.{session_failed, session_output, standpoint_of, BeginsWith, IsDone, Performs, RunsCommand, TakesAndSaves};
+ghost use Rattle.command_files.specs.Running.{session_failed, session_output, standpoint_of, BeginsWith, IsDone, IsDoneOrSilent, Performs};
+ghost use Rattle.command_files.specs.Running.{format_name, RunsCommand, StandsAsTold, TakesAndSaves};
 ghost use Rattle.command_files.specs.Taking.{manner_of, state_of, taken, RanFile, StopsAt, TakesFile, TakesAll};
 
 use crate::limit::{means_of, said_of_limit};
@@ -26,7 +30,7 @@ use command_streams::{
 };
 use command_words::{
     BATCH, COMPLETE, EXPLAIN, FORMAT, IN, OUT, PROGRESS, Subcommand, input_name, is_stream,
-    output_name, value,
+    output_name, value, values,
 };
 use file_sentences::{Explained, FileKind, PassedOver, Standing, WrittenOver, file_reason};
 use hash_agg::{Fnv1a, Means, Work};
@@ -58,6 +62,45 @@ fn known_format_named(text: &str) -> KnownFormat
         "tsv" => KnownFormat::Tsv,
         "json" => KnownFormat::Json,
         _ => KnownFormat::Lines,
+    }
+}
+
+/// The format of the answer that a command line tells.
+fn format_of(matches: &ArgMatches<'_>) -> Format
+    ensures { result ≡ format_told (format_name matches.now) }
+{
+    format_named(value(matches, FORMAT))
+}
+
+/// The format of what is known that a command line tells.
+fn known_format_of(matches: &ArgMatches<'_>) -> KnownFormat
+    ensures { result ≡ known_format_told (format_name matches.now) }
+{
+    known_format_named(value(matches, FORMAT))
+}
+
+/// The batch files that a command line names.
+fn batches_of<'m, 'p>(matches: &'m ArgMatches<'p>) -> &'m [&'p str]
+    ensures { length result.now ≡ length (values_told matches.now (codes "BATCH")) }
+{
+    values(matches, BATCH)
+}
+
+/// The summary files that a command line names, but for the first.
+fn others_of<'m, 'p>(matches: &'m ArgMatches<'p>) -> &'m [&'p str]
+    ensures { length result.now ≡ length (values_told matches.now (codes "IN")) - 1 }
+{
+    let paths = values(matches, IN);
+    &paths[paths.len().min(1)..]
+}
+
+/// Whether OUT is standard output.
+fn is_out_stream(subcommand: Subcommand, matches: &ArgMatches<'_>) -> bool
+    ensures { result ≡ is_out_stream subcommand matches.now }
+{
+    match subcommand.out(matches) {
+        Some(out) => is_stream(out),
+        None => false,
     }
 }
 
@@ -118,6 +161,7 @@ impl<'c, R: Files + AllocGlobal + RandomSource, I: Read, W: Write, E: Write> Ses
         ensures disk { self.new.disk ≡ self.old.disk }
         ensures work { self.new.work ≡ self.old.work }
         ensures target { self.new.target ≡ self.old.target }
+        ensures silent { self.old.reporter.is_piped ≡ true → OnlySays self.old.reporter self.new.reporter }
     {
         if problem.is_fault() || self.target.is_at(place) {
             return Err(problem);
@@ -146,6 +190,7 @@ impl<'c, R: Files + AllocGlobal + RandomSource, I: Read, W: Write, E: Write> Ses
         ensures put { OnOk result (Prints W.contents self.old.reporter self.new.reporter
             (file_on_output self.old.reporter.is_piped file.now)) }
         ensures passed { self.new.passed ≡ self.old.passed }
+        ensures unput { IfErr result (λ problem. ending_of problem.why ≢ Fault → OnlySays self.old.reporter self.new.reporter) }
     {
         if self.reporter.is_piped() {
             self.reporter.print_summary(file)?;
@@ -162,6 +207,7 @@ impl<'c, R: Files + AllocGlobal + RandomSource, I: Read, W: Write, E: Write> Ses
     fn save<'p>(&mut self, replica: &Replica, path: &'p str) -> Result<(), Problem<'p>>
         ensures saves { OnOk result (Saves W.contents replica.now self.old.reporter self.new.reporter) }
         ensures passed { self.new.passed ≡ self.old.passed }
+        ensures unput { IfErr result (λ problem. ending_of problem.why ≢ Fault → OnlySays self.old.reporter self.new.reporter) }
     {
         let file = summary_of(self.inputs.rt.alloc(), replica, path)?;
         self.put_file(&file, path)?;
@@ -243,6 +289,7 @@ impl<'c, R: Files + AllocGlobal + RandomSource, I: Read, W: Write, E: Write> Ses
         ensures disk { is_in_memory self.new.disk ≡ is_in_memory self.old.disk }
         ensures piped { OnOk result (self.new.reporter.is_piped ≡ self.old.reporter.is_piped) }
         ensures listed { self.new.target.listed ≡ self.old.target.listed }
+        ensures silent { self.old.reporter.is_piped ≡ true → OnlySays self.old.reporter self.new.reporter }
     {
         let reply = match self.take_file(kind, replica, path, place, means, spill) {
             Ok(reply) => reply,
@@ -269,6 +316,7 @@ impl<'c, R: Files + AllocGlobal + RandomSource, I: Read, W: Write, E: Write> Ses
         ensures stops { IfErr result (λ stopped. (place : ℕ) × (place ≤ length paths.now)
             × StopsAt self.old.target.listed place stopped.why) }
         ensures piped { OnOk result (self.new.reporter.is_piped ≡ self.old.reporter.is_piped) }
+        ensures silent { self.old.reporter.is_piped ≡ true → OnlySays self.old.reporter self.new.reporter }
     {
         self.reporter.set_files(paths.len());
         let mut place: usize = 0;
@@ -317,6 +365,7 @@ impl<'c, R: Files + AllocGlobal + RandomSource, I: Read, W: Write, E: Write> Ses
     ) -> Result<(), Problem<'p>>
         ensures listed { OnOk result (Prints W.contents self.old.reporter self.new.reporter
             (known_in format (known_list (told replica.now.parts)))) }
+        ensures unput { IfErr result (λ problem. ending_of problem.why ≢ Fault → OnlySays self.old.reporter self.new.reporter) }
     {
         let Ok(lines) = known_table(self.inputs.rt.alloc(), replica, format) else {
             return Err(no_memory_for(matches));
@@ -335,6 +384,7 @@ impl<'c, R: Files + AllocGlobal + RandomSource, I: Read, W: Write, E: Write> Ses
         is_told: bool,
     ) -> Result<(), Problem<'p>>
         ensures answered { OnOk result (PrintsTable W.contents format replica.now self.old.reporter self.new.reporter) }
+        ensures unput { IfErr result (λ problem. ending_of problem.why ≢ Fault → OnlySays self.old.reporter self.new.reporter) }
     {
         let alloc = self.inputs.rt.alloc();
         // Nothing is printed before there was memory for all.
@@ -360,10 +410,12 @@ impl<'c, R: Files + AllocGlobal + RandomSource, I: Read, W: Write, E: Write> Ses
         matches: &ArgMatches<'p>,
         means: &Means<Fnv1a>,
     ) -> Result<(), Problem<'p>>
-        ensures { OnOk result (TakesAndSaves (manner_of kind means.now self.old.disk
+        ensures saves { OnOk result (TakesAndSaves (manner_of kind means.now self.old.disk
             self.old.reporter.is_piped self.old.target.listed) (length paths.now) (state_of replica.old self.old.disk self.old.work
             (output_of W.contents self.old.reporter))
             self.old.passed self.new.passed (output_of W.contents self.new.reporter)) }
+        ensures unput { self.old.reporter.is_piped ≡ true
+            → IfErr result (λ problem. ending_of problem.why ≢ Fault → OnlySays self.old.reporter self.new.reporter) }
     {
         let spill = subcommand.spill(matches);
         self.take_files(kind, replica, paths, means, spill)?;
@@ -381,29 +433,27 @@ impl<'c, R: Files + AllocGlobal + RandomSource, I: Read, W: Write, E: Write> Ses
         matches: &ArgMatches<'p>,
         means: &Means<Fnv1a>,
     ) -> Result<(), Problem<'p>>
-        ensures { OnOk result (Performs subcommand means.now replica.old
+        ensures performs { OnOk result (Performs subcommand matches.now means.now replica.old
             (standpoint_of W.contents self.old.disk self.old.work self.old.target.listed self.old.passed self.old.reporter)
             self.new.passed (output_of W.contents self.new.reporter)) }
+        ensures unput { self.old.reporter.is_piped ≡ true
+            → IfErr result (λ problem. ending_of problem.why ≢ Fault → OnlySays self.old.reporter self.new.reporter) }
     {
-        let format = value(matches, FORMAT);
         let is_told = subcommand.is_told(matches, EXPLAIN);
         match subcommand {
-            Subcommand::Known => {
-                self.list(replica, known_format_named(format), matches, is_told)
-            }
-            Subcommand::Answer => self.answer(replica, format_named(format), matches, is_told),
+            Subcommand::Known => self.list(replica, known_format_of(matches), matches, is_told),
+            Subcommand::Answer => self.answer(replica, format_of(matches), matches, is_told),
             Subcommand::Feed => {
-                let paths = matches.get_strs(BATCH).unwrap_or_default();
+                let paths = batches_of(matches);
                 self.take_and_save(FileKind::Batch, replica, paths, subcommand, matches, means)
             }
             Subcommand::Merge => {
                 // The replica is that of the first.
-                let paths = matches.get_strs(IN).unwrap_or_default();
-                let others = paths.get(1..).unwrap_or_default();
+                let paths = others_of(matches);
                 self.take_and_save(
                     FileKind::Summary,
                     replica,
-                    others,
+                    paths,
                     subcommand,
                     matches,
                     means,
@@ -419,7 +469,7 @@ impl<'c, R: Files + AllocGlobal + RandomSource, I: Read, W: Write, E: Write> Ses
         subcommand: Subcommand,
         matches: &ArgMatches<'p>,
     ) -> Result<Replica, Problem<'p>>
-        ensures begins { IfOk result (BeginsWith subcommand) }
+        ensures begins { IfOk result (BeginsWith subcommand matches.now) }
         ensures says { OnlySays self.old.reporter self.new.reporter }
         ensures disk { self.new.disk ≡ self.old.disk }
         ensures work { self.new.work ≡ self.old.work }
@@ -445,9 +495,11 @@ impl<'c, R: Files + AllocGlobal + RandomSource, I: Read, W: Write, E: Write> Ses
         matches: &ArgMatches<'p>,
         means: &Means<Fnv1a>,
     ) -> Result<(), Problem<'p>>
-        ensures { OnOk result (RunsCommand subcommand means.now
+        ensures ran { OnOk result (RunsCommand subcommand matches.now means.now
             (standpoint_of W.contents self.old.disk self.old.work self.old.target.listed self.old.passed self.old.reporter)
             self.new.passed (output_of W.contents self.new.reporter)) }
+        ensures unput { self.old.reporter.is_piped ≡ true
+            → IfErr result (λ problem. ending_of problem.why ≢ Fault → OnlySays self.old.reporter self.new.reporter) }
     {
         let mut replica = self.first_replica(subcommand, matches)?;
         let done = self.perform(&mut replica, subcommand, matches, means);
@@ -494,7 +546,8 @@ impl<'c, R: Files + AllocGlobal + RandomSource, I: Read, W: Write, E: Write> Ses
         matches: &ArgMatches<'_>,
         why: Refusal,
     ) -> ExitKind
-        ensures { result ≢ Done }
+        ensures ends { result ≢ Done }
+        ensures silent { self.old.reporter.is_piped ≡ true → OnlySays self.old.reporter self.new.reporter }
     {
         let alloc = self.inputs.rt.alloc();
         let reason = match said_of_limit(alloc, matches, why) {
@@ -517,7 +570,8 @@ impl<'c, R: Files + AllocGlobal + RandomSource, I: Read, W: Write, E: Write> Ses
         matches: &ArgMatches<'_>,
         problem: Problem<'_>,
     ) -> ExitKind
-        ensures { EndsRefused problem.entry.why result }
+        ensures ends { EndsRefused problem.entry.why result }
+        ensures silent { self.old.reporter.is_piped ≡ true → OnlySays self.old.reporter self.new.reporter }
     {
         let output = self.output_status(subcommand, matches);
         self.reporter.stop(problem, output)
@@ -530,8 +584,11 @@ impl<'c, R: Files + AllocGlobal + RandomSource, I: Read, W: Write, E: Write> Ses
         matches: &ArgMatches<'_>,
         standing: Option<Standing<'_>>,
     ) -> ExitKind
-        ensures { result ≡ Done → (limit : ℕ) × IsDone R.File subcommand limit (output_of W.contents self.old.reporter)
+        requires { self.old.reporter.is_piped ≡ is_out_stream subcommand matches.now }
+        ensures done { result ≡ Done → IsDone R.File subcommand matches.now 0 (output_of W.contents self.old.reporter)
             (output_of W.contents self.new.reporter) }
+        ensures stopped { result ≢ Fault → is_out_stream subcommand matches.now ≡ true → IsDoneOrSilent R.File subcommand matches.now
+            (output_of W.contents self.old.reporter) (output_of W.contents self.new.reporter) }
     {
         match means_of(subcommand, matches) {
             Ok(means) => self.run_with(subcommand, matches, means, standing),
@@ -546,8 +603,11 @@ impl<'c, R: Files + AllocGlobal + RandomSource, I: Read, W: Write, E: Write> Ses
         matches: &ArgMatches<'_>,
         looked: Result<Option<Standing<'_>>, Problem<'_>>,
     ) -> ExitKind
-        ensures { result ≡ Done → (limit : ℕ) × IsDone R.File subcommand limit (output_of W.contents self.old.reporter)
+        requires { self.old.reporter.is_piped ≡ is_out_stream subcommand matches.now }
+        ensures done { result ≡ Done → IsDone R.File subcommand matches.now 0 (output_of W.contents self.old.reporter)
             (output_of W.contents self.new.reporter) }
+        ensures stopped { result ≢ Fault → is_out_stream subcommand matches.now ≡ true → IsDoneOrSilent R.File subcommand matches.now
+            (output_of W.contents self.old.reporter) (output_of W.contents self.new.reporter) }
     {
         match looked {
             Ok(standing) => self.run_beside(subcommand, matches, standing),
@@ -557,12 +617,14 @@ impl<'c, R: Files + AllocGlobal + RandomSource, I: Read, W: Write, E: Write> Ses
 
     /// Runs a command on files, and answers how it ended.
     pub fn run(&mut self, subcommand: Subcommand, matches: &ArgMatches<'_>) -> ExitKind
-        ensures done { result ≡ Done → (limit : ℕ) × IsDone R.File subcommand limit (session_output W.contents self.old)
+        ensures done { result ≡ Done → IsDone R.File subcommand matches.now 0 (session_output W.contents self.old)
             (session_output W.contents self.new) }
         ensures sent { result ≡ Done → session_failed self.new ≡ false }
+        ensures stopped { result ≢ Fault → is_out_stream subcommand matches.now ≡ true → IsDoneOrSilent R.File subcommand matches.now
+            (session_output W.contents self.old) (session_output W.contents self.new) }
     {
         let rt = self.inputs.rt;
-        let is_piped = matches!(subcommand.out(matches), Some(out) if is_stream(out));
+        let is_piped = is_out_stream(subcommand, matches);
         self.reporter.set_piped(is_piped);
         let is_terminal = self.reporter.terminals().output;
         let looked = self.target.look(rt, subcommand, matches, is_terminal);
@@ -634,6 +696,7 @@ impl<'c, R: Files + AllocGlobal + RandomSource, I: Read, W: Write, E: Write> Ses
     /// Says what becomes of what is there in the place of OUT, if that is to be told.
     fn tell_standing(&mut self, standing: Option<Standing<'_>>)
         ensures says { OnlySays self.old.reporter self.new.reporter }
+        ensures disk { self.new.disk ≡ self.old.disk }
     {
         match standing {
             Some(standing) => self.reporter.say(&standing),
@@ -648,8 +711,13 @@ impl<'c, R: Files + AllocGlobal + RandomSource, I: Read, W: Write, E: Write> Ses
         matches: &ArgMatches<'_>,
         means: Means<Fnv1a>,
     ) -> ExitKind
-        ensures { result ≡ Done → IsDone R.File subcommand means.limit (output_of W.contents self.old.reporter)
+        requires limited { limit_of (limit_told subcommand matches.now) ≡ Some means.limit }
+        requires stands { StandsAsTold subcommand matches.now
+            (standpoint_of W.contents self.old.disk self.old.work self.old.target.listed self.old.passed self.old.reporter) }
+        ensures done { result ≡ Done → IsDone R.File subcommand matches.now 0 (output_of W.contents self.old.reporter)
             (output_of W.contents self.new.reporter) }
+        ensures stopped { result ≢ Fault → is_out_stream subcommand matches.now ≡ true → IsDoneOrSilent R.File subcommand matches.now
+            (output_of W.contents self.old.reporter) (output_of W.contents self.new.reporter) }
     {
         match self.seeded(subcommand, means) {
             Ok(means) => self.run_by(subcommand, matches, &means),
@@ -665,8 +733,12 @@ impl<'c, R: Files + AllocGlobal + RandomSource, I: Read, W: Write, E: Write> Ses
         means: Means<Fnv1a>,
         standing: Option<Standing<'_>>,
     ) -> ExitKind
-        ensures { result ≡ Done → IsDone R.File subcommand means.limit (output_of W.contents self.old.reporter)
+        requires limited { limit_of (limit_told subcommand matches.now) ≡ Some means.limit }
+        requires piped { self.old.reporter.is_piped ≡ is_out_stream subcommand matches.now }
+        ensures done { result ≡ Done → IsDone R.File subcommand matches.now 0 (output_of W.contents self.old.reporter)
             (output_of W.contents self.new.reporter) }
+        ensures stopped { result ≢ Fault → is_out_stream subcommand matches.now ≡ true → IsDoneOrSilent R.File subcommand matches.now
+            (output_of W.contents self.old.reporter) (output_of W.contents self.new.reporter) }
     {
         let is_asked = subcommand.is_told(matches, PROGRESS);
         self.reporter.set_progress(is_asked);
@@ -687,7 +759,10 @@ impl<'c, R: Files + AllocGlobal + RandomSource, I: Read, W: Write, E: Write> Ses
     }
 
     /// Says that files were passed over, though OUT was written.
-    fn tell_passed(&mut self, subcommand: Subcommand, matches: &ArgMatches<'_>) {
+    fn tell_passed(&mut self, subcommand: Subcommand, matches: &ArgMatches<'_>)
+        ensures says { OnlySays self.old.reporter self.new.reporter }
+        ensures passed { self.new.passed ≡ self.old.passed }
+    {
         if let Some(out) = subcommand.out(matches) {
             let (passed, files) = (self.passed, self.reporter.files());
             self.reporter.say(&PassedOver {
@@ -708,6 +783,9 @@ impl<'c, R: Files + AllocGlobal + RandomSource, I: Read, W: Write, E: Write> Ses
         ensures done { OnOk done.entry (result ≡ ending_beside self.old.passed self.old.is_short) }
         ensures refused { IfErr done.entry (λ problem. EndsRefused problem.why result) }
         ensures stays { result ≡ Done → self.new ≡ self.old }
+        ensures told { OnOk done.entry (OnlySays self.old.reporter self.new.reporter) }
+        ensures passed { self.new.passed ≡ self.old.passed }
+        ensures silent { self.old.reporter.is_piped ≡ true → OnlySays self.old.reporter self.new.reporter }
     {
         match done {
             Ok(()) if self.passed > 0 => {
@@ -730,11 +808,14 @@ impl<'c, R: Files + AllocGlobal + RandomSource, I: Read, W: Write, E: Write> Ses
         matches: &ArgMatches<'_>,
         means: &Means<Fnv1a>,
     ) -> ExitKind
-        ensures ran { result ≡ Done → RunsCommand subcommand means.now
+        ensures ran { result ≡ Done → RunsCommand subcommand matches.now means.now
             (standpoint_of W.contents self.old.disk self.old.work self.old.target.listed self.old.passed self.old.reporter)
             0 (output_of W.contents self.new.reporter) }
         ensures passed { result ≡ Done → self.new.passed ≡ 0 }
         ensures short { result ≡ Done → self.new.is_short ≡ false }
+        ensures stopped { result ≢ Fault → self.old.reporter.is_piped ≡ true → RunsCommand subcommand matches.now means.now
+            (standpoint_of W.contents self.old.disk self.old.work self.old.target.listed self.old.passed self.old.reporter)
+            self.new.passed (output_of W.contents self.new.reporter) ⊎ OnlySays self.old.reporter self.new.reporter }
     {
         let done = self.run_command(subcommand, matches, means);
         let is_told = done.is_ok()

@@ -1,12 +1,13 @@
 //! OUT, beside the files that a command reads.
 
-ghost use Rattle.std.specs.Prelude.{◌≡◌, ◌≢◌, ◌↔◌, ◌⊎◌, ℕ, None, Some, true, false, Result, Ok, IfOk, IsTrue};
+ghost use Rattle.std.specs.Prelude.{◌≡◌, ◌≢◌, ◌↔◌, ◌⊎◌, ℕ, None, Some, true, false, Result, Ok, IfOk, IfSome, IsTrue};
 ghost use Rattle.file_sentences.specs.Standing.{is_foreign};
-ghost use Rattle.file_sentences.specs.declared.out.Fate.TheVariants.{Forced, Kept, Spared};
+ghost use Rattle.file_sentences.specs.declared.out.Fate.TheVariants.{Forced, Kept, Shown, Spared};
 ghost use Rattle.out_files.specs.declared.occupant.Occupant.TheVariants.{Another, Listed, Nothing, Special};
 ghost use Rattle.file_sentences.specs.declared.out.FrontKind.{FrontKind};
 ghost use Rattle.command_streams.specs.declared.problem.Problem.{Problem};
-ghost use Rattle.command_files.specs.Fates.{fate_by, fate_by_force, fate_where_read, IsFateBy, IsFile};
+ghost use Rattle.command_words.specs.Told.{is_out_stream, out_told};
+ghost use Rattle.command_files.specs.Fates.{fate_by, fate_by_force, fate_where_read, IsFateBy, IsFile, IsUnforced};
 
 use crate::files::{front_kind, occupant_of_out, try_files, write_out};
 use clap::ArgMatches;
@@ -130,6 +131,7 @@ impl Target {
         ensures new { occupant ≡ Nothing → self.new ≡ record self.old { is_new = keeps } }
         ensures untold { (occupant ≡ Nothing) ⊎ (occupant ≡ Special) → result ≡ Ok None }
         ensures found { IsFile occupant keeps → (front : Result FrontKind Problem) × IsFateBy front is_forced self.new.listed result }
+        ensures bytes { self.new.bytes ≡ self.old.bytes }
     {
         match occupant {
             Occupant::Nothing => {
@@ -146,6 +148,30 @@ impl Target {
         }
     }
 
+    /// Looks at what is there in the place of OUT, which is no stream.
+    fn look_at<'p, R: Files + AllocGlobal>(
+        &mut self,
+        rt: &R,
+        subcommand: Subcommand,
+        matches: &ArgMatches<'p>,
+        out: &'p str,
+    ) -> Result<Option<Standing<'p>>, Problem<'p>>
+        ensures unforced { IsUnforced subcommand matches.now → IfOk result (λ found. IfSome found (λ standing. standing.fate ≢ Forced)) }
+        ensures bytes { self.new.bytes ≡ self.old.bytes }
+    {
+        let keeps = subcommand.is_told(matches, NO_CLOBBER);
+        let occupant = match occupant_of_out(rt, subcommand, matches, out) {
+            Ok(occupant) => occupant,
+            Err(problem) if keeps || problem.why == Refusal::NoMemory => return Err(problem),
+            Err(_) => return Ok(None),
+        };
+        let is_forced = subcommand.is_told(matches, FORCE);
+        match self.fate_of(rt, keeps, is_forced, out, occupant)? {
+            Some(fate) => Ok(Some(Standing { out, fate })),
+            None => Ok(None),
+        }
+    }
+
     /// Looks at what is there in the place of OUT, before anything else is read, and answers what is to be told of it. Where that can't be
     /// found out, it is a problem to a command that keeps a file, and for want of memory to all; else OUT can't be written either, which
     /// is found out when that is tried. Of standard output it is asked alone whether it is a terminal.
@@ -155,31 +181,26 @@ impl Target {
         subcommand: Subcommand,
         matches: &ArgMatches<'p>,
         is_terminal: bool,
-    ) -> Result<Option<Standing<'p>>, Problem<'p>> {
+    ) -> Result<Option<Standing<'p>>, Problem<'p>>
+        ensures none { out_told subcommand matches.now ≡ None → result ≡ Ok None }
+        ensures stream { is_out_stream subcommand matches.now ≡ true → is_terminal ≡ false → result ≡ Ok None }
+        ensures shown { is_out_stream subcommand matches.now ≡ true
+            → IfOk result (λ found. IfSome found (λ standing. standing.fate ≡ Shown)) }
+        ensures unforced { IsUnforced subcommand matches.now → IfOk result (λ found. IfSome found (λ standing. standing.fate ≢ Forced)) }
+    {
         let Some(out) = subcommand.out(matches) else {
             return Ok(None);
         };
-        if is_stream(out) {
-            let is_shown = is_terminal && !subcommand.is_told(matches, FORCE);
-            return Ok(is_shown.then_some(Standing {
-                out: output_name(out),
-                fate: Fate::Shown,
-            }));
+        if !is_stream(out) {
+            return self.look_at(rt, subcommand, matches, out);
         }
-        let occupant = match occupant_of_out(rt, subcommand, matches, out) {
-            Ok(occupant) => occupant,
-            Err(problem)
-                if subcommand.is_told(matches, NO_CLOBBER) || problem.why == Refusal::NoMemory => {
-                return Err(problem);
-            }
-            Err(_) => return Ok(None),
-        };
-        let keeps = subcommand.is_told(matches, NO_CLOBBER);
-        let is_forced = subcommand.is_told(matches, FORCE);
-        match self.fate_of(rt, keeps, is_forced, out, occupant)? {
-            Some(fate) => Ok(Some(Standing { out, fate })),
-            None => Ok(None),
+        if !is_terminal || subcommand.is_told(matches, FORCE) {
+            return Ok(None);
         }
+        Ok(Some(Standing {
+            out: output_name(out),
+            fate: Fate::Shown,
+        }))
     }
 
     /// Tries whether the files of a command can be read and OUT written. It answers whether it is to be told that OUT is written over.

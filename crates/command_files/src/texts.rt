@@ -1,7 +1,13 @@
 //! The texts of a command line that a file may have in their place.
 
-ghost use Rattle.std.specs.Prelude.{◌≡◌, IfOk, string_bytes};
+ghost use Rattle.std.specs.Prelude.{◌≡◌, ◌⊎◌, ℕ, List, true, IfOk, IfErr, string_bytes};
+ghost use Rattle.std.specs.Io.KnownBytes.{Consumes, IsAtEnd};
+ghost use Rattle.script_io.specs.Fused.{unread};
+ghost use Rattle.replies.specs.declared.refusal.Refusal.TheVariants.{BadCommand, NoMemory};
 ghost use Rattle.command_words.specs.LineEnd.{DropsLineEnd};
+ghost use Rattle.command_words.specs.Streams.{is_stream};
+ghost use Rattle.command_streams.specs.Inputs.{IsUnread};
+ghost use Rattle.command_files.specs.Texts.{IsTextTold};
 
 use clap::ArgMatches;
 use command_streams::{Inputs, Problem, reason_of};
@@ -35,7 +41,8 @@ fn no_text(alloc: Global, place: usize) -> Result<String, AllocError> {
 
 /// The text that the bytes of a file are, without the line end behind it.
 fn text_of<'p>(alloc: Global, subject: &'p str, bytes: &[u8]) -> Result<Told<'p>, Problem<'p>>
-    ensures { IfOk result (λ told. DropsLineEnd bytes.now (string_bytes told.text)) }
+    ensures text { IfOk result (λ told. DropsLineEnd bytes.now (string_bytes told.text)) }
+    ensures why { IfErr result (λ problem. (problem.why ≡ BadCommand) ⊎ (problem.why ≡ NoMemory)) }
 {
     match str::from_utf8(bytes) {
         Ok(text) => copied(alloc, subject, without_line_end(text)),
@@ -51,7 +58,8 @@ fn text_of<'p>(alloc: Global, subject: &'p str, bytes: &[u8]) -> Result<Told<'p>
 
 /// A copy of a text.
 fn copied<'p>(alloc: Global, subject: &'p str, text: &str) -> Result<Told<'p>, Problem<'p>>
-    ensures { IfOk result (λ told. string_bytes told.text ≡ text.now) }
+    ensures text { IfOk result (λ told. string_bytes told.text ≡ text.now) }
+    ensures why { IfErr result (λ problem. problem.why ≡ NoMemory) }
 {
     match String::from_str(alloc, text) {
         Ok(text) => Ok(Told { subject, text }),
@@ -67,18 +75,31 @@ pub(crate) struct TextOption {
     pub(crate) file: &'static str,
 }
 
+/// The text of a file, which is read whole, without one line end behind it.
+fn read_text_of<'p, R: Files + AllocGlobal, I: Read>(
+    inputs: &mut Inputs<'_, R, I>,
+    path: &'p str,
+) -> Result<Told<'p>, Problem<'p>>
+    ensures text { IfOk result (λ told. (file : List ℕ) × DropsLineEnd file (string_bytes told.text)
+        × (is_stream path.entry.now ≡ true → Consumes (unread I.remaining inputs.old.reader.now)
+        (unread I.remaining inputs.new.reader.now) file × IsAtEnd (unread I.remaining inputs.new.reader.now))) }
+    ensures why { IfErr result (λ problem. (problem.why ≡ BadCommand) ⊎ IsUnread problem.why) }
+{
+    let bytes = inputs.read(path)?;
+    text_of(inputs.rt.alloc(), input_name(path), &bytes)
+}
+
 /// The text that an option tells, or the file that another one names: of this without one line end behind it.
 pub(crate) fn read_text<'p, R: Files + AllocGlobal, I: Read>(
     inputs: &mut Inputs<'_, R, I>,
     matches: &ArgMatches<'p>,
     option: TextOption,
-) -> Result<Told<'p>, Problem<'p>> {
-    let alloc = inputs.rt.alloc();
+) -> Result<Told<'p>, Problem<'p>>
+    ensures told { IfOk result (λ told. IsTextTold matches.now option.file.now option.id.now (string_bytes told.text)) }
+    ensures why { IfErr result (λ problem. (problem.why ≡ BadCommand) ⊎ IsUnread problem.why) }
+{
     match matches.get_str(option.file) {
-        Some(path) => {
-            let bytes = inputs.read(path)?;
-            text_of(alloc, input_name(path), &bytes)
-        }
-        None => copied(alloc, option.name, value(matches, option.id)),
+        Some(path) => read_text_of(inputs, path),
+        None => copied(inputs.rt.alloc(), option.name, value(matches, option.id)),
     }
 }

@@ -19,4 +19,5 @@ returns-after-not-is_empty g c =
             printed = prints_more g.W.Write.contents c.args.self.now.reporter c.print.new.self c.tell_waiting.new.self
                 c.in-Ok-Ok.found.1.items foot.0 text foot.1;
           }) c.explain_answer.ensures.says;
+      unput = tt;
     }

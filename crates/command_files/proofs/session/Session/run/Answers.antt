@@ -1,9 +1,9 @@
-use Rattle.std.specs.Prelude.{◌≡◌, refl, true, false, Bool}
+use Rattle.std.specs.Prelude.{◌≡◌, ◌≢◌, refl, true, false, Bool}
 use Rattle.std.proofs.Common.{◌∙◌, sym}
 use Rattle.script_io.specs.Fused.{has_failed}
 use Rattle.replies.specs.declared.ending.ExitKind.{ExitKind}
 use Rattle.replies.specs.declared.ending.ExitKind.TheVariants.{Done, Fault}
-use Rattle.command_files.proofs.RunningLaws.{done_behind, done_kept}
+use Rattle.command_files.proofs.RunningLaws.{done_behind, done_kept, stopped_behind, stopped_kept}
 use Rattle.command_files.proofs.session.Session.run.Goals as goal
 
 -- a command is done only if it was before all was sent out
@@ -12,12 +12,27 @@ was_done : (has_failed : Bool) (exit result : ExitKind) → (has_failed ≡ fals
 was_done false exit result sent failed done = sym (sent refl) ∙ done
 was_done true exit result sent failed done = let e : Fault ≡ Done = sym (failed refl) ∙ done in absurd cc
 
+-- and ends by a fault if it did before that
+was_sound : (has_failed : Bool) (exit result : ExitKind) → (has_failed ≡ false → result ≡ exit) → (has_failed ≡ true → result ≡ Fault)
+    → result ≢ Fault → exit ≢ Fault
+was_sound false exit result sent failed sound = λ fault. sound (sent refl ∙ fault)
+was_sound true exit result sent failed sound = absurd (sound (failed refl))
+
 pub returns-clause-done : goal.returns-clause-done
 returns-clause-done g c is =
     let told = c.finish.ensures in
     let exit = c.run_looked-exit.result in
     let was = was_done (has_failed c.finish.new.self.streams.writer.now) exit c.finish.result told.sent told.failed is in
-    let done = c.run_looked-exit.ensures was in
-    let begun = done_behind _ g.W.Write.contents c.args.subcommand done.0 c.args.self.now.reporter c.set_piped.new.self _
-    c.set_piped.ensures.output done.1 in
-    (done.0, done_kept _ c.args.subcommand done.0 _ _ _ told.keeps begun)
+    let done = c.run_looked-exit.ensures.done was in
+    let begun = done_behind _ g.W.Write.contents c.args.subcommand c.args.matches.now 0 c.args.self.now.reporter c.set_piped.new.self _
+    c.set_piped.ensures.output done in
+    done_kept _ c.args.subcommand c.args.matches.now 0 _ _ _ told.keeps begun
+
+pub returns-clause-stopped : goal.returns-clause-stopped
+returns-clause-stopped g c sound piped =
+    let told = c.finish.ensures in
+    let before = was_sound (has_failed c.finish.new.self.streams.writer.now) c.run_looked-exit.result c.finish.result told.sent told.failed
+    sound in
+    let begun = stopped_behind _ g.W.Write.contents c.args.subcommand c.args.matches.now c.args.self.now.reporter c.set_piped.new.self _
+    c.set_piped.ensures.output (c.run_looked-exit.ensures.stopped before piped) in
+    stopped_kept _ c.args.subcommand c.args.matches.now _ _ _ told.keeps begun

@@ -2,6 +2,7 @@ use Rattle.std.specs.Prelude.{◌≡◌, refl, ℕ, ◌+◌, ◌<◌, ◌^◌, l
 use Rattle.std.proofs.Common.{◌∙◌, arith, rules, subst}
 use Rattle.command_files.specs.Reporting.{output_of}
 use Rattle.command_files.specs.Taking.{TakesAll, manner_of, state_of}
+use Rattle.command_files.proofs.ReportingLaws.{says_more}
 use Rattle.command_files.proofs.TakingLaws.{takes_as, takes_more, takes_none_yet}
 use Rattle.command_files.proofs.session.Session.take_files.Goals as goal
 
@@ -11,6 +12,7 @@ loop-path-init g c = record {
   place = refl;
   disk = refl;
   piped = c.set_files.ensures.says.piped;
+  silent = λ piped. c.set_files.ensures.says;
   listed = refl;
   taken = takes_none_yet g.W.Write.contents _ 1 _ _ _ c.args.self.now.reporter c.set_files.new.self _ c.set_files.ensures.says;
 }
@@ -32,6 +34,8 @@ loop-path-preserved g c =
       place = omega (arith, next);
       disk = c.take_or_pass.ensures.disk ∙ before.disk;
       piped = c.in_ok-take_or_pass.ensures.piped ∙ before.piped;
+      silent = λ piped. says_more c.args.self.now.reporter c.loop-path.self.reporter c.take_or_pass.new.self.reporter (before.silent piped)
+          (c.take_or_pass.ensures.silent (before.piped ∙ piped));
       listed = c.take_or_pass.ensures.listed ∙ before.listed;
       taken = takes_more manner 1 c.loop-path.path-index 1 _ _ _ _ _ _ before.taken (subst (λ n. TakesAll manner n 1
           (state_of c.loop-path.replica c.loop-path.self.disk c.loop-path.self.work

@@ -1,0 +1,20 @@
+-- The texts of columns and a query that a command tells. All of this is our own.
+use Rattle.std.specs.Prelude.{◌≡◌, ℕ, List, codes, Option, Some, None}
+use Rattle.clap.specs.Matches.{found_of, first_value}
+use Rattle.clap.specs.declared.parser.matches.ArgMatches.{ArgMatches}
+use Rattle.command_words.specs.LineEnd.{DropsLineEnd}
+use Rattle.command_words.specs.Told.{value_told}
+
+-- a text is the value of an option, or where another option tells a file, what that has without one line end behind it
+abbrev pub IsTextOf : (path : Option (List ℕ)) → (value text : List ℕ) → Type 0
+IsTextOf None value text = text ≡ value
+IsTextOf (Some path) value text = (file : List ℕ) × DropsLineEnd file text
+
+-- the same by the names of the two options
+abbrev pub IsTextTold : ArgMatches → (file_option option : List ℕ) → (text : List ℕ) → Type 0
+IsTextTold matches file_option option text = IsTextOf (first_value (found_of matches) file_option) (value_told matches option) text
+
+-- the texts of the columns and the query of `new`
+pub record AreTextsTold (matches : ArgMatches) (columns query : List ℕ) : Type 0 where
+  pub columns_told : IsTextTold matches (codes "columns-file") (codes "columns") columns
+  pub query_told : IsTextTold matches (codes "query-file") (codes "query") query
