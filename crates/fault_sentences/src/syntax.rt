@@ -4,7 +4,8 @@ use crate::hints::{ARGUMENT, CALL_TERM, FRACTION, Hint, KEY_PLACE, of_function, 
 use crate::places::{Lexed, Sign, piece_at, sign_of, tokens_before};
 use crate::quoted::Quoted;
 use crate::reason::Reason;
-use crate::wanted::{begins, goes_on, wanted};
+use crate::wanted::wanted;
+use group_parser::{begins, goes_on};
 use grouping_model::limits::MAX_NAME_LEN;
 use having_filter::Comparison;
 use query_tokens::{Symbol, Token, is_reserved};

@@ -1,10 +1,6 @@
 //! What may stand next in a query: what the parser goes on with.
 
-ghost use Rattle.std.specs.Prelude.{◌↔◌, ◌++◌, codes, IfOk, IsTrue};
-ghost use Rattle.fault_sentences.specs.Fronts.{IsFront};
-
-use group_parser::count_begun;
-use query_tokens::{TokenError, tokens};
+use group_parser::goes_on;
 use std::alloc::{AllocError, Global};
 
 /// Names that may stand next, the first that fits: what the query goes on with, and what the name is then.
@@ -63,28 +59,6 @@ fn said_of(alloc: Global, words: &[&str]) -> Result<String, AllocError> {
         said.push_str(word)?;
     }
     Ok(said)
-}
-
-/// Whether a query begins with the tokens of a text.
-#[tactic(auto, using(crate::proofs::Fronts::is_front, crate::proofs::Fronts::is_begun, crate::proofs::Fronts::is_no_front))]
-pub(crate) fn begins(alloc: Global, text: &str) -> Result<bool, AllocError>
-    ensures { IfOk result (λ begins. IsTrue begins ↔ IsFront text.now) }
-{
-    match tokens(alloc, text) {
-        Ok(found) => Ok(count_begun(alloc, &found)? == found.len()),
-        Err(TokenError::NoMemory) => Err(AllocError),
-        Err(TokenError::Fault(_)) => Ok(false),
-    }
-}
-
-/// Whether a query goes on so behind a front.
-pub(crate) fn goes_on(alloc: Global, front: &str, next: &str) -> Result<bool, AllocError>
-    ensures { IfOk result (λ goes_on. IsTrue goes_on ↔ IsFront (front.now ++ codes " " ++ next.now)) }
-{
-    let mut text = String::from_str(alloc, front)?;
-    text.push_str(" ")?;
-    text.push_str(next)?;
-    begins(alloc, &text)
 }
 
 /// What the name is that may stand next, or nothing.

@@ -1,8 +1,10 @@
 -- How far tokens go as a query (own).
 use Rattle.std.specs.Prelude.{◌≡◌, ℕ, ◌-◌, List, [], ◌∷◌, ◌++◌, length, Ok, Err}
-use Rattle.query_tokens.specs.Words.{Lexeme}
+use Rattle.query_tokens.specs.Words.{Lexeme, Placed}
+use Rattle.query_tokens.specs.Tokens.{tokens_in}
+use Rattle.query_tokens.specs.Spelling.{lexemes_of}
 use Rattle.query_checks.specs.Order.{Asked}
-use Rattle.query_grammar.specs.Queries.{Begins}
+use Rattle.query_grammar.specs.Queries.{Begins, most_open}
 use Rattle.query_grammar.specs.Reading.{Read, Unexpected, Too_deep}
 
 -- no query goes on after the front with the first of these tokens, if there is one
@@ -24,3 +26,9 @@ abbrev pub read_of : List Lexeme → Read Asked → ℕ
 read_of ts (Ok x) = length ts
 read_of ts (Err (Unexpected left)) = length ts - left
 read_of ts (Err (Too_deep left)) = length ts - left
+
+-- the tokens of a text are a query, or more tokens make one of them
+pub record IsFront (text : List ℕ) : Type 0 where
+  pub tokens : List Placed
+  pub read : tokens_in text ≡ Ok tokens
+  pub begins : Begins most_open (lexemes_of tokens)

@@ -1,14 +1,14 @@
 //! How far tokens go as a query.
 
-ghost use Rattle.std.specs.Prelude.{◌≡◌, IfOk};
+ghost use Rattle.std.specs.Prelude.{◌≡◌, ◌↔◌, ◌++◌, codes, IfOk, IsTrue};
 ghost use Rattle.query_grammar.specs.Queries.{most_open};
 ghost use Rattle.query_grammar.specs.Whole.{query_at};
 ghost use Rattle.group_parser.specs.Views.{lexemes};
-ghost use Rattle.group_parser.specs.Fronts.{read_of, IsLongestFront};
+ghost use Rattle.group_parser.specs.Fronts.{read_of, IsFront, IsLongestFront};
 
 use crate::fault::ReadError;
 use crate::query::query;
-use query_tokens::Token;
+use query_tokens::{Token, TokenError, tokens};
 use std::alloc::{AllocError, Global};
 
 /// How many tokens are read before reading stops.
@@ -31,4 +31,26 @@ pub fn count_begun(alloc: Global, tokens: &[Token]) -> Result<usize, AllocError>
 {
     let count = count_read(alloc, tokens)?;
     Ok(count)
+}
+
+/// Whether a query begins with the tokens of a text: whether they are one, or more can make them one.
+#[tactic(auto, using(crate::proofs::Fronts::is_front, crate::proofs::Fronts::is_begun, crate::proofs::Fronts::is_no_front))]
+pub fn begins(alloc: Global, text: &str) -> Result<bool, AllocError>
+    ensures { IfOk result (λ begins. IsTrue begins ↔ IsFront text.now) }
+{
+    match tokens(alloc, text) {
+        Ok(found) => Ok(count_begun(alloc, &found)? == found.len()),
+        Err(TokenError::NoMemory) => Err(AllocError),
+        Err(TokenError::Fault(_)) => Ok(false),
+    }
+}
+
+/// Whether a query goes on so behind the text of a front.
+pub fn goes_on(alloc: Global, front: &str, next: &str) -> Result<bool, AllocError>
+    ensures { IfOk result (λ goes_on. IsTrue goes_on ↔ IsFront (front.now ++ codes " " ++ next.now)) }
+{
+    let mut text = String::from_str(alloc, front)?;
+    text.push_str(" ")?;
+    text.push_str(next)?;
+    begins(alloc, &text)
 }

@@ -15,7 +15,7 @@ mod printing;
 mod query;
 
 pub use error::ParseError;
-pub use front::count_begun;
+pub use front::{begins, count_begun, goes_on};
 pub use laws::exactly_the_grammar;
 pub use parsing::{parse, read};
 pub use printing::print;

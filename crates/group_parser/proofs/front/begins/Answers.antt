@@ -6,8 +6,8 @@ use Rattle.query_tokens.specs.Spelling.{lexemes_of}
 use Rattle.query_tokens.specs.declared.word.Token.{Token}
 use Rattle.query_grammar.specs.Queries.{most_open}
 use Rattle.group_parser.specs.Fronts.{IsLongestFront}
-use Rattle.fault_sentences.proofs.Fronts.{is_front, is_begun}
-use Rattle.fault_sentences.proofs.wanted.begins.Goals as goal
+use Rattle.group_parser.proofs.Fronts.{is_front, is_begun}
+use Rattle.group_parser.proofs.front.begins.Goals as goal
 
 pub returns-in_ok-count_begun-in-Ok : goal.returns-in_ok-count_begun-in-Ok
 returns-in_ok-count_begun-in-Ok c =

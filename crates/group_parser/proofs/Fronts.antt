@@ -7,8 +7,7 @@ use Rattle.query_tokens.specs.declared.fault.Fault.{Fault}
 use Rattle.query_tokens.specs.Tokens.{tokens_in}
 use Rattle.query_tokens.specs.Spelling.{lexemes_of}
 use Rattle.query_grammar.specs.Queries.{Begins, IsQuery, most_open}
-use Rattle.group_parser.specs.Fronts.{IsLongestFront, NoneFollows}
-use Rattle.fault_sentences.specs.Fronts.{IsFront}
+use Rattle.group_parser.specs.Fronts.{IsFront, IsLongestFront, NoneFollows}
 
 -- a front that has as many tokens as there are is all of them
 all_begin : (limit : ℕ) (ts front rest : List Lexeme) → ts ≡ front ++ rest → length front ≡ length ts → Begins limit front
