@@ -47,7 +47,8 @@ merged_same other old new (Err why) m = session_is new old m.merges.0 m.means m.
 pub merged_file_same : {T : Type 0} (file : List ℕ) (old new : SessionState) (result : Result T Refusal)
     → MergesFileSession file old new result → OnErr result (new ≡ old)
 merged_file_same file old new (Ok done) m = tt
-merged_file_same {T = T} file old new (Err why) m = session_is new old (merge_same {T = T} true file old.held new.held (Err why) m.merges) m.means m.ran.uncounted
+merged_file_same {T = T} file old new (Err why) m = session_is new old (merge_same {T = T} true file old.held new.held (Err why) m.merges)
+    m.means m.ran.uncounted
 
 module _ {D H T : Type 0} (g : Ghosts D) (means : MeansState H) (Counts : Counting) (old new : SessionState) (before after : D)
     (limit : means.limit ≡ old.limit) (honest : IsTrue (g.honest before)) (fresh : g.writes before ≡ 0) where
@@ -118,8 +119,10 @@ module _ {H : Type 0} (means : MeansState H) (old new : SessionState) (before af
       (ran_weaker memory.ghosts (λ _ key. fnv_1a key) old.held.query means
       (AreCounted (aggregations_on (part_of old.held.parts batch.origin) batch.number batch.rows)) (FeedIsCounted file old.held) Done before
       old.work after new.work
-      (λ counted. of_batch_file file old.held (λ origin number packed. AreCounted (aggregations_on (part_of old.held.parts origin) number packed)
-      (meaning old.held.query) (setting_by {H = H} (λ _ key. fnv_1a key) (meaning old.held.query) means) old.work before.count new.work after.count)
+      (λ counted. of_batch_file file old.held (λ origin number packed. AreCounted
+          (aggregations_on (part_of old.held.parts origin) number packed)
+      (meaning old.held.query) (setting_by {H = H} (λ _ key. fnv_1a key) (meaning old.held.query) means) old.work before.count new.work
+          after.count)
       batch read counted) ran)
 
   pub merged_by_limit : (other : SessionState) → MergesHeld true old.held other.held new.held
@@ -128,7 +131,8 @@ module _ {H : Type 0} (means : MeansState H) (old new : SessionState) (before af
   merged_by_limit other merges ran =
       record {
         merges = merges;
-        ran = done_by_limit memory.ghosts means (MergeIsCounted old.held.parts other.held.parts) old new before after limit refl fresh tt ran;
+        ran = done_by_limit memory.ghosts means (MergeIsCounted old.held.parts other.held.parts) old new before after limit refl fresh tt
+            ran;
         means = kept;
         untaped = tt;
       }

@@ -19,7 +19,8 @@ use Rattle.replies.specs.declared.refusal.Refusal.{Refusal}
 use Rattle.replies.specs.declared.refusal.Refusal.TheVariants as refuse
 use Rattle.engine.specs.declared.status.Status.{Status}
 use Rattle.engine.specs.declared.status.Status.TheVariants as says
-use Rattle.engine.specs.Statuses.{status_number, status_at, status_name, status_of, query_status, parse_status, batch_status, summary_status, run_status}
+use Rattle.engine.specs.Statuses.{status_number, status_at, status_name, status_of, query_status, parse_status, batch_status}
+use Rattle.engine.specs.Statuses.{summary_status, run_status}
 
 query_name_is : (e : QueryError) → status_name (query_status e) ≡ query_name e
 query_name_is query.NoMemory = refl

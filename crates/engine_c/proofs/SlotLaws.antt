@@ -50,7 +50,8 @@ module _ {T : Type 0} (does : (old new : KeptState) → Result T Status → Type
   full_slot k old new status number was is calls ended = still k old new status number (ap kept_by was) (ap kept_by is) calls ended
 
 -- an empty slot has no session that does anything
-pub closed_slot : {T : Type 0} (does : SessionState → SessionState → Result T Refusal → Type 0) (gives : T → Type 0) (old new : Option KeptState)
+pub closed_slot : {T : Type 0} (does : SessionState → SessionState → Result T Refusal → Type 0) (gives : T → Type 0)
+    (old new : Option KeptState)
     (number : ℕ) → old ≡ None → new ≡ None → number ≡ status_number says.NotOpen → CallsSlot (OnSession does) gives old new number
 closed_slot does gives old new number was is ended =
     empty_slot (OnSession does) gives old new says.NotOpen number was is (refl, refl, refl) ended

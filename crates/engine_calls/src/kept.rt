@@ -255,7 +255,8 @@ impl Kept {
     ///
     /// `NotOpen`, and `NoMemory`. Nothing changes then.
     pub fn answer(&mut self, format: Format) -> Result<usize, Status>
-        ensures asks { OnSession (Asks (λ held text rows. IsTableOf format held rows text) ForMemory self.new.told) self.old self.new result }
+        ensures asks { OnSession (Asks (λ held text rows. IsTableOf format held rows text) ForMemory self.new.told) self.old self.new
+            result }
         ensures same { OnErr result (Unchanged self.old self.new) }
     {
         let Some(session) = &self.session else {

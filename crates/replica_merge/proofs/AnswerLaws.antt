@@ -1,6 +1,7 @@
 -- The inputs of an answer, and the answer that their groups give.
 use Rattle.std.specs.Borrow.{Bor}
-use Rattle.std.specs.Prelude.{◌≡◌, ◌≢◌, refl, ℕ, ◌+◌, ◌*◌, ◌<◌, ◌≤◌, true, false, cond, List, [], ◌∷◌, ◌++◌, map, filter, flat_map, length, Bool}
+use Rattle.std.specs.Prelude.{◌≡◌, ◌≢◌, refl, ℕ, ◌+◌, ◌*◌, ◌<◌, ◌≤◌, true, false, cond, List, [], ◌∷◌, ◌++◌, map, filter, flat_map}
+use Rattle.std.specs.Prelude.{length, Bool}
 use Rattle.std.specs.Prelude.{All, Some}
 use Rattle.std.proofs.Common.{sym, ◌∙◌, ap, subst, arith}
 use Rattle.std.proofs.lemmas.List.{length-map}
@@ -252,7 +253,8 @@ GivenBy q run rows = (most : ℕ) (groups : List Group) → most ≤ most_rows �
     → rows ≡ rows_of q (answered q groups)
 
 -- where nothing arranges them they are what is shown
-as_given : (q : Query) (run : List Entry) (rows : List (List Outcome)) → q.arrangement ≡ unarranged → GivenBy q run rows → ShownBy q run rows
+as_given : (q : Query) (run : List Entry) (rows : List (List Outcome)) → q.arrangement ≡ unarranged → GivenBy q run rows
+    → ShownBy q run rows
 as_given q run rows none given =
     λ most groups low are.
     let those = rows_of q (answered q groups) in

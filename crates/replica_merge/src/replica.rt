@@ -198,8 +198,8 @@ impl Replica {
         Answer::arranged(self.alloc, rows, self.query.arrangement())
     }
 
-    /// Gives a sink the rows of the answer, where no clause behind HAVING arranges them: those of [`Replica::answer`], one after another. They
-    /// are not kept beside what the sink makes of them.
+    /// Gives a sink the rows of the answer, where no clause behind HAVING arranges them: those of [`Replica::answer`], one after another.
+    /// They are not kept beside what the sink makes of them.
     ///
     /// # Errors
     ///

@@ -21,7 +21,8 @@ behind : (fails : Bool) (error : QueryError) (rest : Result Checked QueryError) 
 behind true error rest q passed = absurd (false≢true (ap (λ (r : Result Checked QueryError). is_ok r) passed))
 behind false error rest q passed = passed
 
-over_arrangement : (columns : List Column) (written : Result (Written ℕ) QueryError) (arrangement : Result (Arrangement OrderTerm) QueryError) (q : Checked)
+over_arrangement : (columns : List Column) (written : Result (Written ℕ) QueryError)
+    (arrangement : Result (Arrangement OrderTerm) QueryError) (q : Checked)
     → with_arrangement columns written arrangement ≡ Ok q → q.columns ≡ columns
 over_arrangement columns (Err e) arrangement q passed = absurd (false≢true (ap (λ (r : Result Checked QueryError). is_ok r) passed))
 over_arrangement columns (Ok written) (Err e) q passed = absurd (false≢true (ap (λ (r : Result Checked QueryError). is_ok r) passed))

@@ -136,8 +136,8 @@ fn json_table(alloc: Global, replica: &Replica) -> Result<(usize, Vec<u8>), Allo
     Ok(table.finish())
 }
 
-/// How many rows a replica's answer has, and its table in a format. For each world that the replica fits, it is the query's answer. Rows are
-/// kept only where ORDER BY sorts them, or an aligned table has to know the widths of its columns. The only error is out of memory.
+/// How many rows a replica's answer has, and its table in a format. For each world that the replica fits, it is the query's answer. Rows
+/// are kept only where ORDER BY sorts them, or an aligned table has to know the widths of its columns. The only error is out of memory.
 pub fn table(
     alloc: Global,
     replica: &Replica,

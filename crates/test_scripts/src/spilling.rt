@@ -105,14 +105,20 @@ fn told(alloc: Global, case: &str) -> Result<String, RunError> {
 /// answer calls no disk.
 const FAULTS: &str = "\
 write: answer,a;merge,a,b;known,a => 1 answer 1/c,count,sum/k0384,2,768/refused TapeFault/known 2/origin 0 upto 1/origin 1 upto 1
-write: merge,a,b;known,a;merge,a,b;answer,a => 1 refused TapeFault/known 2/origin 0 upto 1/origin 1 upto 1/merged/answer 1/c,count,sum/k0384,3,1152
-write: feed,b,0,1,385;known,b;feed,b,0,1,385;answer,b => 1 refused TapeFault/known 1/origin 0 upto 0 early 2/folded upto 2/answer 1/c,count,sum/k0384,2,768
+write: merge,a,b;known,a;merge,a,b;answer,a => 1 refused TapeFault/known 2/origin 0 upto 1/origin 1 upto 1/merged/answer \
+    1/c,count,sum/k0384,3,1152
+write: feed,b,0,1,385;known,b;feed,b,0,1,385;answer,b => 1 refused TapeFault/known 1/origin 0 upto 0 early 2/folded upto 2/answer \
+    1/c,count,sum/k0384,2,768
 read: answer,a;merge,a,b;known,a => 1 answer 1/c,count,sum/k0384,2,768/refused TapeFault/known 2/origin 0 upto 1/origin 1 upto 1
-read: merge,a,b;known,a;merge,a,b;answer,a => 1 refused TapeFault/known 2/origin 0 upto 1/origin 1 upto 1/merged/answer 1/c,count,sum/k0384,3,1152
-read: feed,b,0,1,385;known,b;feed,b,0,1,385;answer,b => 1 refused TapeFault/known 1/origin 0 upto 0 early 2/folded upto 2/answer 1/c,count,sum/k0384,2,768
+read: merge,a,b;known,a;merge,a,b;answer,a => 1 refused TapeFault/known 2/origin 0 upto 1/origin 1 upto 1/merged/answer \
+    1/c,count,sum/k0384,3,1152
+read: feed,b,0,1,385;known,b;feed,b,0,1,385;answer,b => 1 refused TapeFault/known 1/origin 0 upto 0 early 2/folded upto 2/answer \
+    1/c,count,sum/k0384,2,768
 flip: answer,a;merge,a,b;answer,a => 1 answer 1/c,count,sum/k0384,2,768/refused TapeDamaged/answer 1/c,count,sum/k0384,2,768
-flip: merge,a,b;known,a;merge,a,b;limit,90128;merge,a,b;answer,a => 2 refused TapeDamaged/known 2/origin 0 upto 1/origin 1 upto 1/refused TapeDamaged/limit 90128/merged/answer 1/c,count,sum/k0384,3,1152
-flip: feed,b,0,1,385;known,b;limit,90128;feed,b,0,1,385;answer,b => 1 refused TapeDamaged/known 1/origin 0 upto 0 early 2/limit 90128/folded upto 2/answer 1/c,count,sum/k0384,2,768";
+flip: merge,a,b;known,a;merge,a,b;limit,90128;merge,a,b;answer,a => \
+    2 refused TapeDamaged/known 2/origin 0 upto 1/origin 1 upto 1/refused TapeDamaged/limit 90128/merged/answer 1/c,count,sum/k0384,3,1152
+flip: feed,b,0,1,385;known,b;limit,90128;feed,b,0,1,385;answer,b => \
+    1 refused TapeDamaged/known 1/origin 0 upto 0 early 2/limit 90128/folded upto 2/answer 1/c,count,sum/k0384,2,768";
 
 #[test]
 fn faults_of_disks_are_told(rt: HostRuntime) -> Result<(), Fail> {

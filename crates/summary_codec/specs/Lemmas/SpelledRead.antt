@@ -14,7 +14,8 @@ use Rattle.std.specs.Cmp.{IsTotalOrder, nat_cmp_total}
 use Rattle.std.specs.Cmp.Lexicographic.{slice_cmp}
 use Rattle.std.specs.declared.cmp.Ordering.{Ordering}
 use Rattle.summary_codec.specs.Lemmas.Words.{Kind, Row, HasKinds, Group, Query, LAST_ORIGIN, MAX_ROWS, Column, kinds, printed, packings}
-use Rattle.summary_codec.specs.Lemmas.Words.{checked, checked_places, checked_arrangement, with_arrangement, all_of, has_too_many, is_shallow}
+use Rattle.summary_codec.specs.Lemmas.Words.{checked, checked_places, checked_arrangement, with_arrangement, all_of, has_too_many}
+use Rattle.summary_codec.specs.Lemmas.Words.{is_shallow}
 use Rattle.summary_codec.specs.Lemmas.Words.{are_shallow, has_columns, placed, Checked, by_names, key_kinds, meaning, spelling, Entry}
 use Rattle.summary_codec.specs.Lemmas.Words.{packed_keys, AreGroups, Part, IsEarly, IsPartOf, Parts, IsHeldPart, AreHeldParts, sized_bytes}
 use Rattle.summary_codec.specs.Lemmas.Words.{batch_bytes, part_bytes, body_bytes, file_in, IsNext, IsPacking, AreStateBytes, MayFollow}

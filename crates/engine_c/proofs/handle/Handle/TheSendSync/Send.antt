@@ -43,7 +43,8 @@ use denote.RattleType.{RattleType}
 use denote.RawPtr.{Ptr, block_ptr, null_ptr}
 use denote.Struct.Declared.{shape}
 use mir.Raw.{raw}
-use denote.Param.Send.{IsSend, IsSync, part_keyless, owning_send, view_send, recorded_send, recorded_sync, struct_send, struct_sync, plain_send, sendable}
+use denote.Param.Send.{IsSend, IsSync, part_keyless, owning_send, view_send, recorded_send, recorded_sync, struct_send, struct_sync}
+use denote.Param.Send.{plain_send, sendable}
 
 item_send : (C : RattleType) → IsSend C → IsSend (item.the_row C)
 item_send C c = search (sendable, crosses, send-AggCall) depth 20
@@ -59,7 +60,8 @@ parts_field_send =
         search (sendable, crosses, send-Cond) depth 20,
         (
           search (sendable, crosses) depth 20,
-          (search (sendable, crosses, send-Cond) depth 20, (search (sendable, crosses, arrangement.the_send, arrangement.the_field_send) depth 20, tt)),
+          (search (sendable, crosses, send-Cond) depth 20,
+              (search (sendable, crosses, arrangement.the_send, arrangement.the_field_send) depth 20, tt)),
         ),
       ),
     )
@@ -93,7 +95,8 @@ parts_field_sync =
         search (sendable, crosses, sync-Cond) depth 20,
         (
           search (sendable, crosses) depth 20,
-          (search (sendable, crosses, sync-Cond) depth 20, (search (sendable, crosses, arrangement.the_sync, arrangement.the_field_sync) depth 20, tt)),
+          (search (sendable, crosses, sync-Cond) depth 20,
+              (search (sendable, crosses, arrangement.the_sync, arrangement.the_field_sync) depth 20, tt)),
         ),
       ),
     )
@@ -143,7 +146,8 @@ kept_send : IsSend Kept.the_row
 kept_send = search (sendable, crosses, session_send, refusal.the_send, reason.the_send, reason.the_field_send) depth 20
 
 box_keyless : (a : Global) (p : Ptr) (x : Content) → Keyless (box_owns (ghosts.dealloc_token a) Kept.the_row p x)
-box_keyless a (block_ptr b o) x = (part_keyless Kept.the_row kept_send full_share x b o, frees.frees a (raw (lone Kept.the_row.mir)) (block_ptr b o))
+box_keyless a (block_ptr b o) x = (part_keyless Kept.the_row kept_send full_share x b o, frees.frees a (raw (lone Kept.the_row.mir))
+    (block_ptr b o))
 box_keyless a null_ptr x = (tt, frees.frees a (raw (lone Kept.the_row.mir)) null_ptr)
 
 owns_keyless : (a : Global) (p : Ptr) (kept : Option Content) → Keyless (handle_owns a p kept)

@@ -20,7 +20,8 @@ returns-clause-ran g c = record { ran = c.in_ok-joined.ensures.ran.ran; order = 
 pub returns-in_err-joined-clause-merges : goal.returns-in_err-joined-clause-merges
 returns-in_err-joined-clause-merges g c =
     let p = err_from_is_err_and c.from_residual.result c.from_residual.ensures.1 in
-    rw p.1 (subst (λ e. MergesReplicas {T = Unit {0}} (g.D.TapeDisk.honest c.args.disk.now) c.args.self.now c.args.other.now c.args.self.now (Err e))
+    rw p.1 (subst (λ e. MergesReplicas {T = Unit {0}} (g.D.TapeDisk.honest c.args.disk.now) c.args.self.now c.args.other.now
+        c.args.self.now (Err e))
     (sym p.2) (record { merged = tt; refused = c.in_err-joined.ensures.joins.refused; same = refl }))
 
 pub returns-in_err-joined-clause-ran : goal.returns-in_err-joined-clause-ran
