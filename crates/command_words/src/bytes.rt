@@ -29,8 +29,8 @@ fn unit_of(suffix: &[u8]) -> Option<u64>
     }
 }
 
-/// The number of bytes that a text tells: 1 to 19 digits, leading zeros included, and a suffix or none. It is `k`, `m`, `g` or `t` in either
-/// case of letters, or `KiB`, `MiB`, `GiB` or `TiB`: one is 1,024 bytes, or the second to the fourth power of that.
+/// The number of bytes that a text tells: 1 to 19 digits, leading zeros included, and a suffix or none. It is `k`, `m`, `g` or `t` in
+/// either case of letters, or `KiB`, `MiB`, `GiB` or `TiB`: one is 1,024 bytes, or the second to the fourth power of that.
 pub fn read_bytes(text: &str) -> Option<u128>
     ensures { result ≡ bytes_told text.now }
 {

@@ -16,8 +16,8 @@ pub trait RowSink {
     // Whether a sink became another by refusing a row.
     ghost refused: { Self → Self → Type 0 };
 
-    /// Takes a row. The only error is a failed allocation, which refuses the row: no part of it stands before rows that the sink takes later.
-    /// A sink that can't undo what it began takes no row from then on.
+    /// Takes a row. The only error is a failed allocation, which refuses the row: no part of it stands before rows that the sink takes
+    /// later. A sink that can't undo what it began takes no row from then on.
     fn push_row(&mut self, row: &[ResultValue<'_>]) -> Result<(), AllocError>
         ensures taken { OnOk result (took self.old self.new (map outcome_of row.now ∷ [])) }
         ensures untaken { OnErr result (refused self.old self.new) };

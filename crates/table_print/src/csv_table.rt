@@ -70,8 +70,8 @@ fn put_line(writer: &mut Writer<Vec<u8>>, row: &[ResultValue<'_>]) -> Result<(),
 }
 
 /// A table in CSV that takes its rows one after another: a header, then a line for each row. Null shows as `\N`, truth values as `t` and
-/// `f`, numbers in plain decimal. Fields are quoted where RFC 4180 wants it, and each line ends with a line feed. A table to which a row was
-/// not written whole, since an allocation failed, takes no row and gives no text from then on.
+/// `f`, numbers in plain decimal. Fields are quoted where RFC 4180 wants it, and each line ends with a line feed. A table to which a row
+/// was not written whole, since an allocation failed, takes no row and gives no text from then on.
 #[derive(Drop)]
 pub struct CsvTable {
     writer: Writer<Vec<u8>>,
