@@ -1,12 +1,15 @@
 //! What is kept between calls.
 
-ghost use Rattle.std.specs.Prelude.{◌≡◌, [], None, Some, IfOk, IfErr, OnOk, OnErr};
+ghost use Rattle.std.specs.Prelude.{◌≡◌, [], None, Some, IfOk, IfErr, IfSome, OnOk, OnErr, option_map};
 ghost use Rattle.engine.specs.Calls.{Creates, Loads, FeedsFile, FeedsRows, MergesFileSession, IsFileOf, IsTooLong, IsTableOf};
 ghost use Rattle.engine.specs.Calls.{IsKnownText, IsQueryText, IsColumnsText, NoMemory};
 ghost use Rattle.engine.specs.Statuses.{status_of};
 ghost use Rattle.engine_calls.specs.Calls.{OnSession, OpensBy, Asks, ForMemory, MergesWith, last_place};
-ghost use Rattle.engine_calls.specs.Keeping.{Unchanged, nothing};
+ghost use Rattle.engine_calls.specs.Keeping.{Unchanged, nothing, reason_made, reason_state};
+ghost use Rattle.engine_calls.specs.Keeping.{ReasonOnAsking, ReasonOnClosed, ReasonOnMerge, ReasonOnOpen};
+ghost use Rattle.engine_calls.specs.declared.last.Asked.TheVariants.{Create, Feed, Load, Merge, Save};
 
+use crate::last::{Asked, Last, Told};
 use crate::reasons::{merging_reason, opening_reason, rows_reason, sentence};
 use engine::{Delivered, Format, Place, Refusal, Seed, Session, Status};
 use fault_sentences::Reason;
@@ -14,25 +17,24 @@ use file_sentences::{FileKind, file_reason, saving_reason, summary_reason};
 use std::alloc::{AllocError, Global};
 use std::marker::Model;
 
-/// What is kept between calls: a session, if one is open, the last result, the last refusal, and its reason.
+/// What is kept between calls: a session, if one is open, the last result, and the last refusal with its reason.
 #[derive(Drop)]
 pub struct Kept {
     alloc: Global,
     session: Option<Session>,
     told: Vec<u8>,
-    why: Option<Refusal>,
-    reason: Option<Reason>,
+    last: Option<Last>,
 }
 
 impl Model for Kept {
-    ghost use Rattle.engine_calls.specs.Keeping.{KeptState};
+    ghost use Rattle.engine_calls.specs.Keeping.{KeptState, reason_of, why_of};
     ghost use Rattle.engine_calls.specs.Coding.{coded_kept};
 
     ghost Value = { KeptState };
 
     ghost coded = { coded_kept };
 
-    ghost view = { λ k. record { session = k.session; told = k.told.items; why = k.why } };
+    ghost view = { λ k. record { session = k.session; told = k.told.items; why = why_of k.last; reason = reason_of k.last } };
 }
 
 /// The bytes of a text.
@@ -40,6 +42,17 @@ fn bytes_of(alloc: Global, text: &str) -> Result<Vec<u8>, AllocError>
     ensures { IfOk result (λ bytes. bytes.items ≡ text.now) }
 {
     text.as_bytes().to_vec(alloc)
+}
+
+/// The reason of a call that asked this, if there was memory for it.
+fn told_of(asked: Asked, reason: Result<Option<Reason>, AllocError>) -> Option<Told>
+    ensures { option_map reason_state result ≡ reason_made asked reason }
+{
+    match reason {
+        Ok(Some(reason)) => Some(Told { asked, reason }),
+        Ok(None) => None,
+        Err(_) => None,
+    }
 }
 
 impl Kept {
@@ -51,31 +64,47 @@ impl Kept {
             alloc,
             session: None,
             told: Vec::new(alloc),
-            why: None,
-            reason: None,
+            last: None,
         }
     }
 
-    /// Keeps why a call was refused, and the reason, if there was memory for it.
-    fn refuse(&mut self, why: Refusal, reason: Result<Option<Reason>, AllocError>) -> Status
+    /// Keeps why a call was refused.
+    fn keep(&mut self, why: Refusal, told: Option<Told>) -> Status
         ensures status { result ≡ status_of why }
         ensures last { self.new.why ≡ Some why }
+        ensures reason { self.new.reason ≡ option_map reason_state told }
         ensures session { self.new.session ≡ self.old.session }
         ensures told { self.new.told ≡ self.old.told }
     {
-        self.why = Some(why);
-        self.reason = reason.unwrap_or(None);
+        self.last = Some(Last { why, told });
         Status::from(why)
+    }
+
+    /// Keeps why a call was refused that asked this, and the reason, if there was memory for it.
+    fn refuse(
+        &mut self,
+        asked: Asked,
+        why: Refusal,
+        reason: Result<Option<Reason>, AllocError>,
+    ) -> Status
+        ensures status { result ≡ status_of why }
+        ensures last { self.new.why ≡ Some why }
+        ensures reason { self.new.reason ≡ reason_made asked reason }
+        ensures session { self.new.session ≡ self.old.session }
+        ensures told { self.new.told ≡ self.old.told }
+    {
+        self.keep(why, told_of(asked, reason))
     }
 
     /// Keeps that memory ran out.
     fn refuse_for_memory(&mut self) -> Status
         ensures status { result ≡ status_of NoMemory }
         ensures last { self.new.why ≡ Some NoMemory }
+        ensures reason { self.new.reason ≡ None }
         ensures session { self.new.session ≡ self.old.session }
         ensures told { self.new.told ≡ self.old.told }
     {
-        self.refuse(Refusal::NoMemory, Ok(None))
+        self.keep(Refusal::NoMemory, None)
     }
 
     /// Opens an empty session, as [`Session::create`] makes it.
@@ -92,6 +121,7 @@ impl Kept {
     ) -> Result<(), Status>
         ensures opens { OpensBy (Creates columns.now query.now limit seed) self.old self.new result }
         ensures told { self.new.told ≡ self.old.told }
+        ensures reason { ReasonOnClosed Create self.old.session self.old.reason self.new.reason result }
         ensures same { OnErr result (Unchanged self.old self.new) }
     {
         if self.session.is_some() {
@@ -101,7 +131,7 @@ impl Kept {
             Ok(session) => session,
             Err(why) => {
                 let reason = opening_reason(self.alloc, columns, query, why);
-                return Err(self.refuse(why, reason));
+                return Err(self.refuse(Asked::Create, why, reason));
             }
         };
         self.session = Some(session);
@@ -116,6 +146,7 @@ impl Kept {
     pub fn load(&mut self, file: &[u8], limit: u64, seed: Seed) -> Result<(), Status>
         ensures opens { OpensBy (Loads file.now limit seed) self.old self.new result }
         ensures told { self.new.told ≡ self.old.told }
+        ensures reason { ReasonOnClosed Load self.old.session self.old.reason self.new.reason result }
         ensures same { OnErr result (Unchanged self.old self.new) }
     {
         if self.session.is_some() {
@@ -125,7 +156,7 @@ impl Kept {
             Ok(session) => session,
             Err(why) => {
                 let reason = summary_reason(self.alloc, file, why);
-                return Err(self.refuse(why, reason));
+                return Err(self.refuse(Asked::Load, why, reason));
             }
         };
         self.session = Some(session);
@@ -140,6 +171,7 @@ impl Kept {
     pub fn feed(&mut self, file: &[u8]) -> Result<Delivered, Status>
         ensures feeds { OnSession (FeedsFile file.now) self.old self.new result }
         ensures told { self.new.told ≡ self.old.told }
+        ensures reason { ReasonOnOpen Feed self.old.session self.old.reason self.new.reason result }
         ensures same { OnErr result (Unchanged self.old self.new) }
     {
         let Some(session) = &mut self.session else {
@@ -150,7 +182,7 @@ impl Kept {
             Err(why) => why,
         };
         let reason = file_reason(self.alloc, FileKind::Batch, session.replica(), file, why);
-        Err(self.refuse(why, reason))
+        Err(self.refuse(Asked::Feed, why, reason))
     }
 
     /// Feeds the batch of an origin and a number, with rows in CSV, as many as declared.
@@ -167,6 +199,7 @@ impl Kept {
     ) -> Result<Delivered, Status>
         ensures feeds { OnSession (FeedsRows origin number count rows.now) self.old self.new result }
         ensures told { self.new.told ≡ self.old.told }
+        ensures reason { ReasonOnOpen Feed self.old.session self.old.reason self.new.reason result }
         ensures same { OnErr result (Unchanged self.old self.new) }
     {
         let Some(session) = &mut self.session else {
@@ -178,7 +211,7 @@ impl Kept {
         };
         let replica = session.replica();
         let reason = rows_reason(self.alloc, replica, origin, number, count, rows, why);
-        Err(self.refuse(why, reason))
+        Err(self.refuse(Asked::Feed, why, reason))
     }
 
     /// Merges the replica of another session.
@@ -189,6 +222,7 @@ impl Kept {
     pub fn merge(&mut self, other: &Kept) -> Result<(), Status>
         ensures merges { MergesWith other.now.session self.old self.new result }
         ensures told { self.new.told ≡ self.old.told }
+        ensures reason { ReasonOnMerge other.now.session self.old.session self.old.reason self.new.reason result }
         ensures same { OnErr result (Unchanged self.old self.new) }
     {
         let Some(theirs) = &other.session else {
@@ -202,7 +236,7 @@ impl Kept {
             Err(why) => why,
         };
         let reason = merging_reason(self.alloc, session.replica(), &[], why);
-        Err(self.refuse(why, reason))
+        Err(self.refuse(Asked::Merge, why, reason))
     }
 
     /// Merges the replica of a summary file.
@@ -213,6 +247,7 @@ impl Kept {
     pub fn merge_file(&mut self, file: &[u8]) -> Result<(), Status>
         ensures merges { OnSession (MergesFileSession file.now) self.old self.new result }
         ensures told { self.new.told ≡ self.old.told }
+        ensures reason { ReasonOnOpen Merge self.old.session self.old.reason self.new.reason result }
         ensures same { OnErr result (Unchanged self.old self.new) }
     {
         let Some(session) = &mut self.session else {
@@ -223,7 +258,7 @@ impl Kept {
             Err(why) => why,
         };
         let reason = merging_reason(self.alloc, session.replica(), file, why);
-        Err(self.refuse(why, reason))
+        Err(self.refuse(Asked::Merge, why, reason))
     }
 
     /// Keeps the summary file as the result.
@@ -233,6 +268,7 @@ impl Kept {
     /// `NotOpen`, and then those of [`Session::save`]. Nothing changes then.
     pub fn save(&mut self) -> Result<(), Status>
         ensures asks { OnSession (Asks (λ held file _. IsFileOf held file) IsTooLong self.new.told) self.old self.new result }
+        ensures reason { ReasonOnOpen Save self.old.session self.old.reason self.new.reason result }
         ensures same { OnErr result (Unchanged self.old self.new) }
     {
         let Some(session) = &self.session else {
@@ -242,7 +278,7 @@ impl Kept {
             Ok(file) => file,
             Err(why) => {
                 let reason = saving_reason(self.alloc, session.replica(), why);
-                return Err(self.refuse(why, reason));
+                return Err(self.refuse(Asked::Save, why, reason));
             }
         };
         self.told = file;
@@ -257,6 +293,7 @@ impl Kept {
     pub fn answer(&mut self, format: Format) -> Result<usize, Status>
         ensures asks { OnSession (Asks (λ held text rows. IsTableOf format held rows text) ForMemory self.new.told) self.old self.new
             result }
+        ensures reason { ReasonOnAsking self.old.session self.old.reason self.new.reason result }
         ensures same { OnErr result (Unchanged self.old self.new) }
     {
         let Some(session) = &self.session else {
@@ -278,6 +315,7 @@ impl Kept {
     pub fn known(&mut self) -> Result<(), Status>
         ensures asks { OnSession (Asks (λ held text _. IsKnownText held text) ForMemory self.new.told)
             self.old self.new result }
+        ensures reason { ReasonOnAsking self.old.session self.old.reason self.new.reason result }
         ensures same { OnErr result (Unchanged self.old self.new) }
     {
         let Some(session) = &self.session else {
@@ -299,6 +337,7 @@ impl Kept {
     pub fn query(&mut self) -> Result<(), Status>
         ensures asks { OnSession (Asks (λ held text _. IsQueryText held text) ForMemory self.new.told)
             self.old self.new result }
+        ensures reason { ReasonOnAsking self.old.session self.old.reason self.new.reason result }
         ensures same { OnErr result (Unchanged self.old self.new) }
     {
         let Some(session) = &self.session else {
@@ -320,6 +359,7 @@ impl Kept {
     pub fn columns(&mut self) -> Result<(), Status>
         ensures asks { OnSession (Asks (λ held text _. IsColumnsText held text) ForMemory self.new.told)
             self.old self.new result }
+        ensures reason { ReasonOnAsking self.old.session self.old.reason self.new.reason result }
         ensures same { OnErr result (Unchanged self.old self.new) }
     {
         let Some(session) = &self.session else {
@@ -338,16 +378,19 @@ impl Kept {
     pub fn explain(&mut self) -> Result<Place, Status>
         ensures place { IfOk result (λ place. place ≡ last_place self.old.why) }
         ensures none { self.old.why ≡ None → OnOk result (self.new.told ≡ []) }
+        ensures text { OnOk result (IfSome self.old.reason (λ reason. self.new.told ≡ reason.text)) }
         ensures session { self.new.session ≡ self.old.session }
         ensures last { self.new.why ≡ self.old.why }
+        ensures reason { self.new.reason ≡ self.old.reason }
         ensures why { IfErr result (λ status. status ≡ status_of NoMemory) }
         ensures same { OnErr result (self.new ≡ self.old) }
     {
-        let Some(why) = self.why else {
+        let Some(last) = &self.last else {
             self.told.clear();
             return Ok(Place::NONE);
         };
-        match sentence(self.alloc, why, &self.reason) {
+        let why = last.why;
+        match sentence(self.alloc, last) {
             Ok(text) => {
                 self.told = text.into_bytes();
                 Ok(Place::of(why))

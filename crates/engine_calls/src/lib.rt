@@ -2,6 +2,8 @@
 #![tactic(auto)]
 
 mod kept;
+mod last;
 mod reasons;
 
 pub use kept::Kept;
+pub use last::Asked;

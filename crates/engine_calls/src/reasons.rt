@@ -1,5 +1,9 @@
 //! The sentence on a refusal, as the program writes it on standard error.
 
+ghost use Rattle.std.specs.Prelude.{◌≡◌, IfOk, IfSome, string_bytes};
+ghost use Rattle.engine_calls.specs.Keeping.{text_of};
+
+use crate::last::Last;
 use engine::{Refusal, Replica};
 use fault_sentences::Reason;
 use file_sentences::{FileKind, columns_reason, file_reason, query_reason};
@@ -59,16 +63,17 @@ pub(crate) fn merging_reason(
 }
 
 /// The sentence on a refusal: its reason, or else its general sentence.
-pub(crate) fn sentence(
-    alloc: Global,
-    why: Refusal,
-    reason: &Option<Reason>,
-) -> Result<String, AllocError> {
-    match reason {
-        Some(reason) => {
-            let (said, picture) = (&reason.said, &reason.picture);
+pub(crate) fn sentence(alloc: Global, last: &Last) -> Result<String, AllocError>
+    ensures { IfOk result (λ text. IfSome last.now.told (λ told. string_bytes text ≡ text_of told.reason)) }
+{
+    match &last.told {
+        Some(told) => {
+            let (said, picture) = (&told.reason.said, &told.reason.picture);
             format!(in alloc; "{said}{picture}")
         }
-        None => format!(in alloc; "{why}"),
+        None => {
+            let why = last.why;
+            format!(in alloc; "{why}")
+        }
     }
 }

@@ -4,6 +4,9 @@ use Rattle.agg_protocol.proofs.kind.AggKind.TheSendSync as agg_kind
 use Rattle.engine.specs.contracts.session.Session as Session
 use Rattle.engine_c.specs.Handles.{handle_owns, Content}
 use Rattle.engine_c.specs.contracts.handle.Handle.{the_row, the_type}
+use Rattle.engine_calls.proofs.last.Asked.TheSendSync as asking
+use Rattle.engine_calls.proofs.last.Last.TheSendSync as last
+use Rattle.engine_calls.proofs.last.Told.TheSendSync as told
 use Rattle.engine_calls.specs.contracts.kept.Kept as Kept
 use Rattle.fault_sentences.proofs.reason.Reason.TheSendSync as reason
 use Rattle.hash_agg.proofs.means.Means.TheSendSync as means
@@ -143,7 +146,9 @@ session_send : IsSend Session.the_row
 session_send = search (sendable, crosses, replica_send, means.the_send) depth 20
 
 kept_send : IsSend Kept.the_row
-kept_send = search (sendable, crosses, session_send, refusal.the_send, reason.the_send, reason.the_field_send) depth 20
+kept_send =
+    search (sendable, crosses, session_send, refusal.the_send, reason.the_send, reason.the_field_send, asking.the_send,
+      asking.the_field_send, told.the_send, told.the_field_send, last.the_send, last.the_field_send) depth 20
 
 box_keyless : (a : Global) (p : Ptr) (x : Content) → Keyless (box_owns (ghosts.dealloc_token a) Kept.the_row p x)
 box_keyless a (block_ptr b o) x = (part_keyless Kept.the_row kept_send full_share x b o, frees.frees a (raw (lone Kept.the_row.mir))
