@@ -20,7 +20,8 @@ filter_absorbs p q also (x ∷ xs) =
 pub filter_swap : {X : Type 0} (p q : X → Bool) (xs : List X) → filter p (filter q xs) ≡ filter q (filter p xs)
 filter_swap p q [] = refl
 filter_swap p q (x ∷ xs) =
-    elim (q x) as (λ c. q x ≡ c → filter p (cond c (x ∷ filter q xs) (filter q xs)) ≡ filter q (cond (p x) (x ∷ filter p xs) (filter p xs))) [
+    elim (q x) as (λ c. q x ≡ c → filter p (cond c (x ∷ filter q xs) (filter q xs))
+    ≡ filter q (cond (p x) (x ∷ filter p xs) (filter p xs))) [
       | true ↦ λ e. elim (p x) as (λ b. cond b (x ∷ filter p (filter q xs)) (filter p (filter q xs))
           ≡ filter q (cond b (x ∷ filter p xs) (filter p xs))) [
             | true ↦ ap (λ ys. x ∷ ys) (filter_swap p q xs) ∙ ap (λ c. cond c (x ∷ filter q (filter p xs)) (filter q (filter p xs))) (sym e)

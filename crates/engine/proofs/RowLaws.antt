@@ -46,7 +46,7 @@ read_all ks origin number told records batch reads_origin reads_number few whole
 
 module _ (ks : List Kind) (origin number : List ℕ) (told : ℕ) (records : List Record) (otherwise : BatchError)
     (head : HeadReads origin number) (few : told ≤ MAX_ROWS)
-        (fault : FileFault ks (behind origin number told (take told records)) otherwise) where
+    (fault : FileFault ks (behind origin number told (take told records)) otherwise) where
   -- why they are no batch, where more or none are left behind those that are told
   by_left : (left : List Record) (result : BatchError) → left ≡ drop told records → result ≢ NoMemory
       → (left ≡ [] → result ≢ NoMemory → result ≡ otherwise) → (left ≢ [] → result ≢ NoMemory → result ≡ RowCount)

@@ -120,9 +120,9 @@ module _ {H : Type 0} (means : MeansState H) (old new : SessionState) (before af
       (AreCounted (aggregations_on (part_of old.held.parts batch.origin) batch.number batch.rows)) (FeedIsCounted file old.held) Done before
       old.work after new.work
       (λ counted. of_batch_file file old.held (λ origin number packed. AreCounted
-          (aggregations_on (part_of old.held.parts origin) number packed)
+      (aggregations_on (part_of old.held.parts origin) number packed)
       (meaning old.held.query) (setting_by {H = H} (λ _ key. fnv_1a key) (meaning old.held.query) means) old.work before.count new.work
-          after.count)
+      after.count)
       batch read counted) ran)
 
   pub merged_by_limit : (other : SessionState) → MergesHeld true old.held other.held new.held

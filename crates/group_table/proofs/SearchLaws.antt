@@ -2,7 +2,8 @@
 use Rattle.std.specs.Prelude.{◌≡◌, ◌≢◌, ℕ, ◌+◌, ◌<◌, ◌≤◌, ◌⊎◌, true, List, Option, Some, None, is_some, refl, IsSome}
 use Rattle.std.proofs.Common.{inl, inr, sym, ◌∙◌, ap, subst, arith}
 use Rattle.std.proofs.lemmas.Bool.{cases_eq, cases_lt, false≢true}
-use Rattle.group_table.proofs.Words.{chunk_bytes, Context, bucket_at, start_of, passes, IsIndex, IsFreeFor, IsHashOf, IsOther, Tells, HasNone, Bucket}
+use Rattle.group_table.proofs.Words.{chunk_bytes, Context, bucket_at, start_of, passes, IsIndex, IsFreeFor, IsHashOf, IsOther, Tells}
+use Rattle.group_table.proofs.Words.{HasNone, Bucket}
 use Rattle.group_table.specs.Index.{in_use}
 use Rattle.group_table.specs.declared.search.Probe.TheVariants.{Free, Passed}
 use Rattle.group_table.proofs.IndexLaws.{one_more, not_all}
@@ -108,7 +109,8 @@ module _ (keys : Context) (array : List ℕ) (count start hash : ℕ) (key : Lis
       path = λ place h on. by place h (subst (λ s. passes s free place ≡ true) (sym from) on) (cases_lt place start);
     }
       where
-        by : (place : ℕ) → place < count → passes start free place ≡ true → (place < start) ⊎ (start ≤ place) → is_some (bucket_at array place)
+        by : (place : ℕ) → place < count → passes start free place ≡ true → (place < start) ⊎ (start ≤ place)
+            → is_some (bucket_at array place)
             ≡ true
         by place h on (inr above) = used keys array hash key place (passed place above h)
         by place h on (inl below) = used keys array hash key place

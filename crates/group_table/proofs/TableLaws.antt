@@ -1,7 +1,8 @@
 -- What is known of a table in its tree.
 use Rattle.std.specs.Prelude.{◌≡◌, ℕ, ◌*◌, ◌/◌, ◌<◌, ◌≤◌, List, [], Some, None, length, slice_get, unwrap_or, IsTrue}
 use Rattle.std.proofs.Common.{sym, ◌∙◌, ap, subst, arith}
-use Rattle.group_table.proofs.Words.{ChunkName, has_chunk, chunk_bytes, TreeState, context_at, Context, AllocSet, Holds, HasNone, IsFreeFor, TableState}
+use Rattle.group_table.proofs.Words.{ChunkName, has_chunk, chunk_bytes, TreeState, context_at, Context, AllocSet, Holds, HasNone}
+use Rattle.group_table.proofs.Words.{IsFreeFor, TableState}
 use Rattle.group_table.proofs.Words.{Names, HasNo, most_buckets, IsSetWith, IsFirst, HasArray, IsArrayOf, IsStanding, bucket_of, slot_of}
 use Rattle.group_table.proofs.Words.{Bucket, bytes_at, count_of}
 use Rattle.group_table.specs.Index.{in_use}

@@ -153,7 +153,12 @@ by_sum =
 
 -- the same with NULLS LAST
 abbrev pub by_sum_nulls_last : Query
-by_sum_nulls_last = record by_sum { arrangement = record unarranged { order = record { item = 1; descending = true; nulls_first = false } ∷ [] } }
+by_sum_nulls_last = record by_sum {
+  arrangement = record unarranged {
+    order = record { item = 1; descending = true; nulls_first = false }
+        ∷ [];
+  };
+}
 
 -- a row of a text and a sum
 abbrev pub summed : List ℕ → ℤ → List Outcome

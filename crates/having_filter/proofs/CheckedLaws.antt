@@ -2,7 +2,8 @@
 use Rattle.std.proofs.Common.{◌≡◌, ℕ, true, List, [], ◌∷◌, map, Option, refl, ap, sym, ◌∙◌, subst}
 use Rattle.std.specs.Prelude.{Ok, Err}
 use Rattle.having_filter.proofs.Words.{AreColumns, kinds, printed, Form, Written, has_columns, placed, checked, checked_places}
-use Rattle.having_filter.proofs.Words.{checked_arrangement, with_arrangement, kinds_fit, PassesFirst, Checked, Asked, arrangement_held, arrangement_of}
+use Rattle.having_filter.proofs.Words.{checked_arrangement, with_arrangement, kinds_fit, PassesFirst, Checked, Asked, arrangement_held}
+use Rattle.having_filter.proofs.Words.{arrangement_of}
 use Rattle.having_filter.proofs.Words.{written_of_parts, checked_of, IsKept, PlansFor, written_by_names, label_of}
 use Rattle.packed_rows.specs.Columns.{Column}
 use Rattle.query_checks.specs.declared.error.QueryError.{QueryError}
@@ -30,7 +31,8 @@ here : (columns : List Column) (q : Asked) (plan : Plan) (text : List ℕ) (labe
     → AreColumns columns → IsWritable q.written → PassesFirst columns q → text ≡ spelling q → labels ≡ map label_of q.written.items
     → schema_text ≡ printed columns
     → kinds_fit (kinds columns) (placed columns q.written) ≡ true → checked_places columns (placed columns q.written)
-    ≡ Ok (placed columns q.written) → PlansFor (record { columns = columns; written = placed columns q.written; arrangement = arrangement_of q })
+    ≡ Ok (placed columns q.written) → PlansFor (record
+    { columns = columns; written = placed columns q.written; arrangement = arrangement_of q })
     plan
     → IsKept (record { columns = columns; written = placed columns q.written; arrangement = arrangement_of q }) plan text labels schema_text
 here columns q plan text labels schema_text are writable first spelled labelled shown fit passed plans =
@@ -56,7 +58,8 @@ query_of_parts schema columns q parts same placed_so arranged_so = λ i. record 
 
 -- the same of a copy of the schema, and of parts that were placed
 pub kept : (schema columns : List Column) (q : Asked) (parts : Parts) (plan : Plan) (text : List ℕ) (labels : List (List ℕ))
-    (schema_text : List ℕ) → schema ≡ columns → written_of_parts parts ≡ placed columns q.written → arrangement_held parts.arrangement ≡ arrangement_of q
+    (schema_text : List ℕ) → schema ≡ columns → written_of_parts parts ≡ placed columns q.written → arrangement_held parts.arrangement
+    ≡ arrangement_of q
     → AreColumns columns → IsWritable q.written → PassesFirst columns q → text ≡ spelling q → labels ≡ map label_of q.written.items
     → schema_text ≡ printed columns
     → kinds_fit (kinds columns) (written_of_parts parts) ≡ true → checked_places columns (written_of_parts parts)
@@ -73,7 +76,8 @@ kept schema columns q parts plan text labels schema_text same placed_so arranged
 -- the checked query is the one that is kept
 pub checked_here : (schema columns : List Column) (q : Asked) (parts : Parts) → schema ≡ columns → written_of_parts parts
     ≡ placed columns q.written → arrangement_held parts.arrangement ≡ arrangement_of q → PassesFirst columns q
-    → checked_places columns (written_of_parts parts) ≡ Ok (written_of_parts parts) → checked_arrangement q ≡ Ok (arrangement_of q) → checked columns q
+    → checked_places columns (written_of_parts parts) ≡ Ok (written_of_parts parts) → checked_arrangement q ≡ Ok (arrangement_of q)
+    → checked columns q
     ≡ Ok (checked_of schema parts)
 checked_here schema columns q parts same placed_so arranged_so first passed arranged =
     reaches_places columns q first
@@ -83,7 +87,8 @@ checked_here schema columns q parts same placed_so arranged_so first passed arra
 -- a query that fails the checks of places, or that of what stands behind HAVING, which comes last
 pub refused_places : (columns : List Column) (q : Asked) (error : QueryError) → PassesFirst columns q
     → checked_places columns (placed columns q.written) ≡ Err error → checked columns q ≡ Err error
-refused_places columns q error first refused = reaches_places columns q first ∙ ap (λ r. with_arrangement columns r (checked_arrangement q)) refused
+refused_places columns q error first refused = reaches_places columns q first
+    ∙ ap (λ r. with_arrangement columns r (checked_arrangement q)) refused
 
 pub refused_arrangement : (columns : List Column) (q : Asked) (parts : Parts) (error : QueryError) → written_of_parts parts
     ≡ placed columns q.written → PassesFirst columns q → checked_places columns (written_of_parts parts) ≡ Ok (written_of_parts parts)

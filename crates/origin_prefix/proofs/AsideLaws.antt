@@ -84,7 +84,8 @@ written_at old new number before rows there written n = go (same_or_other n numb
         ∙ sym (ap (λ b. cond b (put_into (rows_at old.entries n) (Some rows)) (rows_at old.entries n)) (is_other n number other))
 
 -- one batch more was put
-pub put_more : (old rest : Batches) (number : ℕ) (rows : Rows) (new : Batches) → IsStrictlySortedBy nat_cmp (numbers ((number, rows) ∷ rest))
+pub put_more : (old rest : Batches) (number : ℕ) (rows : Rows) (new : Batches)
+    → IsStrictlySortedBy nat_cmp (numbers ((number, rows) ∷ rest))
     → ((n : ℕ) → rows_at new n ≡ cond (eq_by_cmp nat_cmp n number) (put_into (rows_at old n) (Some rows)) (rows_at old n))
     → (n : ℕ) → put_into (rows_at new n) (rows_at rest n) ≡ put_into (rows_at old n) (rows_at ((number, rows) ∷ rest) n)
 put_more old rest number rows new rising put n = go (same_or_other n number)
@@ -273,7 +274,8 @@ module _ (query : Checked) (own other aside : Part) (is : IsPartOf query own) (o
 
   none : following own.prefix both ≡ 0
   none = none_follows own.prefix both (both_at (own.prefix + 1)
-      ∙ (λ i. either (own_gap i) (if nat_lt own.prefix (own.prefix + 1) then keeps.gap i else None)) ∙ nothing (nat_lt own.prefix (own.prefix + 1)))
+      ∙ (λ i. either (own_gap i) (if nat_lt own.prefix (own.prefix + 1) then keeps.gap i else None))
+      ∙ nothing (nat_lt own.prefix (own.prefix + 1)))
     where
       nothing : (b : Bool) → (if b then no_batch else no_batch) ≡ no_batch
       nothing true = refl
@@ -303,7 +305,8 @@ module _ (query : Checked) (own other aside : Part) (is : IsPartOf query own) (o
       (drained_part true query own.prefix own.run both part
       (record { within = is.within; is_run = is.run; few = is.few; rising = both_rise; above = all_behind }) (drained true))
 
-  pub aside_counted : (setting : Setting) (work : Work) (writes : ℕ) → JoinIsCounted own other (meaning query) setting work writes work writes
+  pub aside_counted : (setting : Setting) (work : Work) (writes : ℕ) → JoinIsCounted own other (meaning query) setting work writes work
+      writes
   aside_counted setting work writes = record {
     behind = both;
     united = rw test united;
@@ -313,7 +316,8 @@ module _ (query : Checked) (own other aside : Part) (is : IsPartOf query own) (o
 -- parts that are joined otherwise have a prefix
 longer_none : (a b : Part) → (longer a b).prefix ≡ 0 → (a.prefix ≡ 0) × (b.prefix ≡ 0)
 longer_none a b none =
-    elim (nat_lt a.prefix b.prefix) as (λ t. nat_lt a.prefix b.prefix ≡ t → (if t then b else a).prefix ≡ 0 → (a.prefix ≡ 0) × (b.prefix ≡ 0)) [
+    elim (nat_lt a.prefix b.prefix) as (λ t. nat_lt a.prefix b.prefix ≡ t → (if t then b else a).prefix ≡ 0 → (a.prefix ≡ 0)
+    × (b.prefix ≡ 0)) [
       | true ↦ λ e low. let less : a.prefix < b.prefix = grind arith in absurd (omega (arith, less, low))
       | false ↦ λ e low. let less : b.prefix ≤ a.prefix = grind arith in (low, omega (arith, less, low))
     ] refl none

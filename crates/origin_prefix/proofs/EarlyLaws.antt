@@ -142,7 +142,8 @@ pub are_behind : (above : ℕ) (batches : Batches) → AllByRecursion (λ (e : �
 are_behind above [] = tt
 are_behind above (batch ∷ batches) =
     elim (range_contains nat_cmp (Excluded above) Unbounded batch.0) as (λ b. range_contains nat_cmp (Excluded above) Unbounded batch.0 ≡ b
-    → AllByRecursion (λ (e : ℕ × List (List ℕ)). above < e.0) (cond b (batch ∷ behind_number above batches) (behind_number above batches))) [
+    → AllByRecursion (λ (e : ℕ × List (List ℕ)). above < e.0)
+    (cond b (batch ∷ behind_number above batches) (behind_number above batches))) [
       | true ↦ λ e. (low e, are_behind above batches)
       | false ↦ λ e. are_behind above batches
     ] refl

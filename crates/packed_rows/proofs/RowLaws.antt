@@ -11,7 +11,8 @@ use Rattle.packed_rows.specs.ConcatenatedRowsLaws.{PartAt, ends_append, ends_lon
 use Rattle.packed_rows.specs.Field.{IsTextField, Reads, IsBadField, IsLeftmostBad}
 use Rattle.std.proofs.lemmas.List.Elements.{Contains-append_right}
 use Rattle.packed_rows.specs.Packing.{BeginsWithValue, IsPacking, value_packing, packing}
-use Rattle.std.proofs.lemmas.List.{map_push, drop_more, drop_all, drop-map, get_or-map, length-map, length-take, take-map, take_all, take_more}
+use Rattle.std.proofs.lemmas.List.{map_push, drop_more, drop_all, drop-map, get_or-map, length-map, length-take, take-map, take_all}
+use Rattle.std.proofs.lemmas.List.{take_more}
 use Rattle.std.proofs.lemmas.List.Folds.{flat_map-map}
 use Rattle.packed_rows.specs.declared.value.Value.{Value}
 use Rattle.packed_rows.specs.declared.value.ValueKind.{ValueKind}
@@ -289,7 +290,8 @@ abbrev pub AreNext : ℕ → List ℕ → Type 0
 AreNext first [] = Unit {0}
 AreNext first (place ∷ places) = (place ≡ first) × AreNext (first + 1) places
 
-next_push : (places : List ℕ) (first place : ℕ) → AreNext first places → place ≡ first + length places → AreNext first (places ++ place ∷ [])
+next_push : (places : List ℕ) (first place : ℕ) → AreNext first places → place ≡ first + length places
+    → AreNext first (places ++ place ∷ [])
 next_push [] first place next is = (omega (arith, is), tt)
 next_push (p ∷ places) first place next is = (next.0, next_push places (first + 1) place next.1 (omega (arith, is)))
 

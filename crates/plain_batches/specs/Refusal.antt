@@ -110,6 +110,7 @@ PlainFault columns layout csv error = ⊥
 abbrev pub PackFault : List Column → Layout → ℕ → ℕ → List ℕ → PackError → Type 0
 PackFault columns layout origin number csv TooLong = (file : List ℕ) × MakesFile columns layout origin number csv file
     × (MAX_INPUT_LEN < length file)
-PackFault columns layout origin number csv (BadField row column) = (file : List ℕ) × (made : MakesFile columns layout origin number csv file)
+PackFault columns layout origin number csv (BadField row column) = (file : List ℕ)
+    × (made : MakesFile columns layout origin number csv file)
     × (length file ≤ MAX_INPUT_LEN) × FirstFault (kinds columns) (batch_records layout made.plain) (batch.BadField row column)
 PackFault columns layout origin number csv error = PlainFault columns layout csv error

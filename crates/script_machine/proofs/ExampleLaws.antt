@@ -138,7 +138,7 @@ parsed : parsing first_columns query_text ≡ Ok first_query
 unfolding asked_in name_at integer_at string_content text_at symbol_at word_at tokens_at is_reserved symbol_of_one symbol_of_two
     item_value_at alias_or_none alias_at item_at list_at clause_at keys_at target_at direction_at first_or_last nulls_at term_at order_at
     arrangement_at end_at query_at filter_at argument_at call_at operand_at enclosed_at prim_at cmp_at looked_for tested chain_at test_at
-        not_at and_at
+    not_at and_at
     or_at nested_at condition_at symbol_number function_named checked_places checked_arrangement checked comparison_named
 parsed = refl
 

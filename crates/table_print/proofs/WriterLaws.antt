@@ -39,14 +39,14 @@ pub line_goes_on : (start old new : Writer (Vec ℕ Global)) (fields : List (Lis
     → (has_written old ≡ true → has_written new ≡ true) → IsWithin start new (fields ++ field ∷ [])
 line_goes_on start old new fields field few within text setup count wrote stays =
     let by : (writer_setup old).style ≢ style.NonNumeric = subst (λ (s : WriterBuilder). s.style ≢ style.NonNumeric) (sym within.setup)
-        by_need in
+    by_need in
     let size : length (fields ++ field ∷ []) ≡ length fields + 1 = length-append fields (field ∷ []) in
     let added : Appends (written old) (written new) (next_sep default_writer (length fields) ++ field_text default_writer field)
     = subst (λ (s : WriterBuilder). Appends (written old) (written new) (next_sep s (length fields) ++ field_text s field)) within.setup
     (subst (λ (n : ℕ). Appends (written old) (written new) (next_sep (writer_setup old) n ++ field_text (writer_setup old) field))
     within.count (text by)) in
     let more : fields_written new ≡ length fields + 1 = count ∙ ap (λ (n : ℕ). min (n + 1) (2 ^ 64 - 1)) within.count
-        ∙ omega (arith, few) in
+    ∙ omega (arith, few) in
     record {
       text =
           subst (Appends (written start) (written new)) (sym (row-more default_writer fields field))

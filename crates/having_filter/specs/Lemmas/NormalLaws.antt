@@ -115,7 +115,11 @@ passes_alike columns q first =
 -- placed and named again, a query with what stands behind its HAVING is the canonical one
 pub asked_again : (columns : List Column) (q : Asked) → HasColumns columns q.written
     → by_names (record { columns = columns; written = placed columns q.written; arrangement = arrangement_of q }) ≡ canonical q
-asked_again columns q has = λ i. record { written = named_again columns q.written has i; arrangement = canonical_arrangement (arrangement_of q) }
+asked_again columns q has = λ i. record {
+  written = named_again columns q.written has i;
+  arrangement = canonical_arrangement
+      (arrangement_of q);
+}
 
 -- a query that passes the checks passes them again by its own text
 pub passes_again : (columns : List Column) (q : Asked) → PassesFirst columns q

@@ -145,4 +145,5 @@ names_again q = there_back (map canonical_item q.written.items) (order_of q) (or
 
 pub arranged_again : (q : Asked) → checked_arrangement (canonical q) ≡ Ok (arrangement_of q)
 unfolding checked_arrangement
-arranged_again q = rw (never_ambiguous (map canonical_item q.written.items) (order_of q)) (ap (λ arrangement. Ok arrangement) (arrangement_again q))
+arranged_again q = rw (never_ambiguous (map canonical_item q.written.items) (order_of q))
+    (ap (λ arrangement. Ok arrangement) (arrangement_again q))

@@ -71,7 +71,8 @@ following_there : (world : World) (origin n : ℕ) (batches : Batches) → AllBy
     → m ≤ n + following n batches → IsSome (world origin m)
 following_there world origin n [] all m low high = absurd (omega (arith, low, high))
 following_there world origin n (b ∷ batches) all m low high =
-    elim (b.0 == n + 1) as (λ t. (b.0 == n + 1) ≡ t → m ≤ n + (if t then suc (following (n + 1) batches) else 0) → IsSome (world origin m)) [
+    elim (b.0 == n + 1) as (λ t. (b.0 == n + 1) ≡ t → m ≤ n + (if t then suc (following (n + 1) batches) else 0)
+    → IsSome (world origin m)) [
       | true ↦ λ e high.
           let next : b.0 ≡ n + 1 = grind arith in
           elim (cases_lt (n + 1) m) [

@@ -73,5 +73,9 @@ module _ (query : Checked) (own other : Part) (is : IsPartOf query own) (has : I
   included = record {
     joins = λ honest. record { behind = own.early; united = rw test united; drained = rw test (drained honest) };
     agree = agree;
-    counted = λ setting work writes. record { behind = own.early; united = rw test united; counted = rw test (counted setting work writes) };
+    counted = λ setting work writes. record {
+      behind = own.early;
+      united = rw test united;
+      counted = rw test (counted setting work writes);
+    };
   }

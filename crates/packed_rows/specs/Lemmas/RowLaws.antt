@@ -21,7 +21,8 @@ pub packed_more : (kinds : List Kind) (fields : List (List ℕ)) (i : ℕ) (byte
     → i < length kinds → i < length fields → Reads (slice_index_or kinds i kind) (slice_index_or fields i field) value
     → PackedSoFar kinds fields i bytes → PackedSoFar kinds fields (i + 1) (bytes ++ value_packing value)
 packed_more kinds fields i bytes kind field value h h' r s =
-    let pushed = reads_push (take i kinds) (take i fields) s.0 (slice_index_or kinds i kind) (slice_index_or fields i field) value s.1 r in (
+    let pushed = reads_push (take i kinds) (take i fields) s.0 (slice_index_or kinds i kind) (slice_index_or fields i field) value s.1 r
+    in (
       s.0 ++ value ∷ [],
       rw (take_more kinds i kind h, take_more fields i field h') pushed,
       ap (λ (w : List ℕ). w ++ value_packing value) s.2

@@ -5,7 +5,8 @@ use Rattle.std.specs.Prelude.{codes}
 use Rattle.std.proofs.lemmas.List.{append-nil}
 use Rattle.query_tokens.specs.declared.word.Symbol.TheVariants as symbols
 use Rattle.query_grammar.specs.Lemmas.Words.{Lexeme, Asked, is_word, is_sign, Named, opening, IsQuery, Begins, Read, Unexpected, Too_deep}
-use Rattle.query_grammar.specs.Lemmas.Words.{after, choose, expect, item_at, list_at, clause_at, keys_at, arrangement_at, nothing_at, end_at}
+use Rattle.query_grammar.specs.Lemmas.Words.{after, choose, expect, item_at, list_at, clause_at, keys_at, arrangement_at, nothing_at}
+use Rattle.query_grammar.specs.Lemmas.Words.{end_at}
 use Rattle.query_grammar.specs.Lemmas.Words.{query_at}
 use Rattle.query_grammar.specs.Reading.{◌>>=◌}
 use Rattle.query_grammar.specs.Laws.{Means, CanBecome, IsUnexpected, IsTooDeep}
@@ -42,7 +43,8 @@ whole_end ts = whole_choose (after (is_sign symbols.Semicolon) ts) nothing_at (n
 whole_arrangement : (items : List (Named × Option (List ℕ))) (condition : Option Named) (names : List (List ℕ)) (having : Option Named)
     (ts : List Lexeme) → Whole (from_arrangement items condition names having ts)
 whole_arrangement items condition names having ts =
-    whole_bind (arrangement_at ts) (λ arrangement. end_at arrangement.1 >>= λ end. Ok (made items condition names having arrangement.0, end.1))
+    whole_bind (arrangement_at ts) (λ arrangement. end_at arrangement.1 >>= λ end.
+    Ok (made items condition names having arrangement.0, end.1))
     (λ arrangement. whole_last (end_at arrangement.1) (λ _. made items condition names having arrangement.0) (whole_end arrangement.1))
 
 whole_having : (limit : ℕ) (items : List (Named × Option (List ℕ))) (condition : Option Named) (names : List (List ℕ)) (ts : List Lexeme)

@@ -367,7 +367,8 @@ query_printed asked legal names shallow fits =
     let is : IsQuery most_open (word (codes "select")
     ∷ (i.tokens ++ (word (codes "from") ∷ word (codes "batches") ∷ (w.tokens ++ (k.tokens ++ (h.tokens ++ (o.tokens ++ [])))))))
     (canonical asked) =
-    grammar.query {arrangement = canonical_arrangement (arrangement_of asked)} i.tokens w.tokens k.tokens h.tokens o.tokens [] i.is w.is k.is h.is o.is grammar.no_semicolon in
+    grammar.query {arrangement = canonical_arrangement (arrangement_of asked)} i.tokens w.tokens k.tokens h.tokens o.tokens [] i.is w.is
+    k.is h.is o.is grammar.no_semicolon in
     record {
       tokens = tokens;
       reads = subst (λ (t : List ℕ). Reads t tokens) (sym parts) (subst (λ (t : List ℕ). Reads t tokens) (append-nil long)
@@ -381,6 +382,7 @@ query_printed asked legal names shallow fits =
 pub text_says : (q : Asked) → IsWritable q.written → all_of (filters_pass is_shallow) are_shallow q.written ≡ true
     → CanBeArranged (canonical q).arrangement → IsSpelled (spelling q) (canonical q)
 text_says q legal shallow fits =
-    let p = query_printed q legal (all_distinct IsColumnName bytes_eq q.written.keys legal.keys) shallow (terms_fit (order_of q) fits.terms) in
+    let p = query_printed q legal (all_distinct IsColumnName bytes_eq q.written.keys legal.keys) shallow
+    (terms_fit (order_of q) fits.terms) in
     let read = read_ok (tokens_in (spelling q)) p.tokens (p.reads.from 0) in
     record { tokens = read.0; read = read.1; is_query = subst (λ (ts : List Lexeme). IsQuery most_open ts (canonical q)) (sym read.2) p.is }

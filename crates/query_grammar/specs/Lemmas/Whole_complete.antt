@@ -206,7 +206,8 @@ after_where limit _ hs os es _ c terms (grammar.keys q) p o e = record { stops =
 
 pub query_reads : (limit : ℕ) (ts : List Lexeme) (q : Asked) → IsQuery limit ts q → query_at limit ts ≡ Ok (q, [])
 unfolding query_at
-query_reads limit _ _ (grammar.query {items = items} {condition = condition} {having = having} {names = names} {arrangement = arrangement} is ws gs hs
+query_reads limit _ _ (grammar.query {items = items} {condition = condition} {having = having} {names = names} {arrangement = arrangement}
+    is ws gs hs
     os es p q r h o e) =
     let tail = ws ++ (gs ++ (hs ++ (os ++ es))) in
     let w = after_where limit gs hs os es names having arrangement.order r h o e in

@@ -250,10 +250,12 @@ arrangement_agrees : (d : Bool) (one two : List Lexeme) (tails : Tails one two) 
     (condition : Option Named) (names : List (List ℕ)) (having : Option Named)
     → Agree d one two most (from_arrangement items condition names having) (from_arrangement items condition names having)
 arrangement_agrees d one two tails most items condition names having =
-    let last : Arrangement Term → List Lexeme → Read Asked = λ arrangement ts. end_at ts >>= λ end. Ok (made items condition names having arrangement, end.1)
+    let last : Arrangement Term → List Lexeme → Read Asked = λ arrangement ts. end_at ts >>= λ end.
+    Ok (made items condition names having arrangement, end.1)
     in
     binds d one two most arrangement_at arrangement_at last last (arrangements_agree d one two tails most)
-    (λ arrangement. maps d one two most end_at end_at (λ _. made items condition names having arrangement) (ends_agree d one two tails most))
+    (λ arrangement. maps d one two most end_at end_at (λ _. made items condition names having arrangement)
+    (ends_agree d one two tails most))
 
 having_agree : (d : Bool) (one two : List Lexeme) (tails : Tails one two) (limit upper : ℕ) → Rooms d limit upper
     → (most : ℕ) (items : List (Named × Option (List ℕ))) (condition : Option Named) (names : List (List ℕ))

@@ -5,7 +5,8 @@ use Rattle.std.specs.Prelude.{codes}
 use Rattle.std.proofs.lemmas.List.{append-nil}
 use Rattle.query_tokens.specs.declared.word.Symbol.TheVariants as symbols
 use Rattle.query_grammar.specs.Lemmas.Words.{Lexeme, Name, Integer, Text, Sign, is_reserved, Function, By_place, Term, Asked}
-use Rattle.query_grammar.specs.Lemmas.Words.{Arrangement, IsArrangement, arrangement_at, function_named, is_word, is_sign, Named, opening, word, IsItemValue, IsAlias, IsItem, IsKey}
+use Rattle.query_grammar.specs.Lemmas.Words.{Arrangement, IsArrangement, arrangement_at, function_named, is_word, is_sign, Named}
+use Rattle.query_grammar.specs.Lemmas.Words.{opening, word, IsItemValue, IsAlias, IsItem, IsKey}
 use Rattle.query_grammar.specs.Lemmas.Words.{IsListOf, IsClause, IsKeys, IsOrder, IsEnd, IsQuery, Read, unexpected, after, choose, expect}
 use Rattle.query_grammar.specs.Lemmas.Words.{call_at, function_or_column, condition_at, conditions, item_value_at, alias_or_none, alias_at}
 use Rattle.query_grammar.specs.Lemmas.Words.{item_at, list_at, clause_at, keys_at, term_at, order_at, nothing_at, end_at, query_at}
@@ -226,7 +227,8 @@ from_arrangement items condition names having ts = arrangement_at ts >>= λ arra
     (made items condition names having arrangement.0, end.1)
 
 abbrev pub from_having : ℕ → List (Named × Option (List ℕ)) → Option Named → List (List ℕ) → List Lexeme → Read Asked
-from_having limit items condition names ts = clause_at limit (codes "having") ts >>= λ having. from_arrangement items condition names having.0
+from_having limit items condition names ts = clause_at limit (codes "having") ts >>= λ having. from_arrangement items condition names
+    having.0
     having.1
 
 abbrev pub from_keys : ℕ → List (Named × Option (List ℕ)) → Option Named → List Lexeme → Read Asked
@@ -239,7 +241,8 @@ abbrev pub from_items : ℕ → List Lexeme → Read Asked
 from_items limit ts = list_at (item_at limit) (length ts) ts >>= λ items. expect (is_word (codes "from")) items.1 >>= λ from. expect
     (is_word (codes "batches")) from.1 >>= λ batches. from_where limit items.0 batches.1
 
-arrangement_mean : (limit : ℕ) (items : List (Named × Option (List ℕ))) (condition : Option Named) (names : List (List ℕ)) (having : Option Named)
+arrangement_mean : (limit : ℕ) (items : List (Named × Option (List ℕ))) (condition : Option Named) (names : List (List ℕ))
+    (having : Option Named)
     (is ws gs hs : List Lexeme)
     → ((b : Bool) → List_part (Item_part limit) b is items) → ((b : Bool) → Clause_part limit (codes "where") b ws condition)
     → IsKeys gs names → ((b : Bool) → Clause_part limit (codes "having") b hs having)
@@ -251,7 +254,8 @@ arrangement_mean limit items condition names having is ws gs hs p q r h ts =
     (λ arrangement. end_at arrangement.1 >>= λ end. Ok (made items condition names having arrangement.0, end.1)) (arrangement_means ts)
     (λ os rest arrangement o. mapped End_part (λ b u x. Query_part limit b (word (codes "select")
     ∷ (is ++ word (codes "from") ∷ word (codes "batches") ∷ (ws ++ (gs ++ (hs ++ (os ++ u)))))) x) rest (end_at rest)
-    (λ _. made items condition names having arrangement) (end_means rest) (λ b es _ e. grammar.query {arrangement = arrangement} is ws gs hs os es (p b) (q b) r (h b) (o b)
+    (λ _. made items condition names having arrangement) (end_means rest)
+    (λ b es _ e. grammar.query {arrangement = arrangement} is ws gs hs os es (p b) (q b) r (h b) (o b)
     e))
     (λ b os arrangement o. (
       [],
@@ -310,8 +314,10 @@ where_means limit items is p ts =
     ))
 
 least : (limit : ℕ) (b : Bool) (is : List Lexeme) (items : List (Named × Option (List ℕ))) → List_part (Item_part limit) b is items
-    → Query_part limit b (word (codes "select") ∷ (is ++ word (codes "from") ∷ word (codes "batches") ∷ [])) (made items None [] None unarranged)
-least limit b is items p = grammar.query {arrangement = unarranged} is [] [] [] [] [] p grammar.no_clause grammar.no_keys grammar.no_clause ordering.no_order
+    → Query_part limit b (word (codes "select") ∷ (is ++ word (codes "from") ∷ word (codes "batches") ∷ []))
+    (made items None [] None unarranged)
+least limit b is items p = grammar.query {arrangement = unarranged} is [] [] [] [] [] p grammar.no_clause grammar.no_keys
+    grammar.no_clause ordering.no_order
     grammar.no_semicolon
 
 items_mean : (limit : ℕ) (ts : List Lexeme) → Means (λ b u q. Query_part limit b (word (codes "select") ∷ u) q) ts (from_items limit ts)

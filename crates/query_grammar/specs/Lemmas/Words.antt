@@ -6,7 +6,8 @@ pub use Rattle.packed_rows.specs.Columns.{IsColumnName, IsSchemaText}
 pub use Rattle.query_checks.specs.Checks.{Checked, all_of, are_shallow, checked, depth, filters_pass, is_shallow}
 unfoldable pub use Rattle.query_checks.specs.Operators.{comparison_named}
 pub use Rattle.query_checks.specs.Operators.{all_tests, comparison_text, symbol_for, test_text, test_word}
-pub use Rattle.query_checks.specs.Order.{Asked, By_name, By_place, Target, Term, canonical_term, direction_text, nulls_said, order_of, order_text}
+pub use Rattle.query_checks.specs.Order.{Asked, By_name, By_place, Target, Term, canonical_term, direction_text, nulls_said, order_of}
+pub use Rattle.query_checks.specs.Order.{order_text}
 pub use Rattle.query_checks.specs.Order.{term_text}
 pub use Rattle.query_checks.specs.Arrangement.{CanBeArranged, arrangement_of, canonical_arrangement}
 pub use Rattle.query_checks.specs.Parted.{parted}

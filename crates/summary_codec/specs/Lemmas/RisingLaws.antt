@@ -44,7 +44,7 @@ rises_next order total [] next rising above = (tt, tt)
 rises_next order total (x ∷ []) next rising above = ((next_is order (x ∷ []) x next (only_last x) above, tt), (tt, tt))
 rises_next order total (x ∷ y ∷ ys) next rising above =
     let rest = rises_next order total (y ∷ ys) next rising.1 (subst (λ o. IfSome o (λ l. order l next ≡ Less)) (same_last x y ys) above)
-        in (
+    in (
       (
         rising.0.0,
         all_and (λ z. order x z ≡ Less) ys next rising.0.1

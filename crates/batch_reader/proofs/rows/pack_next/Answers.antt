@@ -20,7 +20,8 @@ loop-row-preserved c =
     let item = told_item c.args.told c.loop-row.row c.args.records.now c.read.new.self (fields_of c.read.new.into) c.loop-row-test.true
     (sym inv.left ∙ next) in
     let within : c.loop-row.row + 1 ≤ length c.args.records.now = omega (arith, item.0, length-take c.args.told c.args.records.now) in
-    let kept : KeptSoFar (kinds c.args.schema.now) all (c.loop-row.row + 1) c.if-is_none.fault c.if-is_none.rows = elim c.if-is_none.branch [
+    let kept : KeptSoFar (kinds c.args.schema.now) all (c.loop-row.row + 1) c.if-is_none.fault
+    c.if-is_none.rows = elim c.if-is_none.branch [
       | then-is_none w ↦
           let none : is_some c.loop-row.fault ≡ false = rw w.if-is_none.true at c.is_none.ensures in
           rw (w.fault-is, w.rows-is, w.err-fault.ensures.value)

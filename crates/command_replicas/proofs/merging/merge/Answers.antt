@@ -59,5 +59,5 @@ returns-in_err-merge-clause-ran g c =
     ran_as g.D.TapeDisk g.H.KeyHash.hash_of old.query c.args.means.now Counts _ _ c.args.disk.now c.args.work.now c.merge.new.disk
     c.merge.new.work
     (ap Refused (sym (merge_reasons error)) ∙ sym (refused_by refusal_reason c.from_residual-in_err-merge.result _
-        c.from_residual-in_err-merge.ensures.1))
+    c.from_residual-in_err-merge.ensures.1))
     (record { disk = ran.disk; undamaged = ran.undamaged; counted = tt; uncounted = ran.uncounted; grown = ran.grown })

@@ -13,8 +13,10 @@ invariant-loop-pieces l =
       same :
           concatenated l.placed.items ++ concatenated (into_iter_items l.segments)
           ≡ concatenated l.initial.placed.items ++ concatenated (into_iter_items l.initial.segments);
-      many : vec_len l.initial.placed + length (into_iter_items l.initial.segments) ≤ vec_len l.placed + length (into_iter_items l.segments);
-      few : vec_len l.placed + cut_count (all_pieces (into_iter_items l.cuts)) ≤ vec_len l.initial.placed + cut_count (all_pieces (into_iter_items l.initial.cuts));
+      many : vec_len l.initial.placed + length (into_iter_items l.initial.segments) ≤ vec_len l.placed + length
+          (into_iter_items l.segments);
+      few : vec_len l.placed + cut_count (all_pieces (into_iter_items l.cuts)) ≤ vec_len l.initial.placed + cut_count
+          (all_pieces (into_iter_items l.initial.cuts));
     }
 
 abbrev pub decreases-loop-pieces : goal.decreases-loop-pieces

@@ -4,4 +4,5 @@ use Rattle.packed_rows.proofs.RowLaws.{KnownSoFar}
 use Rattle.packed_rows.proofs.unpacking.unpack_known.Given as goal
 
 abbrev pub invariant-loop-kind : goal.invariant-loop-kind
-invariant-loop-kind l = KnownSoFar (kinds_of l.kinds) (kinds_of (drop l.kind-index l.kinds)) l.bytes (row_of l.key.items) l.rest l.ends.items
+invariant-loop-kind l = KnownSoFar (kinds_of l.kinds) (kinds_of (drop l.kind-index l.kinds)) l.bytes (row_of l.key.items) l.rest
+    l.ends.items

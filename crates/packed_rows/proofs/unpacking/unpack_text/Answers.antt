@@ -8,7 +8,8 @@ returns-in_err-front-clause-none c =
 pub returns-then-is_null-clause-none : goal.returns-then-is_null-clause-none
 returns-then-is_null-clause-none c = λ text rest p.
     let found = c.in_ok-front.ensures.found in
-    null_text c.args.bytes.now c.in_ok-front.front.now c.in_ok-front.rest.now text rest found.0 found.1 (c.is_null.ensures.0 c.if-is_null.true) p
+    null_text c.args.bytes.now c.in_ok-front.front.now c.in_ok-front.rest.now text rest found.0 found.1
+    (c.is_null.ensures.0 c.if-is_null.true) p
 
 pub returns-in_err-text-clause-none : goal.returns-in_err-text-clause-none
 returns-in_err-text-clause-none c =

@@ -111,7 +111,7 @@ loop-origin-preserved g c =
     (subst (λ (p : Part). Joins (g.D.TapeDisk.honest c.loop-origin.disk) (meaning c.args.query.now) p c.in-Some.part.now (settled p new))
     own_is joining.joins) in
     let is : IsPartOf c.args.query.now (settled (part_of own n) new) = subst (λ (p : Part). IsPartOf c.args.query.now (settled p new))
-        own_is
+    own_is
     joining.part in
     let agree : ¬ (PartsDisagree (part_of own n) c.in-Some.part.now) = subst (λ (p : Part). ¬ (PartsDisagree p c.in-Some.part.now))
     own_is joining.agree in

@@ -18,9 +18,9 @@ loop-place-preserved c =
     let long = group_long entry in
     counted_more group_bytes (drop place run) (drop (place + 1) run) entry c.loop-place.len _ (flat_map group_bytes run)
     (drop_at run place entry c.group.ensures) (omega
-        (arith, long, c.longer.ensures, c.longer-in-loop-place.ensures, c.longer-len.ensures)) c.loop-place.invariant
+    (arith, long, c.longer.ensures, c.longer-in-loop-place.ensures, c.longer-len.ensures)) c.loop-place.invariant
 
 pub returns : goal.returns
 returns c = counted_all group_bytes (drop c.loop-place.place c.args.run.now) c.loop-place.len (flat_map group_bytes c.args.run.now)
     (none_left c.loop-place.place c.args.run.now (omega (arith, c.loop-place-test.false, c.len-place-end.ensures.length)))
-        c.loop-place.invariant
+    c.loop-place.invariant

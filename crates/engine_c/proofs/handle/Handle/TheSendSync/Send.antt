@@ -63,8 +63,10 @@ parts_field_send =
         search (sendable, crosses, send-Cond) depth 20,
         (
           search (sendable, crosses) depth 20,
-          (search (sendable, crosses, send-Cond) depth 20,
-              (search (sendable, crosses, arrangement.the_send, arrangement.the_field_send) depth 20, tt)),
+          (
+            search (sendable, crosses, send-Cond) depth 20,
+            (search (sendable, crosses, arrangement.the_send, arrangement.the_field_send) depth 20, tt),
+          ),
         ),
       ),
     )
@@ -98,8 +100,10 @@ parts_field_sync =
         search (sendable, crosses, sync-Cond) depth 20,
         (
           search (sendable, crosses) depth 20,
-          (search (sendable, crosses, sync-Cond) depth 20,
-              (search (sendable, crosses, arrangement.the_sync, arrangement.the_field_sync) depth 20, tt)),
+          (
+            search (sendable, crosses, sync-Cond) depth 20,
+            (search (sendable, crosses, arrangement.the_sync, arrangement.the_field_sync) depth 20, tt),
+          ),
         ),
       ),
     )
@@ -147,12 +151,27 @@ session_send = search (sendable, crosses, replica_send, means.the_send) depth 20
 
 kept_send : IsSend Kept.the_row
 kept_send =
-    search (sendable, crosses, session_send, refusal.the_send, reason.the_send, reason.the_field_send, asking.the_send,
-      asking.the_field_send, told.the_send, told.the_field_send, last.the_send, last.the_field_send) depth 20
+    search (
+      sendable,
+      crosses,
+      session_send,
+      refusal.the_send,
+      reason.the_send,
+      reason.the_field_send,
+      asking.the_send,
+      asking.the_field_send,
+      told.the_send,
+      told.the_field_send,
+      last.the_send,
+      last.the_field_send,
+    ) depth 20
 
 box_keyless : (a : Global) (p : Ptr) (x : Content) → Keyless (box_owns (ghosts.dealloc_token a) Kept.the_row p x)
-box_keyless a (block_ptr b o) x = (part_keyless Kept.the_row kept_send full_share x b o, frees.frees a (raw (lone Kept.the_row.mir))
-    (block_ptr b o))
+box_keyless a (block_ptr b o) x = (
+  part_keyless Kept.the_row kept_send full_share x b o,
+  frees.frees a (raw (lone Kept.the_row.mir))
+      (block_ptr b o),
+)
 box_keyless a null_ptr x = (tt, frees.frees a (raw (lone Kept.the_row.mir)) null_ptr)
 
 owns_keyless : (a : Global) (p : Ptr) (kept : Option Content) → Keyless (handle_owns a p kept)

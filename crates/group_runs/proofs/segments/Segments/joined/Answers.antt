@@ -81,7 +81,8 @@ next : (c : After-segment) → slice_range (concatenated c.args.self.now) c.args
 next c =
     let e = here c in
     let more = e.more in
-    range_parts (concatenated c.args.self.now) c.args.from c.loop-left.left c.min-end.result c.loop-left.invariant.begun (omega (arith, more))
+    range_parts (concatenated c.args.self.now) c.args.from c.loop-left.left c.min-end.result c.loop-left.invariant.begun
+    (omega (arith, more))
     ∙ (λ i. sym c.loop-left.invariant.joined i ++ e.same i)
 
 pub push_range-requires-clause-rises : goal.push_range-requires-clause-rises

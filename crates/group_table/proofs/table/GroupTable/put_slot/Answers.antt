@@ -1,6 +1,7 @@
 use Rattle.std.proofs.Common.{◌≡◌, None, sym, subst}
 use Rattle.std.specs.Prelude.{IfSome}
-use Rattle.group_table.proofs.Words.{TableState, HasNo, IsFreeFor, IsMet, IsStanding, OnlyIn, HasNext, IsNext, bytes_at, count_of, with_slot}
+use Rattle.group_table.proofs.Words.{TableState, HasNo, IsFreeFor, IsMet, IsStanding, OnlyIn, HasNext, IsNext, bytes_at, count_of}
+use Rattle.group_table.proofs.Words.{with_slot}
 use Rattle.group_table.proofs.PutLaws.{array_at, index_at, met_or, room_at, stands_more}
 use Rattle.group_table.proofs.table.GroupTable.put_slot.Goals as goal
 

@@ -53,7 +53,7 @@ rows_of_left-requires-clause-inputs c =
 pub rows_of_left-requires-clause-few : goal.rows_of_left-requires-clause-few
 rows_of_left-requires-clause-few c =
     listed_few c.self.inside.query c.self.inside.parts.entries (left_by c.in_ok-spans.spans.items) c.self.invariant
-        c.in_ok-spans.ensures.left
+    c.in_ok-spans.ensures.left
 
 pub returns-clause-width : goal.returns-clause-width
 returns-clause-width c =

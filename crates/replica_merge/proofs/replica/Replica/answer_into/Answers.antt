@@ -18,7 +18,7 @@ returns-in-Some g c =
     let held : Held = record { query = c.self.inside.query; parts = c.self.inside.parts.entries } in
     let all : brought_by c.deref.result.now ≡ map counted_part held.parts = ap brought_by c.deref.ensures.value ∙ c.in_ok-parts.ensures in
     let none : (meaning held.query).arrangement ≡ unarranged = ap (λ (h : Held). (meaning h.query).arrangement) c.self.view_is
-        ∙ c.requires in
+    ∙ c.requires in
     on_ok_weaker c.project_into.result
     (λ given. (
       given.0,
@@ -36,13 +36,13 @@ rows_of_left-requires-clause-inputs g c =
 pub rows_of_left-requires-clause-few : goal.rows_of_left-requires-clause-few
 rows_of_left-requires-clause-few g c =
     listed_few c.self.inside.query c.self.inside.parts.entries (left_by c.in_ok-spans.spans.items) c.self.invariant
-        c.in_ok-spans.ensures.left
+    c.in_ok-spans.ensures.left
 
 pub returns : goal.returns
 returns g c =
     let held : Held = record { query = c.self.inside.query; parts = c.self.inside.parts.entries } in
     let none : (meaning held.query).arrangement ≡ unarranged = ap (λ (h : Held). (meaning h.query).arrangement) c.self.view_is
-        ∙ c.requires in
+    ∙ c.requires in
     on_ok_weaker c.rows_of_left.result
     (λ given. (
       given.0,

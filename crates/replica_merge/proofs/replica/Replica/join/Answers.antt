@@ -9,7 +9,7 @@ pub join_all-requires-clause-theirs : goal.join_all-requires-clause-theirs
 join_all-requires-clause-theirs g c =
     let texts = c.same_query.ensures.0 c.if-not-same_query.false in
     let same : c.self.inside.query ≡ c.other.inside.query = one_text c.self.inside.query c.other.inside.query
-        c.schema-own_checked.ensures.query
+    c.schema-own_checked.ensures.query
     c.schema-theirs_checked.ensures.query texts.0 texts.1 in
     subst (λ (q : Checked). AreHeldParts q c.other.inside.parts.entries) (sym same) c.other.invariant
 
@@ -24,7 +24,7 @@ pub returns-clause-joins : goal.returns-clause-joins
 returns-clause-joins g c =
     let texts = c.same_query.ensures.0 c.if-not-same_query.false in
     let same : c.self.inside.query ≡ c.other.inside.query = one_text c.self.inside.query c.other.inside.query
-        c.schema-own_checked.ensures.query
+    c.schema-own_checked.ensures.query
     c.schema-theirs_checked.ensures.query texts.0 texts.1 in
     let honest = g.D.TapeDisk.honest c.args.disk.now in
     let own : Held = record { query = c.self.inside.query; parts = c.self.inside.parts.entries } in
@@ -37,7 +37,7 @@ pub returns-clause-ran : goal.returns-clause-ran
 returns-clause-ran g c =
     let texts = c.same_query.ensures.0 c.if-not-same_query.false in
     let same : c.self.inside.query ≡ c.other.inside.query = one_text c.self.inside.query c.other.inside.query
-        c.schema-own_checked.ensures.query
+    c.schema-own_checked.ensures.query
     c.schema-theirs_checked.ensures.query texts.0 texts.1 in
     let own : Held = record { query = c.self.inside.query; parts = c.self.inside.parts.entries } in
     let hash_of = g.H.KeyHash.hash_of in

@@ -21,7 +21,7 @@ pub returns-in_err-joined-clause-merges : goal.returns-in_err-joined-clause-merg
 returns-in_err-joined-clause-merges g c =
     let p = err_from_is_err_and c.from_residual.result c.from_residual.ensures.1 in
     rw p.1 (subst (λ e. MergesReplicas {T = Unit {0}} (g.D.TapeDisk.honest c.args.disk.now) c.args.self.now c.args.other.now
-        c.args.self.now (Err e))
+    c.args.self.now (Err e))
     (sym p.2) (record { merged = tt; refused = c.in_err-joined.ensures.joins.refused; same = refl }))
 
 pub returns-in_err-joined-clause-ran : goal.returns-in_err-joined-clause-ran
