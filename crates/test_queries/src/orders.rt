@@ -42,10 +42,16 @@ fn orders_are_read(rt: HostRuntime) -> Result<(), Fail> {
 
 /// Columns and texts, and the order of each: names and places, directions and nulls, terms that count once, and each fault at its byte.
 const ORDERS: &str = "\
-c text, d bigint|SELECT c, sum(d) AS s FROM batches GROUP BY c ORDER BY s DESC, c asc => SELECT c, sum(d) AS s FROM batches GROUP BY c ORDER BY 2 DESC, 1 / OrderTerm { item: 1, descending: true, nulls_first: true } / OrderTerm { item: 0, descending: false, nulls_first: false }
-c text, d bigint|SELECT c, sum(d) AS s FROM batches GROUP BY c ORDER BY s DESC NULLS LAST => SELECT c, sum(d) AS s FROM batches GROUP BY c ORDER BY 2 DESC NULLS LAST / OrderTerm { item: 1, descending: true, nulls_first: false }
-c text, d bigint|SELECT c, sum(d) AS s FROM batches GROUP BY c ORDER BY s NULLS FIRST, 2 DESC, S => SELECT c, sum(d) AS s FROM batches GROUP BY c ORDER BY 2 NULLS FIRST / OrderTerm { item: 1, descending: false, nulls_first: true }
-c text, d bigint|SELECT c, sum(d) AS s FROM batches GROUP BY c ORDER BY s ASC NULLS LAST, 1 DESC nulls first; => SELECT c, sum(d) AS s FROM batches GROUP BY c ORDER BY 2, 1 DESC / OrderTerm { item: 1, descending: false, nulls_first: false } / OrderTerm { item: 0, descending: true, nulls_first: true }
+c text, d bigint|SELECT c, sum(d) AS s FROM batches GROUP BY c ORDER BY s DESC, c asc => \
+    SELECT c, sum(d) AS s FROM batches GROUP BY c ORDER BY 2 DESC, 1 / OrderTerm { item: 1, descending: true, nulls_first: true } \
+    / OrderTerm { item: 0, descending: false, nulls_first: false }
+c text, d bigint|SELECT c, sum(d) AS s FROM batches GROUP BY c ORDER BY s DESC NULLS LAST => \
+    SELECT c, sum(d) AS s FROM batches GROUP BY c ORDER BY 2 DESC NULLS LAST / OrderTerm { item: 1, descending: true, nulls_first: false }
+c text, d bigint|SELECT c, sum(d) AS s FROM batches GROUP BY c ORDER BY s NULLS FIRST, 2 DESC, S => \
+    SELECT c, sum(d) AS s FROM batches GROUP BY c ORDER BY 2 NULLS FIRST / OrderTerm { item: 1, descending: false, nulls_first: true }
+c text, d bigint|SELECT c, sum(d) AS s FROM batches GROUP BY c ORDER BY s ASC NULLS LAST, 1 DESC nulls first; => \
+    SELECT c, sum(d) AS s FROM batches GROUP BY c ORDER BY 2, 1 DESC / OrderTerm { item: 1, descending: false, nulls_first: false } \
+    / OrderTerm { item: 0, descending: true, nulls_first: true }
 c text, d bigint|SELECT c, sum(d) AS s FROM batches GROUP BY c ORDER BY 3 => Query(NoSuchColumn)
 c text, d bigint|SELECT c, sum(d) AS s FROM batches GROUP BY c ORDER BY 0 => Query(NoSuchColumn)
 c text, d bigint|SELECT c, sum(d) AS s FROM batches GROUP BY c ORDER BY -1 => Query(NoSuchColumn)
@@ -54,11 +60,17 @@ c text, d bigint|SELECT c, sum(d) AS s FROM batches GROUP BY c ORDER BY 92233720
 c text, d bigint|SELECT c, sum(d) AS s FROM batches GROUP BY c ORDER BY 9223372036854775808 => NumberTooLarge
 c text, d bigint|SELECT c AS x, sum(d) AS x FROM batches GROUP BY c ORDER BY x => Query(AmbiguousOrder)
 c text, d bigint|SELECT c AS x, sum(d) AS x FROM batches ORDER BY x => Query(NotGrouped)
-c text, d bigint|SELECT sum(d) AS x, sum(d) AS x, count(*) FROM batches ORDER BY x, 2, 1, count => SELECT sum(d) AS x, sum(d) AS x, count(*) FROM batches ORDER BY 1, 2, 3 / OrderTerm { item: 0, descending: false, nulls_first: false } / OrderTerm { item: 1, descending: false, nulls_first: false } / OrderTerm { item: 2, descending: false, nulls_first: false }
+c text, d bigint|SELECT sum(d) AS x, sum(d) AS x, count(*) FROM batches ORDER BY x, 2, 1, count => \
+    SELECT sum(d) AS x, sum(d) AS x, count(*) FROM batches ORDER BY 1, 2, 3 / OrderTerm { item: 0, descending: false, nulls_first: \
+    false } / OrderTerm { item: 1, descending: false, nulls_first: false } / OrderTerm { item: 2, descending: false, nulls_first: false }
 c text, d bigint|SELECT sum(d), c AS sum FROM batches GROUP BY c ORDER BY sum => Query(AmbiguousOrder)
 c text, d bigint|SELECT sum(d) FILTER (WHERE c = 'a'), sum(d) FROM batches ORDER BY sum => Query(AmbiguousOrder)
-c text, d bigint|SELECT sum(d) FILTER (WHERE c = 'a'), sum(d) FILTER (WHERE c='a') FROM batches ORDER BY sum desc => SELECT sum(d) FILTER (WHERE c = 'a'), sum(d) FILTER (WHERE c = 'a') FROM batches ORDER BY 1 DESC / OrderTerm { item: 0, descending: true, nulls_first: true }
-c text, d bigint|SELECT c AS first, c AS last FROM batches GROUP BY c ORDER BY last NULLS last, first NULLS first => SELECT c AS first, c AS last FROM batches GROUP BY c ORDER BY 2, 1 NULLS FIRST / OrderTerm { item: 1, descending: false, nulls_first: false } / OrderTerm { item: 0, descending: false, nulls_first: true }
+c text, d bigint|SELECT sum(d) FILTER (WHERE c = 'a'), sum(d) FILTER (WHERE c='a') FROM batches ORDER BY sum desc => \
+    SELECT sum(d) FILTER (WHERE c = 'a'), sum(d) FILTER (WHERE c = 'a') FROM batches ORDER BY 1 DESC / OrderTerm { item: 0, descending: \
+    true, nulls_first: true }
+c text, d bigint|SELECT c AS first, c AS last FROM batches GROUP BY c ORDER BY last NULLS last, first NULLS first => \
+    SELECT c AS first, c AS last FROM batches GROUP BY c ORDER BY 2, 1 NULLS FIRST / OrderTerm { item: 1, descending: \
+    false, nulls_first: false } / OrderTerm { item: 0, descending: false, nulls_first: true }
 c text, d bigint|SELECT c, sum(d) AS s FROM batches GROUP BY c ORDER s => Syntax { at: 52 }
 c text, d bigint|SELECT c, sum(d) AS s FROM batches GROUP BY c ORDER BY s NULLS s => Syntax { at: 63 }
 c text, d bigint|SELECT c, sum(d) AS s FROM batches GROUP BY c ORDER BY s NULLS => Syntax { at: 62 }
@@ -69,6 +81,8 @@ c text, d bigint|SELECT c, sum(d) AS s FROM batches GROUP BY c ORDER BY sum(d) =
 c text, d bigint|SELECT c, sum(d) AS s FROM batches GROUP BY c ORDER BY s DESC ASC => Syntax { at: 62 }
 c text, d bigint|SELECT c, sum(d) AS s FROM batches GROUP BY c ORDER BY desc => Syntax { at: 55 }
 c text, d bigint|SELECT c, sum(d) AS s FROM batches GROUP BY c ORDER BY s HAVING count(*) > 1 => Syntax { at: 57 }
-c text, d bigint|SELECT c, sum(d) AS s FROM batches GROUP BY c HAVING count(*) > 1 ORDER BY 1 DESC => SELECT c, sum(d) AS s FROM batches GROUP BY c HAVING count(*) > 1 ORDER BY 1 DESC / OrderTerm { item: 0, descending: true, nulls_first: true }
+c text, d bigint|SELECT c, sum(d) AS s FROM batches GROUP BY c HAVING count(*) > 1 ORDER BY 1 DESC => \
+    SELECT c, sum(d) AS s FROM batches GROUP BY c HAVING count(*) > 1 ORDER BY 1 DESC / OrderTerm { item: 0, descending: \
+    true, nulls_first: true }
 c text, d bigint|SELECT count(*) FROM batches => SELECT count(*) FROM batches
 ";

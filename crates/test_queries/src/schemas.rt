@@ -9,7 +9,8 @@ use test_cases::{expect, expect_lines};
 const SCHEMAS: &str = "\
 C\tText ,d int8,  _e1 BOOL => c text, d bigint, _e1 boolean
 c text,C1 text,c2 boolean => c text, c1 text, c2 boolean
-a_name_that_has_as_many_letters_as_a_name_may_have_which_are_63 bigint => a_name_that_has_as_many_letters_as_a_name_may_have_which_are_63 bigint
+a_name_that_has_as_many_letters_as_a_name_may_have_which_are_63 bigint => \
+    a_name_that_has_as_many_letters_as_a_name_may_have_which_are_63 bigint
  => BadSchema
   => BadSchema
 c => BadSchema
