@@ -119,7 +119,8 @@ fn a_limit_changes_nothing(rt: HostRuntime) -> Result<(), Fail> {
     // passes are the fewest that there can be.
     expect(
         limited(rt, 20_000, 65_536, Fnv1a),
-        "20000 true 016b313939393900 0000000000000001000000000000000100000000000000000000000000004e1f: passes 273, spilled 33088, pages 322, held 57352",
+        "20000 true 016b313939393900 0000000000000001000000000000000100000000000000000000000000004e1f: passes 273, spilled 33088, pages \
+            322, held 57352",
     )
 }
 
@@ -128,7 +129,8 @@ fn a_limit_changes_nothing(rt: HostRuntime) -> Result<(), Fail> {
 const LIMITS: &str = "\
 65536 => 385 true 016b3033383400 0000000000000001000000000000000100000000000000000000000000000180: passes 2, spilled 1, pages 1, held 57352
 90127 => 385 true 016b3033383400 0000000000000001000000000000000100000000000000000000000000000180: passes 2, spilled 1, pages 1, held 57352
-90128 => 385 true 016b3033383400 0000000000000001000000000000000100000000000000000000000000000180: passes 1, spilled 0, pages 0, held 90128";
+90128 => 385 true 016b3033383400 0000000000000001000000000000000100000000000000000000000000000180: passes 1, spilled 0, pages 0, held \
+    90128";
 
 /// What is told of the groups of 385 towns within a limit.
 fn within(rt: HostRuntime, limit: &str) -> Result<String, Fail> {
