@@ -80,6 +80,7 @@ pub const NULL: &str = "null";
 /// Whether to ignore columns of a plain CSV that the summary does not have.
 pub const SKIP_COLUMNS: &str = "skip-columns";
 
+/// Whether an empty plain CSV makes a batch without rows.
 pub const ALLOW_EMPTY: &str = "allow-empty";
 
 /// The plain CSV to read.
