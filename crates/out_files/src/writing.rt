@@ -1,8 +1,8 @@
 //! Writes files.
 
-ghost use Rattle.std.specs.Prelude.{◌≡◌, ◌≢◌, IfOk, IsErrAnd, IsSome, OnOk};
+ghost use Rattle.std.specs.Prelude.{◌≡◌, IsErrAnd, IsSome, OnOk};
 ghost use Rattle.std.specs.Io.KnownBytes.{Appends};
-ghost use Rattle.out_files.specs.declared.trial.Place.TheVariants.{Device};
+ghost use Rattle.out_files.specs.Writing.{SparesDevices};
 ghost use Rattle.out_files.specs.declared.writing.Unwritten.TheVariants.{Changed};
 
 use crate::beside::create_beside;
@@ -85,7 +85,7 @@ fn write_over<R: Files>(
     bytes: &[u8],
     old: Option<&[u8]>,
 ) -> Result<Place, Unwritten>
-    ensures { IsSome old.entry → IfOk result (λ place. place ≢ Device) }
+    ensures { SparesDevices old.entry result }
 {
     let mut file = open_over(rt, path)?;
     keep_others(rt, path, old)?;
@@ -103,7 +103,7 @@ fn replace<R: Files + AllocGlobal>(
     bytes: &[u8],
     old: Option<&[u8]>,
 ) -> Result<Place, Unwritten>
-    ensures { IsSome old.entry → IfOk result (λ place. place ≢ Device) }
+    ensures { SparesDevices old.entry result }
 {
     let (beside, mut file) = match create_beside(rt, path) {
         Ok(made) => made,
@@ -179,7 +179,7 @@ fn write_at<R: Files + AllocGlobal>(
     bytes: &[u8],
     old: Option<&[u8]>,
 ) -> Result<Place, Unwritten>
-    ensures { IsSome old.entry → IfOk result (λ place. place ≢ Device) }
+    ensures { SparesDevices old.entry result }
 {
     match fs::metadata(rt, path) {
         Ok(found) if !found.is_file() => write_to(rt, path, bytes, old),
@@ -194,7 +194,7 @@ fn write_new<R: Files>(
     bytes: &[u8],
     old: Option<&[u8]>,
 ) -> Result<Place, Unwritten>
-    ensures { IsSome old.entry → IfOk result (λ place. place ≢ Device) }
+    ensures { SparesDevices old.entry result }
 {
     keep_others(rt, link, old)?;
     fs::write(rt, link, bytes)?;
@@ -209,7 +209,7 @@ fn write_through<R: Files + AllocGlobal>(
     bytes: &[u8],
     old: Option<&[u8]>,
 ) -> Result<Place, Unwritten>
-    ensures { IsSome old.entry → IfOk result (λ place. place ≢ Device) }
+    ensures { SparesDevices old.entry result }
 {
     match fs::canonicalize(rt, link) {
         Ok(target) => write_at(rt, target.as_str(), bytes, old),
@@ -227,7 +227,7 @@ pub fn write_file<R: Files + AllocGlobal>(
     bytes: &[u8],
     old: Option<&[u8]>,
 ) -> Result<Place, Unwritten>
-    ensures { IsSome old.entry → IfOk result (λ place. place ≢ Device) }
+    ensures { SparesDevices old.entry result }
 {
     match fs::symlink_metadata(rt, path) {
         Ok(found) if found.is_symlink() => write_through(rt, path, bytes, old),
