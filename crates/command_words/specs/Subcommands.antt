@@ -1,5 +1,5 @@
 -- The commands on files, by their names. All of this is our own.
-use Rattle.std.specs.Prelude.{Bool, true, false, ◌||◌, List, ℕ, Option, Some, None, if◌then◌else◌, codes}
+use Rattle.std.specs.Prelude.{Bool, true, false, List, ℕ, Option, Some, None, if◌then◌else◌, codes}
 use Rattle.std.specs.Str.{bytes_eq}
 use Rattle.command_words.specs.declared.subcommands.Subcommand.{Subcommand}
 use Rattle.command_words.specs.declared.subcommands.Subcommand.TheVariants.{New, Feed, Merge, Known, Answer}
@@ -36,25 +36,3 @@ writes_out Feed = true
 writes_out Merge = true
 writes_out Known = false
 writes_out Answer = false
-
--- whether a command prints an answer, and whether it reads a summary first
-abbrev pub answers : Subcommand → Bool
-answers Answer = true
-answers New = false
-answers Feed = false
-answers Merge = false
-answers Known = false
-
-abbrev pub reads_summary : Subcommand → Bool
-reads_summary New = false
-reads_summary Feed = true
-reads_summary Merge = true
-reads_summary Known = true
-reads_summary Answer = true
-
--- whether a command has a flag: an option without a value
-abbrev pub has_flag : Subcommand → List ℕ → Bool
-has_flag subcommand flag =
-    if bytes_eq flag (codes "no-clobber") || bytes_eq flag (codes "force") then writes_out subcommand else
-    (if bytes_eq flag (codes "progress") then aggregates subcommand else
-    (if bytes_eq flag (codes "complete") then answers subcommand else reads_summary subcommand))

@@ -15,7 +15,7 @@ pub use program::parse_words;
 pub use streams::{
     Input, STREAM, StreamFault, input_name, is_stream, output_name, read_twice, stream_fault,
 };
-pub use subcommands::{Subcommand, value, values};
+pub use subcommands::{Subcommand, is_flag_told, value, values};
 
 /// The summary file to write.
 pub const OUT: &str = "OUT";

@@ -1,9 +1,10 @@
 //! The words that name streams.
 
-ghost use Rattle.std.specs.Prelude.{◌≡◌, ◌≤◌, ◌↔◌, None, Some, Ok, true, false};
+ghost use Rattle.std.specs.Prelude.{◌≡◌, ◌≤◌, ◌↔◌, ◌++◌, None, false, map, IfNone, IfOk, IfSome, OnOk};
 ghost use Rattle.command_words.specs.Streams.{is_stream, input_name, output_name, streams_of, spills_to_stream};
-ghost use Rattle.command_words.specs.declared.streams.StreamFault.TheVariants.{Spilled};
+ghost use Rattle.command_words.specs.Told.{read_paths, reads_unnamed, streams_told, IsFaultTold};
 
+use crate::subcommands::values;
 use crate::{BATCH, COLUMNS_FILE, IN, PLAIN, QUERY_FILE, SPILL};
 use clap::ArgMatches;
 use std::alloc::{AllocError, Global};
@@ -90,33 +91,49 @@ pub fn read_twice(inputs: &[Input<'_>]) -> Option<(&'static str, &'static str)>
     None
 }
 
-/// The arguments that name files which are read, and what they are called.
-const ARGUMENTS: [(&str, &str); 5] = [
-    (IN, "IN"),
-    (BATCH, "BATCH"),
-    (PLAIN, "CSV"),
-    (COLUMNS_FILE, "--columns-file"),
-    (QUERY_FILE, "--query-file"),
-];
+/// Adds the files that an argument names.
+fn push_all<'p>(
+    inputs: &mut Vec<Input<'p>>,
+    argument: &'static str,
+    paths: &[&'p str],
+) -> Result<(), AllocError>
+    ensures { OnOk result (map (λ input. input.path.now) inputs.new.items
+        ≡ map (λ input. input.path.now) inputs.old.items ++ map (λ path. path.now) paths.now) }
+{
+    for path in paths {
+        inputs.push(Input { argument, path })?;
+    }
+    Ok(())
+}
+
+/// Whether a command reads a plain CSV that no word names.
+fn reads_unnamed(name: &str, matches: &ArgMatches<'_>) -> bool
+    ensures { result ≡ reads_unnamed name.now matches.now }
+{
+    name == "pack" && matches.get_str(PLAIN).is_none()
+}
 
 /// The files that the command of a name reads.
 fn inputs_of<'p>(
     alloc: Global,
     name: &str,
     matches: &ArgMatches<'p>,
-) -> Result<Vec<Input<'p>>, AllocError> {
+) -> Result<Vec<Input<'p>>, AllocError>
+    ensures { IfOk result (λ inputs. map (λ input. input.path.now) inputs.items ≡ read_paths name.now matches.now) }
+{
     let mut inputs = Vec::new(alloc);
-    for (id, argument) in &ARGUMENTS {
-        for path in matches.get_strs(id).unwrap_or_default() {
-            inputs.push(Input { argument, path })?;
-        }
+    push_all(&mut inputs, "IN", values(matches, IN))?;
+    push_all(&mut inputs, "BATCH", values(matches, BATCH))?;
+    push_all(&mut inputs, "CSV", values(matches, PLAIN))?;
+    push_all(&mut inputs, "--columns-file", values(matches, COLUMNS_FILE))?;
+    push_all(&mut inputs, "--query-file", values(matches, QUERY_FILE))?;
+    if !reads_unnamed(name, matches) {
+        return Ok(inputs);
     }
-    if name == "pack" && matches.get_str(PLAIN).is_none() {
-        inputs.push(Input {
-            argument: "CSV",
-            path: STREAM,
-        })?;
-    }
+    inputs.push(Input {
+        argument: "CSV",
+        path: STREAM,
+    })?;
     Ok(inputs)
 }
 
@@ -126,8 +143,9 @@ pub fn stream_fault(
     name: &str,
     matches: &ArgMatches<'_>,
 ) -> Result<Option<StreamFault>, AllocError>
-    ensures none { result ≡ Ok None → spills_to_stream matches.now ≡ false }
-    ensures spilled { result ≡ Ok (Some Spilled) → spills_to_stream matches.now ≡ true }
+    ensures read { IfOk result (λ found. IfNone found (streams_told name.now matches.now ≤ 1)) }
+    ensures spilled { IfOk result (λ found. IfNone found (spills_to_stream matches.now ≡ false)) }
+    ensures fault { IfOk result (λ found. IfSome found (IsFaultTold name.now matches.now)) }
 {
     if let Some((first, second)) = read_twice(&inputs_of(alloc, name, matches)?) {
         return Ok(Some(StreamFault::ReadTwice(first, second)));

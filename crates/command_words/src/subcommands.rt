@@ -1,10 +1,10 @@
 //! The commands on files, by their words.
 
-ghost use Rattle.std.specs.Prelude.{◌≡◌, map, option_copied};
-ghost use Rattle.command_words.specs.Subcommands.{subcommand_named, has_flag, takes_limit, aggregates};
-ghost use Rattle.command_words.specs.Told.{limit_told, out_told, spill_told, value_told, values_told, IsFlagTold};
+ghost use Rattle.std.specs.Prelude.{◌≡◌, map, option_copied, IfOk};
+ghost use Rattle.command_words.specs.Subcommands.{subcommand_named, takes_limit, aggregates};
+ghost use Rattle.command_words.specs.Told.{files_read, is_flag_told, limit_told, out_told, spill_told, value_told, values_told};
 
-use crate::{BATCH, COMPLETE, FORCE, IN, LIMIT, NO_CLOBBER, OUT, PROGRESS, SPILL};
+use crate::{BATCH, IN, LIMIT, OUT, SPILL};
 use clap::ArgMatches;
 use std::alloc::{AllocError, Global};
 
@@ -61,28 +61,6 @@ impl Subcommand {
         }
     }
 
-    /// Whether it has a flag.
-    fn has_flag(self, flag: &str) -> bool
-        ensures { result ≡ has_flag self flag.now }
-    {
-        match flag {
-            NO_CLOBBER | FORCE => matches!(
-                self,
-                Subcommand::New | Subcommand::Feed | Subcommand::Merge
-            ),
-            PROGRESS => matches!(self, Subcommand::Feed | Subcommand::Merge),
-            COMPLETE => matches!(self, Subcommand::Answer),
-            _ => !matches!(self, Subcommand::New),
-        }
-    }
-
-    /// Whether a flag that it has stands on the command line.
-    pub fn is_told(self, matches: &ArgMatches<'_>, flag: &str) -> bool
-        ensures { IsFlagTold self matches.now flag.now result }
-    {
-        self.has_flag(flag) && matches.get_flag(flag)
-    }
-
     /// The limit that it tells.
     pub fn limit<'p>(self, matches: &ArgMatches<'p>) -> Option<&'p str>
         ensures { option_copied result ≡ limit_told self matches.now }
@@ -108,18 +86,26 @@ impl Subcommand {
         self,
         alloc: Global,
         matches: &ArgMatches<'p>,
-    ) -> Result<Vec<&'p str>, AllocError> {
+    ) -> Result<Vec<&'p str>, AllocError>
+        ensures { IfOk result (λ paths. map (λ path. path.now) paths.items ≡ files_read self matches.now) }
+    {
         let mut paths = Vec::new(alloc);
         match self {
-            Subcommand::New => {}
+            Subcommand::New => Ok(paths),
             Subcommand::Feed => {
                 paths.push(value(matches, IN))?;
-                paths.extend_from_slice(matches.get_strs(BATCH).unwrap_or_default())?;
+                paths.extend_from_slice(values(matches, BATCH))?;
+                Ok(paths)
             }
-            Subcommand::Merge => paths.extend_from_slice(matches.get_strs(IN).unwrap_or_default())?,
-            Subcommand::Known | Subcommand::Answer => paths.push(value(matches, IN))?,
+            Subcommand::Merge => {
+                paths.extend_from_slice(values(matches, IN))?;
+                Ok(paths)
+            }
+            Subcommand::Known | Subcommand::Answer => {
+                paths.push(value(matches, IN))?;
+                Ok(paths)
+            }
         }
-        Ok(paths)
     }
 }
 
@@ -135,4 +121,11 @@ pub fn values<'m, 'a>(matches: &'m ArgMatches<'a>, id: &str) -> &'m [&'a str]
     ensures { map (λ s. s.now) result.now ≡ values_told matches.now id.now }
 {
     matches.get_strs(id).unwrap_or_default()
+}
+
+/// Whether a flag stands on the command line.
+pub fn is_flag_told(matches: &ArgMatches<'_>, flag: &str) -> bool
+    ensures { result ≡ is_flag_told matches.now flag.now }
+{
+    matches.get_one(flag).unwrap_or(false)
 }
