@@ -1,9 +1,12 @@
 -- The options of `pack`. All of this is our own.
-use Rattle.std.specs.Prelude.{◌≡◌, ◌==◌, ◌&&◌, ◌||◌, not, Bool, ℕ, List, [], ◌∷◌, Option, Some, None, codes, if◌then◌else◌}
+use Rattle.std.specs.Prelude.{◌≡◌, ◌==◌, ◌&&◌, ◌||◌, not, Bool, ℕ, List, [], ◌∷◌, Option, Some, None, unwrap_or, codes, if◌then◌else◌}
 use Rattle.std.specs.Char.{is_ascii_punctuation}
 use Rattle.std.specs.Str.{bytes_eq}
+use Rattle.clap.specs.Matches.{found_of, first_value}
+use Rattle.clap.specs.declared.parser.matches.ArgMatches.{ArgMatches}
 use Rattle.batch_reader.specs.Head.{ReadsOrigin, ReadsBatchNumber}
 use Rattle.plain_batches.specs.declared.layout.Layout.{Layout}
+use Rattle.command_words.specs.Told.{is_flag_told, value_told}
 use Rattle.command_packs.specs.declared.options.Words.{Words}
 
 -- a byte that may stand between fields: a tab (9), or one of ASCII that is neither in a name or a number nor a quote (34)
@@ -29,3 +32,15 @@ pub record IsLayoutOf (words : Words) (layout : Layout) : Type 0 where
 pub record IsHeadOf (words : Words) (origin number : ℕ) : Type 0 where
   pub origin_is : ReadsOrigin words.origin.now origin
   pub number_is : ReadsBatchNumber words.number.now number
+
+-- these are the words of a command line. The plain CSV is standard input where none is told
+pub record AreWords (matches : ArgMatches) (words : Words) : Type 0 where
+  pub summary : words.summary.now ≡ value_told matches (codes "IN")
+  pub csv : words.csv.now ≡ unwrap_or (first_value (found_of matches) (codes "CSV")) (codes "-")
+  pub origin : words.origin.now ≡ value_told matches (codes "origin")
+  pub number : words.number.now ≡ value_told matches (codes "number")
+  pub delimiter : words.delimiter.now ≡ value_told matches (codes "delimiter")
+  pub null : words.null.now ≡ value_told matches (codes "null")
+  pub header : words.has_header ≡ is_flag_told matches (codes "header")
+  pub skips : words.skips_columns ≡ is_flag_told matches (codes "skip-columns")
+  pub empty : words.allows_empty ≡ is_flag_told matches (codes "allow-empty")

@@ -1,5 +1,6 @@
 -- What `pack` writes, and why it is refused. All of this is our own.
-use Rattle.std.specs.Prelude.{◌≡◌, ◌⊎◌, ℕ, Bool, true, false, List, []}
+use Rattle.std.specs.Prelude.{◌≡◌, ◌⊎◌, ℕ, Bool, true, false, List, [], Option}
+use Rattle.std.specs.Io.KnownBytes.{Appends, Keeps}
 use Rattle.batch_reader.specs.declared.error.BatchError.TheVariants as batch
 use Rattle.packed_rows.specs.Columns.{Column}
 use Rattle.plain_batches.specs.Packed.{PacksPlain}
@@ -9,11 +10,19 @@ use Rattle.plain_batches.specs.declared.error.PackError.{PackError}
 use Rattle.plain_batches.specs.declared.error.PackError.TheVariants as plain
 use Rattle.replica_merge.specs.Replicas.{Held}
 use Rattle.replica_merge.specs.Results.{IsLoaded}
+use Rattle.replies.specs.Text.{said_text}
+use Rattle.replies.specs.declared.ending.ExitKind.{ExitKind}
+use Rattle.replies.specs.declared.ending.ExitKind.TheVariants.{BadUsage}
 use Rattle.replies.specs.declared.error.RunError.TheVariants.{InputTooLong}
 use Rattle.replies.specs.declared.refusal.Refusal.{Refusal}
 use Rattle.replies.specs.declared.refusal.Refusal.TheVariants.{NoMemory, BadSchema, Batch, Run}
+use Rattle.replies.specs.declared.reply.Reply.TheVariants.{Refused}
 use Rattle.command_replicas.specs.Commands.{IsNoSummary}
 use Rattle.command_streams.specs.Inputs.{IsUnread}
+use Rattle.command_streams.specs.Stopping.{ending_of}
+use Rattle.clap.specs.declared.parser.matches.ArgMatches.{ArgMatches}
+use Rattle.command_packs.specs.Options.{AreWords, IsHeadOf, IsLayoutOf}
+use Rattle.command_packs.specs.declared.options.Words.{Words}
 
 -- the refusal of a plain CSV: a header that does not fit the columns is no schema of theirs, and rows are refused as those of a batch are
 abbrev pub pack_refusal : PackError → Refusal
@@ -43,6 +52,17 @@ pub record IsPacked (layout : Layout) (allows : Bool) (origin number : ℕ) (fil
   pub some : csv ≡ [] → (allows ≡ true) ⊎ (layout.has_header ≡ true)
   pub packs : PacksPlain columns layout origin number csv file
 
+-- bytes are the batch file that the words of a command line tell
+pub record IsPackedAsTold (matches : ArgMatches) (file : List ℕ) : Type 0 where
+  pub words : Words
+  pub layout : Layout
+  pub origin : ℕ
+  pub number : ℕ
+  pub are_words : AreWords matches words
+  pub is_layout : IsLayoutOf words layout
+  pub is_head : IsHeadOf words origin number
+  pub is_packed : IsPacked layout words.allows_empty origin number file
+
 -- why columns are not found: a file is not read, or is no summary
 abbrev pub IsWithoutColumns : Refusal → Type 0
 IsWithoutColumns why = IsUnread why ⊎ ((file : List ℕ) × IsNoSummary file why)
@@ -63,3 +83,25 @@ RefusesEmpty allows why = (allows ≡ false) × (why ≡ Batch batch.RowCount)
 -- why there is no batch file
 abbrev pub IsNotPacked : Layout → (allows : Bool) → (origin number : ℕ) → Refusal → Type 0
 IsNotPacked layout allows origin number why = IsWithoutColumns why ⊎ (RefusesEmpty allows why ⊎ RefusesPlain layout origin number why)
+
+-- a plain CSV is refused as words tell it, and the reply says so
+pub record RefusesWords (words : Words) (exit : ExitKind) (old new : Option (List ℕ)) : Type 0 where
+  pub layout : Layout
+  pub origin : ℕ
+  pub number : ℕ
+  pub why : Refusal
+  pub is_layout : IsLayoutOf words layout
+  pub is_head : IsHeadOf words origin number
+  pub refused : IsNotPacked layout words.allows_empty origin number why
+  pub ended : exit ≡ ending_of why
+  pub replied : Appends old new (said_text (Refused why))
+
+-- how a command ends that makes no batch file: its words are no command line, and nothing is written, or a plain CSV is refused
+abbrev pub StopsPacking : Words → ExitKind → (old new : Option (List ℕ)) → Type 0
+StopsPacking words exit old new = ((exit ≡ BadUsage) × Keeps old new) ⊎ RefusesWords words exit old new
+
+-- the same by the words of a command line
+pub record StopsAsTold (matches : ArgMatches) (exit : ExitKind) (old new : Option (List ℕ)) : Type 0 where
+  pub words : Words
+  pub are_words : AreWords matches words
+  pub stops : StopsPacking words exit old new

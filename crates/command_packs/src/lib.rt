@@ -4,19 +4,20 @@
 mod options;
 mod sentences;
 
-ghost use Rattle.std.specs.Prelude.{◌≡◌, ◌≤◌, ℕ, Bool, List, IfOk, IfErr};
+ghost use Rattle.std.specs.Prelude.{◌≡◌, ◌≢◌, ◌≤◌, ℕ, List, IfOk, IfErr};
 ghost use Rattle.std.specs.Io.KnownBytes.{Appends};
 ghost use Rattle.batch_reader.specs.declared.error.BatchError.TheVariants.{RowCount};
 ghost use Rattle.grouping_model.specs.declared.limits.TheConstants.{LAST_ORIGIN};
 ghost use Rattle.plain_batches.specs.declared.layout.Layout.{Layout};
 ghost use Rattle.replies.specs.Text.{said_text};
-ghost use Rattle.replies.specs.declared.ending.ExitKind.TheVariants.{BadUsage, Done};
+ghost use Rattle.replies.specs.declared.ending.ExitKind.TheVariants.{BadUsage, Done, Fault};
 ghost use Rattle.replies.specs.declared.refusal.Refusal.TheVariants.{Batch};
 ghost use Rattle.replies.specs.declared.reply.Reply.TheVariants.{Refused};
 ghost use Rattle.script_io.specs.Fused.{written};
 ghost use Rattle.command_streams.specs.Stopping.{RepliesRefused};
 ghost use Rattle.command_packs.specs.Options.{IsHeadOf, IsLayoutOf};
-ghost use Rattle.command_packs.specs.Packing.{pack_refusal, AreOfSummary, IsNotPacked, IsPacked, IsWithoutColumns};
+ghost use Rattle.command_packs.specs.Packing.{pack_refusal, AreOfSummary, IsNotPacked, IsPacked, IsPackedAsTold, IsWithoutColumns};
+ghost use Rattle.command_packs.specs.Packing.{StopsAsTold, StopsPacking};
 
 use crate::options::{Words, head_of, layout_of, words_of};
 use crate::sentences::PlainText;
@@ -142,7 +143,8 @@ fn end_unread<W: Write, E: Write>(
     problem: &Problem<'_>,
     streams: &mut Streams<'_, W, E>,
 ) -> ExitKind
-    ensures { result ≡ BadUsage }
+    ensures ends { result ≡ BadUsage }
+    ensures silent { streams.new.writer.now ≡ streams.old.writer.now }
 {
     streams.say(problem);
     ExitKind::BadUsage
@@ -154,9 +156,11 @@ fn write_packed<R: Files + AllocGlobal, I: Read, W: Write, E: Write>(
     words: Words<'_>,
     streams: &mut Streams<'_, W, E>,
 ) -> ExitKind
-    ensures { result ≡ Done → (layout : Layout) × (origin number : ℕ) × (file : List ℕ) × IsLayoutOf words.entry layout
+    ensures done { result ≡ Done → (layout : Layout) × (origin number : ℕ) × (file : List ℕ) × IsLayoutOf words.entry layout
         × IsHeadOf words.entry origin number × IsPacked layout words.entry.allows_empty origin number file
         × Appends (written W.contents streams.old.writer.now) (written W.contents streams.new.writer.now) file }
+    ensures stopped { result ≢ Done → result ≢ Fault → StopsPacking words.entry result
+        (written W.contents streams.old.writer.now) (written W.contents streams.new.writer.now) }
 {
     let alloc = inputs.rt.alloc();
     let (origin, number) = match head_of(alloc, words.origin, words.number) {
@@ -188,9 +192,10 @@ pub fn run_pack<R: Files + AllocGlobal, I: Read, W: Write, E: Write>(
     matches: &ArgMatches<'_>,
     streams: &mut Streams<'_, W, E>,
 ) -> ExitKind
-    ensures { result ≡ Done → (layout : Layout) × (allows : Bool) × (origin number : ℕ) × (file : List ℕ)
-        × IsPacked layout allows origin number file
+    ensures done { result ≡ Done → (file : List ℕ) × IsPackedAsTold matches.now file
         × Appends (written W.contents streams.old.writer.now) (written W.contents streams.new.writer.now) file }
+    ensures stopped { result ≢ Done → result ≢ Fault → StopsAsTold matches.now result
+        (written W.contents streams.old.writer.now) (written W.contents streams.new.writer.now) }
 {
     write_packed(inputs, words_of(matches), streams)
 }

@@ -4,12 +4,13 @@ ghost use Rattle.std.specs.Prelude.{◌≡◌, ◌≤◌, ℕ, Some, None, IfOk,
 ghost use Rattle.batch_reader.specs.Head.{ReadsOrigin, ReadsBatchNumber};
 ghost use Rattle.replies.specs.declared.refusal.Refusal.TheVariants.{BadCommand};
 ghost use Rattle.script_io.specs.Digits.{number_of};
-ghost use Rattle.command_packs.specs.Options.{delimiter_told, IsLayoutOf};
+ghost use Rattle.command_packs.specs.Options.{delimiter_told, AreWords, IsLayoutOf};
 
 use clap::ArgMatches;
 use command_streams::{Problem, reason_of};
 use command_words::{
-    ALLOW_EMPTY, DELIMITER, HEADER, IN, NULL, NUMBER, ORIGIN, PLAIN, SKIP_COLUMNS, STREAM, value,
+    ALLOW_EMPTY, DELIMITER, HEADER, IN, NULL, NUMBER, ORIGIN, PLAIN, SKIP_COLUMNS, STREAM,
+    is_flag_told, value,
 };
 use fault_sentences::Quoted;
 use grouping_model::limits::{LAST_NUMBER, LAST_ORIGIN};
@@ -95,7 +96,9 @@ fn refused<'p>(alloc: Global, option: &'static str, said: Result<String, AllocEr
 }
 
 /// The words of the command. The plain CSV is standard input if no word tells it.
-pub(crate) fn words_of<'p>(matches: &ArgMatches<'p>) -> Words<'p> {
+pub(crate) fn words_of<'p>(matches: &ArgMatches<'p>) -> Words<'p>
+    ensures { AreWords matches.now result }
+{
     Words {
         summary: value(matches, IN),
         csv: matches.get_str(PLAIN).unwrap_or(STREAM),
@@ -103,9 +106,9 @@ pub(crate) fn words_of<'p>(matches: &ArgMatches<'p>) -> Words<'p> {
         number: value(matches, NUMBER),
         delimiter: value(matches, DELIMITER),
         null: value(matches, NULL),
-        has_header: matches.get_flag(HEADER),
-        skips_columns: matches.get_flag(SKIP_COLUMNS),
-        allows_empty: matches.get_flag(ALLOW_EMPTY),
+        has_header: is_flag_told(matches, HEADER),
+        skips_columns: is_flag_told(matches, SKIP_COLUMNS),
+        allows_empty: is_flag_told(matches, ALLOW_EMPTY),
     }
 }
 
