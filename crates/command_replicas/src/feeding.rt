@@ -7,13 +7,13 @@ ghost use Rattle.command_replicas.specs.Commands.{FeedIsCounted};
 ghost use Rattle.command_replicas.specs.Results.{Feeds};
 
 use batch_reader::read_batch;
-use hash_agg::{KeyHash, Means, TapeDisk, Work};
+use hash_agg::{Executor, KeyHash, Means, TapeDisk};
 use replica_merge::{Delivered, Replica};
 use replies::Refusal;
 use std::alloc::Global;
 
 /// Feeds the batch of a batch file to a replica, as `feed` does in a script, by `means` and over a tape disk. A refused batch changes
-/// nothing. The cost of aggregating the folded batches is added to `work`.
+/// nothing. The cost of aggregating the folded batches is added to the work of the executor.
 ///
 /// # Errors
 ///
@@ -24,14 +24,14 @@ pub fn feed<H: KeyHash + Copy, D: TapeDisk>(
     file: &[u8],
     means: &Means<H>,
     disk: &mut D,
-    work: &mut Work,
+    executor: &mut Executor,
 ) -> Result<Delivered, Refusal>
     ensures feeds { Feeds (D.honest disk.old) (read_file file.now) replica.old replica.new result }
     ensures ran { Ran D.TapeDisk H.hash_of replica.old.query means.now (FeedIsCounted (read_file file.now) replica.old)
-        (refusal_ended result) disk.old work.old disk.new work.new }
+        (refusal_ended result) disk.old executor.old disk.new executor.new }
 {
     let schema = replica.query().schema();
     let batch = read_batch(alloc, schema, file)?;
-    let delivered = replica.deliver(batch, means, disk, work)?;
+    let delivered = replica.deliver(batch, means, disk, executor)?;
     Ok(delivered)
 }

@@ -5,13 +5,13 @@ ghost use Rattle.replies.specs.Refusals.{refusal_ended};
 ghost use Rattle.command_replicas.specs.Commands.{FileMergeIsCounted};
 ghost use Rattle.command_replicas.specs.Results.{MergesFile};
 
-use hash_agg::{KeyHash, Means, TapeDisk, Work};
+use hash_agg::{Executor, KeyHash, Means, TapeDisk};
 use replica_merge::Replica;
 use replies::Refusal;
 use std::alloc::Global;
 
 /// Merges the replica of a summary file into another, as `merge` does in a script: afterwards the second knows what either knew. It
-/// aggregates by `means` and over a tape disk, and adds the cost to `work`. A refused file changes nothing.
+/// aggregates by `means` and over a tape disk, and adds the cost to the work of the executor. A refused file changes nothing.
 ///
 /// # Errors
 ///
@@ -22,13 +22,13 @@ pub fn merge<H: KeyHash + Copy, D: TapeDisk>(
     file: &[u8],
     means: &Means<H>,
     disk: &mut D,
-    work: &mut Work,
+    executor: &mut Executor,
 ) -> Result<(), Refusal>
     ensures merges { MergesFile (D.honest disk.old) file.now replica.old replica.new result }
     ensures ran { Ran D.TapeDisk H.hash_of replica.old.query means.now (FileMergeIsCounted file.now replica.old)
-        (refusal_ended result) disk.old work.old disk.new work.new }
+        (refusal_ended result) disk.old executor.old disk.new executor.new }
 {
     let other = Replica::load_sharing(alloc, Some(replica.query()), file)?;
-    replica.merge(&other, means, disk, work)?;
+    replica.merge(&other, means, disk, executor)?;
     Ok(())
 }

@@ -19,7 +19,7 @@ use Rattle.hash_agg.specs.Ran.{Ran, Done, Refused, ended}
 use Rattle.hash_agg.proofs.CountLaws.{all_made, made_rise, all_few, keys_give, few_keys}
 use Rattle.hash_agg.proofs.FewLaws.{few_passes, run_few, records_few}
 use Rattle.hash_agg.proofs.FitLaws.{all_fit}
-use Rattle.hash_agg.proofs.LaterLaws.{MadeAll}
+use Rattle.hash_agg.specs.Added.{MadeAll}
 use Rattle.hash_agg.proofs.UnionLaws.{all_stand, safe_run}
 use Rattle.hash_agg.proofs.WholeLaws.{all_added, all_given, lists_give, keys_are, keys_few}
 use Rattle.hash_agg.proofs.WorkLaws.{is_work, cost_counts}

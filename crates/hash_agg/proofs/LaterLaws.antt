@@ -6,7 +6,7 @@ use Rattle.hash_agg.proofs.Words.{Query, Cost, both, Setting, IsWellFormed, Reco
 use Rattle.hash_agg.proofs.Words.{PendingPartition, partitions_of, left_by, PartitionsState}
 use Rattle.hash_agg.proofs.Words.{HasPartitions, BeginsLast, AreOn, pages_of, written_pages, meaning, Plan}
 use Rattle.hash_agg.proofs.Words.{Entry, Rises, Ghosts, CountsWithin}
-use Rattle.hash_agg.proofs.Words.{IsDone, IsSafeRun, IsUnderway, MadeFirst, MadeLater, query_of, setting_in, Brought, Given, AllGive, Pass}
+use Rattle.hash_agg.proofs.Words.{IsDone, IsSafeRun, IsUnderway, MadeAll, MadeFirst, MadeLater, query_of, setting_in, Brought, Given, AllGive, Pass}
 use Rattle.hash_agg.proofs.Words.{Piece, AreOnce, CountUpTo, Stands, setting_of, ReadsPartition, CanReadPartition, all_pieces}
 use Rattle.hash_agg.proofs.Words.{brought_by, Waits}
 use Rattle.hash_agg.proofs.Words.{Costs, AddsUp, pass_cost, Work}
@@ -91,18 +91,6 @@ waiting_ends q s pieces entries lists last start now from written none u =
     gone (list ∷ pending) are = absurd are
 
 -- ---- all passes
-
--- what all of them made of some inputs: what is said of the first is said of these
-pub record MadeAll {H D : Type 0} (hash_of : H → List ℕ → ℕ) (g : Ghosts D) (inputs : List Brought) (pass : Pass H) (before : D)
-    (work : Work) (run : List Entry) (after : D) (done : Work) : Type 0 where
-  pub whole :
-      IsTrue (g.honest before) → (givens : List Given) → AllGive (query_of pass) inputs givens
-      → CountUpTo (query_of pass) pass.plan.most (all_pieces inputs givens)
-      → IsDone (query_of pass) (setting_in hash_of pass) (all_pieces inputs givens) run work done (g.writes before) (g.writes after)
-  pub few : (givens : List Given) → AllGive (query_of pass) inputs givens
-      → length run ≤ brought_by (query_of pass) (all_pieces inputs givens)
-  pub safe : IsSafeRun (query_of pass) pass.plan.most run
-  pub within : CountsWithin pass.plan.limit work done
 
 module _ {H D : Type 0} (hash_of : H → List ℕ → ℕ) (g : Ghosts D) (inputs : List Brought) (old : Pass H) (before : D) (work : Work)
     (first : List Entry) (mid : Pass H) (between : D) (counted : Work) (made : MadeFirst hash_of g inputs old before work first mid between

@@ -18,6 +18,11 @@ pub no_if_ok : {T E : Type 0} (r : Result T E) (P : T → Type 0) → IsErr r �
 no_if_ok (Ok x) P is = absurd cc
 no_if_ok (Err e) P is = tt
 
+-- what holds anyway holds of a success
+pub all_if_ok : {T E : Type 0} (r : Result T E) (P : Type 0) → P → IfOk r (λ _. P)
+all_if_ok (Ok x) P is = is
+all_if_ok (Err e) P is = tt
+
 -- nothing moved; or states alone; or a record was spilled
 pub same_table : {Hash : Type 0} (limit : ℕ) (g : GroupsState Hash) → IsSameTable limit g g
 same_table limit g = record { width = refl; hash = refl; finds = refl; within = λ is. is }

@@ -29,6 +29,10 @@ get_mapped f [] i x at = absurd cc
 get_mapped f (y ∷ xs) zero x at = let same : y ≡ x = cc in ap (λ x. Some (f x)) same
 get_mapped f (y ∷ xs) (suc i) x at = get_mapped f xs i x at
 
+pub nothing_mapped : {X Y : Type 0} (f : X → Y) (xs : List X) → map f xs ≡ [] → xs ≡ []
+nothing_mapped f [] none = refl
+nothing_mapped f (x ∷ xs) none = absurd cc
+
 pub once_groups : {Hash : Type 0} (hash_of : Hash → List ℕ → ℕ) (t : TableState Hash) (tree : TreeState) → IsTableIn hash_of t tree
     → AreOnce (groups t tree)
 once_groups hash_of t tree is i j x y at bt same =
@@ -65,6 +69,10 @@ finds_made seed made hash same finds key = ap (λ h. low_hash h key) same ∙ fi
 
 pub finds_same : {Hash : Type 0} (g : GroupsState Hash) (told seed : Seed) → told ≡ seed → FindsBy told g → FindsBy seed g
 finds_same g told seed same finds = subst (λ s. FindsBy s g) same finds
+
+-- so does a later table with the same hash function
+pub finds_later : {Hash : Type 0} (g h : GroupsState Hash) (seed : Seed) → h.table.hash ≡ g.table.hash → FindsBy seed g → FindsBy seed h
+finds_later g h seed same finds key = ap (λ (hash : SipHash). low_hash hash key) same ∙ finds key
 
 -- a new tree holds nothing
 nothing_where : (b : Bool) → cond b 0 0 + 0 ≡ 0

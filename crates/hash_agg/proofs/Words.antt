@@ -36,7 +36,7 @@ pub use Rattle.spill_tapes.specs.Records.{Record, record_bytes, tape_bytes}
 pub use Rattle.tape_disks.specs.Disk.{DiskFrame}
 pub use Rattle.tape_disks.specs.declared.disk.TapeDisk.{Ghosts}
 pub use Rattle.hash_agg.specs.Added.{Added, AddedBy, AddedOne, Adds, Are, Continues, CountsWithin, Entries, Finished, HasRoom}
-pub use Rattle.hash_agg.specs.Added.{IsDone, IsOver, IsReady, IsSafeRun, IsSelected, IsUnderway, KeepsLater, KeepsPass, MadeFirst}
+pub use Rattle.hash_agg.specs.Added.{IsDone, IsOver, IsReady, IsSafeRun, IsSelected, IsUnderway, KeepsLater, KeepsPass, MadeAll, MadeFirst}
 pub use Rattle.hash_agg.specs.Added.{MadeLater, On_tape, Packed_rows, Refused, RefusedBy, Source, enters, query_of, setting_in, source_of}
 pub use Rattle.hash_agg.specs.Inputs.{AllBring, AllGive, AreInputs, AreInputsOf, ArePackings, Brought}
 pub use Rattle.hash_agg.specs.Inputs.{Counted, Given, IsAggregate, IsInput, IsRunOver}

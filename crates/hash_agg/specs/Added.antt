@@ -306,3 +306,15 @@ pub record MadeLater {H D : Type 0} (hash_of : H → List ℕ → ℕ) (g : Ghos
   pub few : length run ≤ length first + waiting_number old.spill
   pub safe : IsSafeRun (query_of old) old.plan.most run
   pub within : CountsWithin old.plan.limit work done
+
+-- all passes were made, over inputs: what is said of the first is said of these
+pub record MadeAll {H D : Type 0} (hash_of : H → List ℕ → ℕ) (g : Ghosts D) (inputs : List Brought) (pass : Pass H) (before : D)
+    (work : Work) (run : List Entry) (after : D) (done : Work) : Type 0 where
+  pub whole :
+      IsTrue (g.honest before) → (givens : List Given) → AllGive (query_of pass) inputs givens
+      → CountUpTo (query_of pass) pass.plan.most (all_pieces inputs givens)
+      → IsDone (query_of pass) (setting_in hash_of pass) (all_pieces inputs givens) run work done (g.writes before) (g.writes after)
+  pub few : (givens : List Given) → AllGive (query_of pass) inputs givens
+      → length run ≤ brought_by (query_of pass) (all_pieces inputs givens)
+  pub safe : IsSafeRun (query_of pass) pass.plan.most run
+  pub within : CountsWithin pass.plan.limit work done

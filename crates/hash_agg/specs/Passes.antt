@@ -211,6 +211,31 @@ pub record IsSameTable {H : Type 0} (limit : ℕ) (old new : GroupsState H) : Ty
   pub finds : new.table.hash ≡ old.table.hash
   pub within : old.most_held ≤ limit → new.most_held ≤ limit
 
+-- groups were made: there is none yet; their states have this width; records are spilled by this hash function, and the table finds keys by
+-- this seed
+pub record IsMade {H : Type 0} (width : ℕ) (hash : H) (seed : Seed) (made : GroupsState H) : Type 0 where
+  pub empty : entries_of made ≡ []
+  pub width_is : made.table.width ≡ width
+  pub hash_is : made.hash ≡ hash
+  pub finds : FindsBy seed made
+  pub held : made.most_held ≡ 0
+
+-- a table between two aggregations: how many bytes a state has, and the seed by which it finds keys
+pub record IdleState : Type 0 where
+  pub width : ℕ
+  pub seed : Seed
+
+abbrev pub seed_of : IdleState → Seed
+seed_of idle = idle.seed
+
+-- it has no group, and holds what a table without one holds
+pub record IsIdle (table : TableState SipHash) (tree : TreeState) (width : ℕ) (seed : Seed) : Type 0 where
+  pub in_tree : IsTableIn low_hash table tree
+  pub by_keys : HoldsKeys table tree
+  pub empty : table.slots ≡ []
+  pub width_is : table.width ≡ width
+  pub finds : (key : List ℕ) → low_hash table.hash key ≡ sip_hash seed key % 2 ^ 32
+
 -- what all passes of an aggregation have in common: a checked query, the states before any row, the most rows that a group counts,
 -- and a limit within which each group fits by itself
 pub record IsPlan (plan : Plan) : Type 0 where

@@ -1,6 +1,6 @@
 //! The aggregation of inputs.
 
-ghost use Rattle.std.specs.Prelude.{◌≡◌, ◌≢◌, ◌≤◌, map, IfOk, IfErr};
+ghost use Rattle.std.specs.Prelude.{◌≡◌, ◌≢◌, ◌≤◌, map, option_map, Some, IfOk, IfErr, IsTrue};
 ghost use Rattle.std.specs.List.{AllByRecursion};
 ghost use Rattle.tape_disks.specs.Calls.{failed};
 ghost use Rattle.tape_disks.specs.Disk.{DiskFrame};
@@ -8,11 +8,13 @@ ghost use Rattle.spill_partitions.specs.Errors.{spill_faults};
 ghost use Rattle.spill_partitions.specs.declared.error.SpillError.TheVariants.{TapeDamaged};
 ghost use Rattle.agg_protocol.specs.States.{most_rows};
 ghost use Rattle.having_filter.specs.Meaning.{meaning};
-ghost use Rattle.hash_agg.specs.Added.{Continues, IsFirst, IsOver, IsSafeRun, MadeFirst, MadeLater, query_of};
+ghost use Rattle.hash_agg.specs.Added.{Continues, IsFirst, IsOver, IsSafeRun, MadeAll, MadeFirst, MadeLater, query_of};
 ghost use Rattle.hash_agg.specs.Counting.{Took, no_work, told_work};
 ghost use Rattle.hash_agg.specs.Inputs.{brought, all_rows, AreInputs, Aggregation, IsInput};
+ghost use Rattle.hash_agg.specs.Passes.{seed_of};
 ghost use Rattle.hash_agg.specs.Ran.{Ran, ended};
 
+use crate::idle::IdleTable;
 use crate::input::Input;
 use crate::means::Means;
 use crate::pass::{Buffers, Pass};
@@ -58,12 +60,56 @@ pub fn aggregate<H: KeyHash + Copy, D: TapeDisk>(
     ensures ran { Ran D.TapeDisk H.hash_of query.now means.now (Took (map brought inputs.now)) (ended result) disk.old no_work
         disk.new (told_work result) }
 {
-    let mut work = Work::none();
+    aggregate_in(alloc, query, inputs, means, disk, &mut None)
+}
+
+/// As [`aggregate`], in a table that an earlier aggregation left, if it serves. Its own is left to the next one, unless it is refused.
+pub(crate) fn aggregate_in<H: KeyHash + Copy, D: TapeDisk>(
+    alloc: Global,
+    query: &Query,
+    inputs: &[Input<'_>],
+    means: &Means<H>,
+    disk: &mut D,
+    idle: &mut Option<IdleTable>,
+) -> Result<(Run, Work), SpillError>
+    requires inputs { AllByRecursion (IsInput (meaning query.now)) (map brought inputs.now) }
+    requires few { all_rows (map brought inputs.now) ≤ most_rows }
+    ensures aggregated { IfOk result (Aggregation (D.honest disk.old) (meaning query.now) (map brought inputs.now)) }
+    ensures ran { Ran D.TapeDisk H.hash_of query.now means.now (Took (map brought inputs.now)) (ended result) disk.old no_work
+        disk.new (told_work result) }
+    ensures seed { IfOk result (λ _. option_map seed_of idle.new ≡ Some means.now.seed) }
+{
     let plan = Plan::new(alloc, query, rows_of_all(inputs), means.limit())?;
+    let mut pass = Pass::new(alloc, plan, means, idle.take(), disk)?;
+    match all_passes(alloc, disk, &mut pass, inputs) {
+        Ok(made) => {
+            *idle = Some(pass.end(means.seed()));
+            Ok(made)
+        }
+        Err(error) => Err(error),
+    }
+}
+
+/// Makes all passes over inputs, of which the first reads them.
+fn all_passes<H: KeyHash + Drop, D: TapeDisk>(
+    alloc: Global,
+    disk: &mut D,
+    pass: &mut Pass<'_, H>,
+    inputs: &[Input<'_>],
+) -> Result<(Run, Work), SpillError>
+    requires first { IsFirst D.TapeDisk pass.old disk.old }
+    requires inputs { AreInputs (query_of pass.old) pass.old.plan.most (map brought inputs.now) }
+    requires most { pass.old.plan.most ≡ all_rows (map brought inputs.now) }
+    ensures made { IfOk result (λ all. MadeAll H.hash_of D.TapeDisk (map brought inputs.now) pass.old disk.old no_work all.0 disk.new all.1) }
+    ensures over { IfOk result (λ _. IsOver pass.new) }
+    ensures finds { IfOk result (λ _. pass.new.groups.table.hash ≡ pass.old.groups.table.hash) }
+    ensures undamaged { IfErr result (λ error. IsTrue (D.honest disk.old) → error ≢ TapeDamaged) }
+    ensures disk { DiskFrame D.TapeDisk (failed spill_faults result) disk.old disk.new }
+{
+    let mut work = Work::none();
     let mut buffers = Buffers::new(alloc);
-    let mut pass = Pass::new(alloc, plan, means, disk)?;
-    let first = first_pass(alloc, disk, &mut pass, inputs, &mut buffers, &mut work)?;
-    let run = later_passes(alloc, disk, &mut pass, first, &mut buffers, &mut work)?;
+    let first = first_pass(alloc, disk, pass, inputs, &mut buffers, &mut work)?;
+    let run = later_passes(alloc, disk, pass, first, &mut buffers, &mut work)?;
     Ok((run, work))
 }
 
@@ -114,6 +160,8 @@ fn later_passes<H: KeyHash + Drop, D: TapeDisk>(
     requires over { IsOver pass.old }
     requires run { IsSafeRun (query_of pass.old) pass.old.plan.most run }
     requires counted { 1 ≤ work.old.passes }
+    ensures over { IfOk result (λ _. IsOver pass.new) }
+    ensures finds { IfOk result (λ _. pass.new.groups.table.hash ≡ pass.old.groups.table.hash) }
     ensures made { IfOk result (λ all. MadeLater H.hash_of D.TapeDisk pass.old disk.old run work.old all disk.new work.new) }
     ensures undamaged { IfErr result (λ error. Continues H.hash_of D.TapeDisk pass.old disk.old run work.old
         (λ pieces start writes. error ≢ TapeDamaged)) }

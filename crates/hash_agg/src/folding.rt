@@ -9,10 +9,10 @@ ghost use Rattle.group_runs.specs.Standing.{IsRun};
 ghost use Rattle.hash_agg.specs.Inputs.{Counted, brought, all_rows, Aggregated, IsInput};
 ghost use Rattle.hash_agg.specs.Ran.{Ran, ended};
 
-use crate::aggregation::aggregate;
+use crate::aggregation::aggregate_in;
+use crate::executor::Executor;
 use crate::input::Input;
 use crate::means::Means;
-use crate::work::Work;
 use group_runs::Run;
 use group_table::KeyHash;
 use having_filter::Query;
@@ -23,7 +23,8 @@ use std::alloc::Global;
 /// Adds inputs to a run, which becomes the run that `aggregate` gives of the run and the inputs together.
 ///
 /// No state of the run counts more than `rows` rows, and with the rows of the inputs these are at most 2^62 - 1. The limit applies to the
-/// groups of the inputs, which are then merged into the run. What their aggregation took is added to `work`.
+/// groups of the inputs, which are then merged into the run. What their aggregation took is added to the work of the executor, whose table
+/// it uses.
 ///
 /// # Errors
 ///
@@ -36,7 +37,7 @@ pub fn fold<H: KeyHash + Copy, D: TapeDisk>(
     more: &[Input<'_>],
     means: &Means<H>,
     disk: &mut D,
-    work: &mut Work,
+    executor: &mut Executor,
 ) -> Result<(), SpillError>
     requires run { IsRun (meaning query.now) rows run.old }
     requires inputs { AllByRecursion (IsInput (meaning query.now)) (map brought more.now) }
@@ -44,12 +45,12 @@ pub fn fold<H: KeyHash + Copy, D: TapeDisk>(
     ensures folded { OnOk result (Aggregated (D.honest disk.old) (meaning query.now) (Counted run.old rows ∷ map brought more.now)
         run.new) }
     ensures same { OnErr result (run.new ≡ run.old) }
-    ensures ran { Ran D.TapeDisk H.hash_of query.now means.now (IsCounted (map brought more.now)) (ended result) disk.old work.old
-        disk.new work.new }
+    ensures ran { Ran D.TapeDisk H.hash_of query.now means.now (IsCounted (map brought more.now)) (ended result) disk.old executor.old
+        disk.new executor.new }
 {
     let _well_formed = query.schema();
-    let (more, took) = aggregate(alloc, query, more, means, disk)?;
+    let (more, took) = aggregate_in(alloc, query, more, means, disk, &mut executor.idle)?;
     run.merge_from(alloc, query, &more)?;
-    work.add(took);
+    executor.work.add(took);
     Ok(())
 }

@@ -16,9 +16,10 @@ ghost use Rattle.spill_partitions.specs.declared.error.SpillError.TheVariants.{N
 ghost use Rattle.having_filter.specs.Kept.{IsWellFormed};
 ghost use Rattle.having_filter.specs.Meaning.{meaning};
 ghost use Rattle.group_runs.specs.Runs.{Rises, packed_keys};
-ghost use Rattle.hash_agg.specs.Passes.{AreOnce, entries_of, FindsBy, HasPlace, WritesAt, IsSameTable};
+ghost use Rattle.hash_agg.specs.Passes.{AreOnce, entries_of, FindsBy, HasPlace, WritesAt, IsMade, IsSameTable};
 ghost use Rattle.group_runs.specs.Steps.{HaveRoomForRow, AreAdvanced, HaveRoomWithin, AreCombined};
 
+use crate::idle::IdleTable;
 use crate::sorting::{abbreviated, sort_distinct};
 use agg_protocol::BadState;
 use context_tree::Tree;
@@ -53,20 +54,12 @@ impl<H: KeyHash + Drop> Model for Groups<H> {
 }
 
 impl<H: KeyHash + Drop> Groups<H> {
-    /// No groups yet. Their states will have `width` bytes each. Records are spilled by `hash`; the table's hash function has this seed.
+    /// No groups yet, in a new table. Their states will have `width` bytes each. Records are spilled by `hash`; the table's hash function
+    /// has this seed. The only error is a failed allocation.
     #[tactic(auto, using(crate::proofs::TableLaws::finds_made, crate::proofs::TableLaws::nothing_held))]
-    pub(crate) fn new(
-        alloc: Global,
-        width: u32,
-        hash: H,
-        seed: Seed,
-    ) -> Result<Groups<H>, AllocError>
+    fn new(alloc: Global, width: u32, hash: H, seed: Seed) -> Result<Groups<H>, AllocError>
         requires { width ≤ 65535 }
-        ensures empty { IfOk result (λ made. entries_of made ≡ []) }
-        ensures width { IfOk result (λ made. made.table.width ≡ width) }
-        ensures hash { IfOk result (λ made. made.hash ≡ hash) }
-        ensures seed { IfOk result (FindsBy seed) }
-        ensures held { IfOk result (λ made. made.most_held ≡ 0) }
+        ensures { IfOk result (IsMade width hash seed) }
     {
         let mut tree = Tree::new(alloc);
         let root = tree.root();
@@ -78,6 +71,48 @@ impl<H: KeyHash + Drop> Groups<H> {
                 hash,
             }),
             Err(_) => Err(AllocError),
+        }
+    }
+
+    /// No groups yet, as `new` makes them, but in a table that is idle if it has states of this width and this seed.
+    pub(crate) fn begin(
+        alloc: Global,
+        idle: Option<IdleTable>,
+        width: u32,
+        hash: H,
+        seed: Seed,
+    ) -> Result<Groups<H>, AllocError>
+        requires { width ≤ 65535 }
+        ensures { IfOk result (IsMade width hash seed) }
+    {
+        match idle {
+            Some(idle) if idle.serves(width, seed) => {
+                let IdleTable { tree, table, .. } = idle;
+                Ok(Groups {
+                    tree,
+                    table,
+                    most_held: 0,
+                    hash,
+                })
+            }
+            _ => Groups::new(alloc, width, hash, seed),
+        }
+    }
+
+    /// Leaves the table, which has no group, to another aggregation. It has states of this width and this seed.
+    #[tactic(auto, using(crate::proofs::TableLaws::nothing_mapped))]
+    pub(crate) fn end(self, width: u32, seed: Seed) -> IdleTable
+        requires empty { entries_of self ≡ [] }
+        requires width { self.table.width ≡ width }
+        requires seed { FindsBy seed self }
+        ensures { result ≡ record { width = width; seed = seed } }
+    {
+        let Groups { tree, table, .. } = self;
+        IdleTable {
+            tree,
+            table,
+            width,
+            seed,
         }
     }
 

@@ -2,8 +2,10 @@
 #![tactic(auto)]
 
 mod aggregation;
+mod executor;
 mod folding;
 mod groups;
+mod idle;
 mod input;
 mod laws;
 mod means;
@@ -14,6 +16,7 @@ mod sorting;
 mod work;
 
 pub use aggregation::aggregate;
+pub use executor::Executor;
 pub use folding::fold;
 pub use group_runs::{Run, initial_states};
 pub use group_table::{Fnv1a, KeyHash, Seed};

@@ -12,11 +12,12 @@ ghost use Rattle.packed_rows.specs.Packing.{IsPacking};
 ghost use Rattle.hash_agg.specs.Inputs.{brought, packings_in, AreInputs, IsInput, Packed};
 ghost use Rattle.hash_agg.specs.Passes.{FindsBy, IsPlan};
 ghost use Rattle.hash_agg.specs.Added.{Packed_rows, Entries, On_tape, Added, AddedGenuine, AddedPartition, AddedOne, Adds};
-ghost use Rattle.hash_agg.specs.Added.{CountsPass, Finished, HasRoom, IsFirst, IsFresh, IsReady, IsSelected, RefusedPartition, enters};
+ghost use Rattle.hash_agg.specs.Added.{CountsPass, Finished, HasRoom, IsFirst, IsFresh, IsOver, IsReady, IsSelected, RefusedPartition, enters};
 ghost use Rattle.hash_agg.specs.Added.{query_of};
 ghost use Rattle.hash_agg.specs.Added.{source_of};
 
 use crate::groups::Groups;
+use crate::idle::IdleTable;
 use crate::input::{Input, Packings};
 use crate::means::Means;
 use crate::plan::Plan;
@@ -24,7 +25,7 @@ use crate::record::{GROUP, ROW, split_group, write_group};
 use crate::work::Work;
 use agg_protocol::BadState;
 use group_runs::Run;
-use group_table::{KeyHash, Lookup};
+use group_table::{KeyHash, Lookup, Seed};
 use packed_rows::Value;
 use spill_partitions::{SpillError, SpillPartitions};
 use spill_tapes::TapeDisk;
@@ -62,12 +63,13 @@ pub(crate) struct Pass<'q, H: KeyHash + Drop> {
 
 impl<'q, H: KeyHash + Copy> Pass<'q, H> {
     /// The first pass by some means, which has read nothing. Records are spilled by the hash function of the means, and the table's own
-    /// has their seed. The only error is a failed allocation.
+    /// has their seed. It takes an idle table that serves. The only error is a failed allocation.
     #[tactic(auto, using(crate::proofs::TableLaws::finds_same))]
     pub(crate) fn new<D: TapeDisk>(
         alloc: Global,
         plan: Plan<'q>,
         means: &Means<H>,
+        idle: Option<IdleTable>,
         disk: &D,
     ) -> Result<Pass<'q, H>, AllocError>
         requires plan { IsPlan plan }
@@ -75,7 +77,8 @@ impl<'q, H: KeyHash + Copy> Pass<'q, H> {
         ensures by { IfOk result (λ pass. (pass.plan ≡ plan.entry) × (pass.groups.hash ≡ means.now.hash)) }
         ensures seed { IfOk result (λ pass. FindsBy means.now.seed pass.groups) }
     {
-        let groups = Groups::new(alloc, plan.first.len() as u32, means.hash(), means.seed())?;
+        let width = plan.first.len() as u32;
+        let groups = Groups::begin(alloc, idle, width, means.hash(), means.seed())?;
         Ok(Pass {
             plan,
             groups,
@@ -85,6 +88,16 @@ impl<'q, H: KeyHash + Copy> Pass<'q, H> {
 }
 
 impl<'q, H: KeyHash + Drop> Pass<'q, H> {
+    /// Leaves the table to the next aggregation, once the last pass is over. It finds keys by this seed.
+    pub(crate) fn end(self, seed: Seed) -> IdleTable
+        requires over { IsOver self }
+        requires seed { FindsBy seed self.groups }
+        ensures { result.seed ≡ seed }
+    {
+        let Pass { plan, groups, .. } = self;
+        groups.end(plan.first.len() as u32, seed)
+    }
+
     /// The most bytes of blocks that the table holds while it inserts a group that isn't there, or `None` if it may not.
     fn need_to_insert(&self, key: &[u8]) -> Option<u64>
         requires ready { IsReady self.now }

@@ -13,7 +13,7 @@ ghost use Rattle.origin_prefix.specs.declared.error.JoinError.TheVariants.{Origi
 use crate::early::{are_among, copy_above, first_difference, places, put_all};
 use crate::error::JoinError;
 use crate::part::OriginPart;
-use hash_agg::{KeyHash, Means, Run, SpillError, TapeDisk, Work};
+use hash_agg::{Executor, KeyHash, Means, Run, SpillError, TapeDisk};
 use having_filter::Query;
 use std::alloc::AllocError;
 use std::collections::BTreeMap;
@@ -21,26 +21,26 @@ use std::collections::BTreeMap;
 impl OriginPart {
     /// The longer prefix of two parts of one origin with its groups, and the early batches of both. Those that follow the prefix without a
     /// gap are folded. Parts disagree if their prefixes are equal with different groups, or if they have different rows of one number
-    /// after both prefixes. The cost of aggregating the folded batches is added to `work`; a refusal adds nothing.
+    /// after both prefixes. The cost of aggregating the folded batches is added to the work of the executor; a refusal adds nothing.
     pub fn join<H: KeyHash + Copy, D: TapeDisk>(
         &self,
         other: &OriginPart,
         query: &Query,
         means: &Means<H>,
         disk: &mut D,
-        work: &mut Work,
+        executor: &mut Executor,
     ) -> Result<OriginPart, JoinError>
         requires part { IsPartOf query.now self.now }
         requires other { IsPartOf query.now other.now }
         ensures joining { Joining (D.honest disk.old) query.now self.now other.now result }
         ensures ran { Ran D.TapeDisk H.hash_of query.now means.now (JoinIsCounted self.now other.now) (join_ended result) disk.old
-            work.old disk.new work.new }
+            executor.old disk.new executor.new }
     {
         self.agree(other)?;
         if self.prefix < other.prefix {
-            return Ok(other.united(self, query, means, disk, work)?);
+            return Ok(other.united(self, query, means, disk, executor)?);
         }
-        Ok(self.united(other, query, means, disk, work)?)
+        Ok(self.united(other, query, means, disk, executor)?)
     }
 
     /// What this part takes in to become what [`join`](OriginPart::join) gives of both: [`settle`](OriginPart::settle) moves it in. If only
@@ -51,7 +51,7 @@ impl OriginPart {
         query: &Query,
         means: &Means<H>,
         disk: &mut D,
-        work: &mut Work,
+        executor: &mut Executor,
     ) -> Result<OriginPart, JoinError>
         requires part { IsPartOf query.now self.now }
         requires other { IsPartOf query.now other.now }
@@ -59,10 +59,10 @@ impl OriginPart {
         // Where this part keeps its prefix and its groups, there stand early batches alone. No number follows the greatest one.
         ensures aside { self.now.prefix ≢ LAST_NUMBER → KeepsGroups self.now other.now → IfOk result (StandAside self.now other.now) }
         ensures ran { Ran D.TapeDisk H.hash_of query.now means.now (JoinIsCounted self.now other.now) (join_ended result) disk.old
-            work.old disk.new work.new }
+            executor.old disk.new executor.new }
     {
         if !self.keeps_groups(other) {
-            return self.join(other, query, means, disk, work);
+            return self.join(other, query, means, disk, executor);
         }
         self.agree(other)?;
         Ok(self.early_aside(other)?)
@@ -152,7 +152,7 @@ impl OriginPart {
         query: &Query,
         means: &Means<H>,
         disk: &mut D,
-        work: &mut Work,
+        executor: &mut Executor,
     ) -> Result<OriginPart, SpillError>
         requires part { IsPartOf query.now self.now }
         requires other { IsPartOf query.now shorter.now }
@@ -162,7 +162,7 @@ impl OriginPart {
             × Drains (D.honest disk.old) (meaning query.now) self.now.prefix self.now.run behind part) }
         ensures part { IfOk result (IsPartOf query.now) }
         ensures ran { Ran D.TapeDisk H.hash_of query.now means.now (UniteIsCounted self.now shorter.now) (ended result) disk.old
-            work.old disk.new work.new }
+            executor.old disk.new executor.new }
     {
         let mut early = BTreeMap::new(self.alloc);
         copy_above(self.alloc, &self.early, self.prefix, &mut early)?;
@@ -173,7 +173,7 @@ impl OriginPart {
             run: self.run.try_clone(self.alloc)?,
             early,
         };
-        part.drain(query, None, means, disk, work)?;
+        part.drain(query, None, means, disk, executor)?;
         Ok(part)
     }
 }

@@ -24,7 +24,7 @@ use crate::error::{JoinError, RefusedBatch};
 use batch_reader::{Batch, PackedRows};
 use grouping_model::Delivered;
 use grouping_model::limits::MAX_ROWS;
-use hash_agg::{Input, KeyHash, Means, Run, SpillError, TapeDisk, Work, fold};
+use hash_agg::{Executor, Input, KeyHash, Means, Run, SpillError, TapeDisk, fold};
 use having_filter::Query;
 use std::alloc::{AllocError, Global};
 use std::collections::BTreeMap;
@@ -164,20 +164,20 @@ impl OriginPart {
     }
 
     /// Folds the early batches that follow the prefix without a gap, after the rows of the batch next to it, if these are given.
-    /// The cost of aggregating them is added to `work`. A refusal changes nothing.
+    /// The cost of aggregating them is added to the work of the executor. A refusal changes nothing.
     pub(crate) fn drain<H: KeyHash + Copy, D: TapeDisk>(
         &mut self,
         query: &Query,
         next: Option<&PackedRows>,
         means: &Means<H>,
         disk: &mut D,
-        work: &mut Work,
+        executor: &mut Executor,
     ) -> Result<(), SpillError>
         requires may { IsOpenWith query.now self.old (option_copied next) }
         ensures drained { OnOk result (DrainsWith (D.honest disk.old) (meaning query.now) self.old (option_copied next.entry) self.new) }
         ensures same { OnErr result (self.new ≡ self.old) }
         ensures ran { Ran D.TapeDisk H.hash_of query.now means.now (AreCounted (aggregations_with self.old (option_copied next.entry)))
-            (ended result) disk.old work.old disk.new work.new }
+            (ended result) disk.old executor.old disk.new executor.new }
     {
         let next_is_given = next.is_some();
         let (inputs, upto) = following_inputs(self.alloc, self.prefix, next, &self.early)?;
@@ -190,7 +190,7 @@ impl OriginPart {
                 &inputs,
                 means,
                 disk,
-                work,
+                executor,
             )?;
         }
         drop(inputs);
@@ -237,21 +237,21 @@ impl OriginPart {
     /// Takes a batch of the origin, for a query over the batch's columns. A known number changes nothing. A batch next to the unbroken
     /// prefix is folded with the early ones that follow without a gap, by `means` and over a disk; any other is kept until then. A refused
     /// batch is handed back and changes nothing: one whose number is early with other rows disagrees. A number within the prefix is known,
-    /// whatever its rows. The cost of aggregating the folded batches is added to `work`.
+    /// whatever its rows. The cost of aggregating the folded batches is added to the work of the executor.
     pub fn deliver<H: KeyHash + Copy, D: TapeDisk>(
         &mut self,
         query: &Query,
         batch: Batch,
         means: &Means<H>,
         disk: &mut D,
-        work: &mut Work,
+        executor: &mut Executor,
     ) -> Result<Delivered, RefusedBatch>
         requires part { IsPartOf query.now self.old }
         requires number { (1 ≤ batch.number) × (batch.number ≤ LAST_NUMBER) }
         requires rows { ArePackedRows (kinds query.now.columns) batch.rows }
         ensures delivery { Delivery (D.honest disk.old) query.now self.old batch self.new result }
         ensures ran { Ran D.TapeDisk H.hash_of query.now means.now (AreCounted (aggregations_on self.old batch.number batch.rows))
-            (batch_ended result) disk.old work.old disk.new work.new }
+            (batch_ended result) disk.old executor.old disk.new executor.new }
     {
         if batch.number <= self.prefix {
             return Ok(Delivered::Known);
@@ -262,7 +262,7 @@ impl OriginPart {
         if batch.number - 1 != self.prefix {
             return self.keep_early(batch);
         }
-        match self.drain(query, Some(&batch.rows), means, disk, work) {
+        match self.drain(query, Some(&batch.rows), means, disk, executor) {
             Ok(()) => Ok(Delivered::Folded {
                 upto: self.prefix(),
             }),

@@ -11,7 +11,7 @@ ghost use Rattle.replica_merge.specs.Results.{JoinsHeld, JoinsReplicas, MergesHe
 
 use crate::error::MergeError;
 use crate::replica::Replica;
-use hash_agg::{KeyHash, Means, TapeDisk, Work};
+use hash_agg::{Executor, KeyHash, Means, TapeDisk};
 use having_filter::Query;
 use origin_prefix::OriginPart;
 use std::alloc::{AllocError, Global};
@@ -88,37 +88,38 @@ fn join_all<H: KeyHash + Copy, D: TapeDisk>(
     theirs: &BTreeMap<u16, OriginPart>,
     means: &Means<H>,
     disk: &mut D,
-    work: &mut Work,
+    executor: &mut Executor,
 ) -> Result<Joined, MergeError>
     requires own { AreHeldParts query.now own.now.entries }
     requires theirs { AreHeldParts query.now theirs.now.entries }
     ensures joins { JoinsReplicas (D.honest disk.old) (record { query = query.now; parts = own.now.entries })
         (record { query = query.now; parts = theirs.now.entries }) result }
     ensures ran { MergeRan D.TapeDisk H.hash_of (record { query = query.now; parts = own.now.entries })
-        (record { query = query.now; parts = theirs.now.entries }) means.now result disk.old work.old disk.new work.new }
+        (record { query = query.now; parts = theirs.now.entries }) means.now result disk.old executor.old disk.new executor.new }
 {
     let nothing = OriginPart::empty(alloc);
     let Ok(mut joined) = places(alloc, own) else {
         return Err(MergeError::NoMemory);
     };
-    let mut counted = *work;
+    let begun = executor.work();
     for (origin, part) in theirs {
         if stays(own, *origin, part) {
             continue;
         }
         let own = part_or(own, *origin, &nothing);
-        let aside = match own.join_aside(part, query, means, disk, &mut counted) {
+        let aside = match own.join_aside(part, query, means, disk, executor) {
             Ok(aside) => aside,
             Err(why) => {
+                executor.count_from(begun);
                 let origin = *origin;
                 return Err(MergeError::Join { origin, why });
             }
         };
         if joined.insert(*origin, aside).is_err() {
+            executor.count_from(begun);
             return Err(MergeError::NoMemory);
         }
     }
-    *work = counted;
     Ok(Joined { parts: joined })
 }
 
@@ -150,7 +151,7 @@ fn fill(parts: &mut BTreeMap<u16, OriginPart>, old: BTreeMap<u16, OriginPart>)
 
 impl Replica {
     /// What this replica and another hold together, built apart from both: `commit` moves it in. The cost of folding early batches whose
-    /// gap is closed is added to `work`; an error adds nothing.
+    /// gap is closed is added to the work of the executor; an error adds nothing.
     ///
     /// # Errors
     ///
@@ -162,10 +163,10 @@ impl Replica {
         other: &Replica,
         means: &Means<H>,
         disk: &mut D,
-        work: &mut Work,
+        executor: &mut Executor,
     ) -> Result<Joined, MergeError>
         ensures joins { JoinsReplicas (D.honest disk.old) self.now other.now result }
-        ensures ran { MergeRan D.TapeDisk H.hash_of self.now other.now means.now result disk.old work.old disk.new work.new }
+        ensures ran { MergeRan D.TapeDisk H.hash_of self.now other.now means.now result disk.old executor.old disk.new executor.new }
     {
         if !self.query.same_query(&other.query) {
             return Err(MergeError::DifferentQuery);
@@ -179,7 +180,7 @@ impl Replica {
             &other.parts,
             means,
             disk,
-            work,
+            executor,
         )
     }
 
@@ -195,22 +196,22 @@ impl Replica {
 
     /// Merges another replica: afterwards this one knows what either knew. The other must answer the same query over the same schema. It
     /// must have no other batch of a number, as far as this can still be detected. The cost of folding early batches whose gap is closed is
-    /// added to `work`.
+    /// added to the work of the executor.
     ///
     /// # Errors
     ///
-    /// Those of [`join`](Replica::join). An error changes nothing, and adds nothing to `work`.
+    /// Those of [`join`](Replica::join). An error changes nothing, and adds nothing to that work.
     pub fn merge<H: KeyHash + Copy, D: TapeDisk>(
         &mut self,
         other: &Replica,
         means: &Means<H>,
         disk: &mut D,
-        work: &mut Work,
+        executor: &mut Executor,
     ) -> Result<(), MergeError>
         ensures merges { MergesReplicas (D.honest disk.old) self.old other.now self.new result }
-        ensures ran { MergeRan D.TapeDisk H.hash_of self.old other.now means.now result disk.old work.old disk.new work.new }
+        ensures ran { MergeRan D.TapeDisk H.hash_of self.old other.now means.now result disk.old executor.old disk.new executor.new }
     {
-        let joined = self.join(other, means, disk, work)?;
+        let joined = self.join(other, means, disk, executor)?;
         self.commit(joined);
         Ok(())
     }

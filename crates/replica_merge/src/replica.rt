@@ -23,7 +23,7 @@ use crate::pieces::{rows_of_left, spans_of};
 use crate::uniting::{listed, run_alone};
 use batch_reader::{Batch, PackedRows};
 use group_answers::{RowSink, finalize_and_project, project_into};
-use hash_agg::{KeyHash, Means, TapeDisk, Work};
+use hash_agg::{Executor, KeyHash, Means, TapeDisk};
 use having_filter::{Answer, AnswerRows, Query};
 use origin_prefix::{Delivered, JoinError, OriginPart, RefusedBatch};
 use std::alloc::{AllocError, Global};
@@ -138,20 +138,20 @@ impl Replica {
     /// Takes a batch of the query's columns, with an origin and a number within the limits. A known number changes nothing. A batch next to
     /// its origin's unbroken prefix is folded, with the early ones that follow without a gap, by `means` and over a disk. Any other is kept
     /// until its gap is closed. A refused batch is handed back and changes nothing: memory ran out, its number is early with other rows, or
-    /// the disk failed. The cost of folding is added to `work`.
+    /// the disk failed. The cost of folding is added to the work of the executor.
     pub fn deliver<H: KeyHash + Copy, D: TapeDisk>(
         &mut self,
         batch: Batch,
         means: &Means<H>,
         disk: &mut D,
-        work: &mut Work,
+        executor: &mut Executor,
     ) -> Result<Delivered, RefusedBatch>
         requires limits { InLimits (batch.origin, batch.number) }
         requires rows { ArePackedRows (kinds self.old.query.columns) batch.rows }
         ensures delivers { DeliversBatch (D.honest disk.old) self.old batch self.new result }
         ensures ran { Ran D.TapeDisk H.hash_of self.old.query means.now
             (AreCounted (aggregations_on (part_of self.old.parts batch.origin) batch.number batch.rows)) (batch_ended result)
-            disk.old work.old disk.new work.new }
+            disk.old executor.old disk.new executor.new }
     {
         // The part gets its place before the batch is taken, so a batch is never lost.
         let origin = batch.origin;
@@ -162,7 +162,7 @@ impl Replica {
         let Some(part) = self.parts.get_mut(&origin) else {
             unreachable!();
         };
-        match part.deliver(&self.query, batch, means, disk, work) {
+        match part.deliver(&self.query, batch, means, disk, executor) {
             Ok(delivered) => Ok(delivered),
             Err(refused) => {
                 take_back(&mut self.parts, origin, is_new);

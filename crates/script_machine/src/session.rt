@@ -27,7 +27,7 @@ ghost use Rattle.tape_disks.specs.Disk.{DiskFrame};
 use crate::saved::{Head, SavedFile, head_of};
 use batch_reader::read_rows;
 use group_parser::{parse, print};
-use hash_agg::{Fnv1a, Means, Seed, TapeDisk, Work};
+use hash_agg::{Executor, Fnv1a, Means, Seed, TapeDisk, Work};
 use having_filter::Query;
 use indexmap::IndexMap;
 use packed_rows::Schema;
@@ -50,6 +50,8 @@ pub(crate) struct Session {
     /// Saved summary files, by name.
     saved: IndexMap<Vec<u8>, SavedFile>,
     means: Means<Fnv1a>,
+    /// Batch after batch is folded by its table. What they took is not asked.
+    executor: Executor,
 }
 
 impl Model for Session {
@@ -169,6 +171,7 @@ impl Session {
             replicas: IndexMap::new(alloc),
             saved: IndexMap::new(alloc),
             means: Means::usual(Fnv1a).with_seed(seed),
+            executor: Executor::new(),
         }
     }
 
@@ -269,7 +272,8 @@ impl Session {
             Ok(batch) => batch,
             Err(why) => return Ok(Reply::Refused(Refusal::from(why))),
         };
-        let refused = match replica.deliver(batch, &self.means, disk, &mut Work::none()) {
+        self.executor.count_from(Work::none());
+        let refused = match replica.deliver(batch, &self.means, disk, &mut self.executor) {
             Ok(delivered) => return Ok(Reply::Delivered(delivered)),
             Err(refused) => refused,
         };
@@ -315,7 +319,7 @@ impl Session {
             return Err(Refusal::NoSuchName);
         };
         // Since all replicas have the query that was told, it is never `DifferentQuery`.
-        let joined = own.join(theirs, &self.means, disk, &mut Work::none())?;
+        let joined = own.join(theirs, &self.means, disk, &mut Executor::new())?;
         Ok(joined)
     }
 

@@ -3,7 +3,7 @@
 use crate::met::{Met, met_if, twice};
 use crate::sites::Site;
 use command_replicas::load;
-use hash_agg::{Fnv1a, Means, MemDisk, Work};
+use hash_agg::{Executor, Fnv1a, Means, MemDisk};
 use replica_merge::{RefusedBatch, Replica};
 use replies::{Format, Refusal, table};
 use std::test::*;
@@ -19,9 +19,9 @@ fn delivered(
 ) -> Result<Met, Refusal> {
     let batch = site.next_batch(rt.alloc(), replica.query())?;
     let means = Means::new(limit, Fnv1a)?;
-    let (mut disk, mut work) = (MemDisk::new(rt.alloc()), Work::none());
+    let (mut disk, mut executor) = (MemDisk::new(rt.alloc()), Executor::new());
     room.enter()?;
-    let first = replica.deliver(batch, &means, &mut disk, &mut work);
+    let first = replica.deliver(batch, &means, &mut disk, &mut executor);
     room.leave();
     let Err(RefusedBatch { batch, why }) = first else {
         let holds = site.delivered.is(rt.alloc(), replica)?;
@@ -34,7 +34,7 @@ fn delivered(
         return Ok(Met::Changed);
     }
     if replica
-        .deliver(batch, &means, &mut disk, &mut work)
+        .deliver(batch, &means, &mut disk, &mut executor)
         .is_err()
     {
         return Ok(Met::RefusedAgain);
@@ -66,9 +66,9 @@ fn merged(
     other: &Replica,
 ) -> Result<Met, Refusal> {
     let means = Means::new(limit, Fnv1a)?;
-    let (mut disk, mut work) = (MemDisk::new(rt.alloc()), Work::none());
+    let (mut disk, mut executor) = (MemDisk::new(rt.alloc()), Executor::new());
     room.enter()?;
-    let first = replica.merge(other, &means, &mut disk, &mut work);
+    let first = replica.merge(other, &means, &mut disk, &mut executor);
     room.leave();
     let Err(why) = first else {
         let holds = site.merged.is(rt.alloc(), replica)? && site.other.is(rt.alloc(), other)?;
@@ -80,7 +80,10 @@ fn merged(
     if !site.own.is(rt.alloc(), replica)? || !site.other.is(rt.alloc(), other)? {
         return Ok(Met::Changed);
     }
-    if replica.merge(other, &means, &mut disk, &mut work).is_err() {
+    if replica
+        .merge(other, &means, &mut disk, &mut executor)
+        .is_err()
+    {
         return Ok(Met::RefusedAgain);
     }
     let holds = site.merged.is(rt.alloc(), replica)? && site.other.is(rt.alloc(), other)?;

@@ -5,7 +5,7 @@ use chunk_contexts::{AllocSet, Bump, ChunkContext, ContextError, Generation, Sla
 use command_replicas::load;
 use context_tree::{Kind, Tree, TreeError};
 use group_table::GroupTable;
-use hash_agg::{Fnv1a, Means, MemDisk, Work};
+use hash_agg::{Executor, Fnv1a, Means, MemDisk};
 use replica_merge::{Delivered, Replica};
 use replies::{Refusal, Reply, put_reply};
 use script_io::Fused;
@@ -175,7 +175,7 @@ fn knows(
     let means = Means::usual(Fnv1a);
     let mut disk = MemDisk::new(alloc);
     hoard.leave(0)?;
-    let again = replica.deliver(batch, &means, &mut disk, &mut Work::none());
+    let again = replica.deliver(batch, &means, &mut disk, &mut Executor::new());
     let is_known = matches!(&again, Ok(Delivered::Known));
     drop(again);
     hoard.give_back();

@@ -9,7 +9,7 @@ ghost use Rattle.packed_rows.specs.Columns.{kinds};
 use crate::met::{Met, met_if, twice};
 use crate::sites::Site;
 use batch_reader::PackedRows;
-use hash_agg::{Fnv1a, Input, Means, MemDisk, Run, SpillError, Work, aggregate};
+use hash_agg::{Executor, Fnv1a, Input, Means, MemDisk, Run, SpillError, Work, aggregate};
 use having_filter::Query;
 use origin_prefix::OriginPart;
 use replica_merge::JoinError;
@@ -175,11 +175,11 @@ fn joined(
     requires other { IsPartOf query.now other.now }
 {
     let means = Means::new(limit, Fnv1a)?;
-    let (mut disk, mut work) = (MemDisk::new(rt.alloc()), Work::none());
+    let (mut disk, mut executor) = (MemDisk::new(rt.alloc()), Executor::new());
     room.enter()?;
-    let first = own.join(other, query, &means, &mut disk, &mut work);
+    let first = own.join(other, query, &means, &mut disk, &mut executor);
     room.leave();
-    match own.join(other, query, &means, &mut disk, &mut work) {
+    match own.join(other, query, &means, &mut disk, &mut executor) {
         Ok(wanted) => Ok(united(first, &wanted)),
         Err(_) => Ok(Met::RefusedAgain),
     }

@@ -7,7 +7,7 @@ ghost use Rattle.packed_rows.specs.Columns.{kinds};
 
 use batch_reader::{Batch, read_batch};
 use command_replicas::{create, feed, load};
-use hash_agg::{Fnv1a, Means, MemDisk, Work};
+use hash_agg::{Executor, Fnv1a, Means, MemDisk};
 use having_filter::Query;
 use replica_merge::Replica;
 use replies::{Format, Refusal, origin_lines, table};
@@ -78,10 +78,14 @@ fn feed_all(
     count: u32,
     rows: &str,
 ) -> Result<(), Refusal> {
-    let (means, mut disk, mut work) = (Means::usual(Fnv1a), MemDisk::new(alloc), Work::none());
+    let (means, mut disk, mut executor) = (
+        Means::usual(Fnv1a),
+        MemDisk::new(alloc),
+        Executor::new(),
+    );
     for place in places {
         let file = batch_file(alloc, *place, count, rows)?;
-        feed(alloc, replica, &file, &means, &mut disk, &mut work)?;
+        feed(alloc, replica, &file, &means, &mut disk, &mut executor)?;
     }
     Ok(())
 }

@@ -3,7 +3,7 @@
 use crate::spilling::{push_rows, script};
 use command_replicas::{create, feed, save};
 use csv::ByteRecord;
-use hash_agg::{DEFAULT_SEED, Fnv1a, MIN_LIMIT, Means, MemDisk, Seed, TapeDisk, Work};
+use hash_agg::{DEFAULT_SEED, Executor, Fnv1a, MIN_LIMIT, Means, MemDisk, Seed, TapeDisk};
 use replica_merge::Replica;
 use replies::{Refusal, RunError};
 use script_io::Fused;
@@ -86,8 +86,8 @@ fn fed_and_saved(
     seed: Seed,
 ) -> Result<Vec<u8>, Refusal> {
     let means = Means::new(MIN_LIMIT, Fnv1a)?.with_seed(seed);
-    let (mut disk, mut work) = (MemDisk::new(alloc), Work::none());
-    feed(alloc, replica, batch, &means, &mut disk, &mut work)?;
+    let (mut disk, mut executor) = (MemDisk::new(alloc), Executor::new());
+    feed(alloc, replica, batch, &means, &mut disk, &mut executor)?;
     let file = save(replica)?;
     Ok(file.bytes().to_vec(alloc)?)
 }

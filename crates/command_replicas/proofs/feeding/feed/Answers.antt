@@ -42,10 +42,10 @@ returns-clause-ran g c =
     batch.origin batch.number batch.few batch.told batch.rows in
     ran_weaker g.D.TapeDisk g.H.KeyHash.hash_of old.query c.args.means.now
     (AreCounted (aggregations_on (part_of old.parts c.in_ok-batch.batch.origin) c.in_ok-batch.batch.number c.in_ok-batch.batch.rows))
-    (FeedIsCounted file old) Done c.args.disk.now c.args.work.now c.deliver.new.disk c.deliver.new.work
+    (FeedIsCounted file old) Done c.args.disk.now c.args.executor.now c.deliver.new.disk c.deliver.new.executor
     (λ counted. of_batch_file file old (λ origin number packed. AreCounted (aggregations_on (part_of old.parts origin) number packed)
-    (meaning old.query) (setting_by g.H.KeyHash.hash_of (meaning old.query) c.args.means.now) c.args.work.now
-    (g.D.TapeDisk.writes c.args.disk.now) c.deliver.new.work (g.D.TapeDisk.writes c.deliver.new.disk)) c.in_ok-batch.batch read counted)
+    (meaning old.query) (setting_by g.H.KeyHash.hash_of (meaning old.query) c.args.means.now) c.args.executor.now
+    (g.D.TapeDisk.writes c.args.disk.now) c.deliver.new.executor (g.D.TapeDisk.writes c.deliver.new.disk)) c.in_ok-batch.batch read counted)
     c.in_ok-delivered.ensures.ran
 
 pub returns-in_err-batch-clause-feeds : goal.returns-in_err-batch-clause-feeds
@@ -66,10 +66,10 @@ returns-in_err-batch-clause-ran g c =
     let old = c.args.replica.now in
     let Counts = FeedIsCounted (read_file c.args.file.now) old in
     ran_as g.D.TapeDisk g.H.KeyHash.hash_of old.query c.args.means.now Counts (Refused (refusal_reason (batch_refusal error))) _
-    c.args.disk.now c.args.work.now c.args.disk.now c.args.work.now
+    c.args.disk.now c.args.executor.now c.args.disk.now c.args.executor.now
     (sym (refused_by refusal_reason c.from_residual.result (batch_refusal error) c.from_residual.ensures.1))
     (refused_still g.D.TapeDisk g.H.KeyHash.hash_of old.query c.args.means.now Counts (refusal_reason (batch_refusal error))
-    c.args.disk.now c.args.work.now (batch_reason error) (λ honest. batch_undamaged error))
+    c.args.disk.now c.args.executor.now (batch_reason error) (λ honest. batch_undamaged error))
 
 pub returns-in_err-delivered-clause-feeds : goal.returns-in_err-delivered-clause-feeds
 returns-in_err-delivered-clause-feeds g c =
@@ -92,8 +92,8 @@ returns-in_err-delivered-clause-ran g c =
     let old = c.args.replica.now in
     let ran = c.in_err-delivered.ensures.ran in
     let Counts = FeedIsCounted (read_file c.args.file.now) old in
-    ran_as g.D.TapeDisk g.H.KeyHash.hash_of old.query c.args.means.now Counts _ _ c.args.disk.now c.args.work.now c.deliver.new.disk
-    c.deliver.new.work
+    ran_as g.D.TapeDisk g.H.KeyHash.hash_of old.query c.args.means.now Counts _ _ c.args.disk.now c.args.executor.now c.deliver.new.disk
+    c.deliver.new.executor
     (ap Refused (sym (join_reasons refused.batch.origin refused.why))
     ∙ sym (refused_by refusal_reason c.from_residual-in_err-delivered.result _ c.from_residual-in_err-delivered.ensures.1))
     (record { disk = ran.disk; undamaged = ran.undamaged; counted = tt; uncounted = ran.uncounted; grown = ran.grown })

@@ -19,7 +19,7 @@ returns-clause-ran g c =
     let old = c.args.replica.now in
     let other = c.in_ok-other.other in
     ran_weaker g.D.TapeDisk g.H.KeyHash.hash_of old.query c.args.means.now (MergeIsCounted old.parts other.parts)
-    (FileMergeIsCounted c.args.file.now old) Done c.args.disk.now c.args.work.now c.merge.new.disk c.merge.new.work
+    (FileMergeIsCounted c.args.file.now old) Done c.args.disk.now c.args.executor.now c.merge.new.disk c.merge.new.executor
     (λ counted. (other, c.in_ok-other.ensures.loaded.summary, counted)) c.in_ok-merge.ensures.ran.ran
 
 pub returns-in_err-other-clause-merges : goal.returns-in_err-other-clause-merges
@@ -34,10 +34,10 @@ returns-in_err-other-clause-ran g c =
     let none = no_summary c.args.file.now error (summary_refusal error) refl c.in_err-other.ensures.fault in
     let Counts = FileMergeIsCounted c.args.file.now old in
     ran_as g.D.TapeDisk g.H.KeyHash.hash_of old.query c.args.means.now Counts (Refused (refusal_reason (summary_refusal error))) _
-    c.args.disk.now c.args.work.now c.args.disk.now c.args.work.now
+    c.args.disk.now c.args.executor.now c.args.disk.now c.args.executor.now
     (sym (refused_by refusal_reason c.from_residual.result (summary_refusal error) c.from_residual.ensures.1))
     (refused_still g.D.TapeDisk g.H.KeyHash.hash_of old.query c.args.means.now Counts (refusal_reason (summary_refusal error))
-    c.args.disk.now c.args.work.now (no_file_fault c.args.file.now (summary_refusal error) none)
+    c.args.disk.now c.args.executor.now (no_file_fault c.args.file.now (summary_refusal error) none)
     (λ honest. no_file_damage c.args.file.now (summary_refusal error) none))
 
 pub returns-in_err-merge-clause-merges : goal.returns-in_err-merge-clause-merges
@@ -56,8 +56,8 @@ returns-in_err-merge-clause-ran g c =
     let old = c.args.replica.now in
     let ran = c.in_err-merge.ensures.ran.ran in
     let Counts = FileMergeIsCounted c.args.file.now old in
-    ran_as g.D.TapeDisk g.H.KeyHash.hash_of old.query c.args.means.now Counts _ _ c.args.disk.now c.args.work.now c.merge.new.disk
-    c.merge.new.work
+    ran_as g.D.TapeDisk g.H.KeyHash.hash_of old.query c.args.means.now Counts _ _ c.args.disk.now c.args.executor.now c.merge.new.disk
+    c.merge.new.executor
     (ap Refused (sym (merge_reasons error)) ∙ sym (refused_by refusal_reason c.from_residual-in_err-merge.result _
     c.from_residual-in_err-merge.ensures.1))
     (record { disk = ran.disk; undamaged = ran.undamaged; counted = tt; uncounted = ran.uncounted; grown = ran.grown })

@@ -9,12 +9,12 @@ use Rattle.tape_disks.specs.DiskLaws.{leaves_none, leaves_twice}
 use Rattle.hash_agg.proofs.Words.{spill_faults, count_of, waiting_number, full_pages, written_pages, NoMemory, Setting, Query, Entry, Rises}
 use Rattle.hash_agg.proofs.Words.{concatenated, IsDone, query_of, setting_in, meaning, AreOnce, AreSafe, PassState, ReadsPartition}
 use Rattle.hash_agg.proofs.Words.{CanReadPartition}
-use Rattle.hash_agg.proofs.Words.{entries_of, standing, AddsUp, pass_cost, Plan}
+use Rattle.hash_agg.proofs.Words.{entries_of, standing, AddsUp, pass_cost, Plan, PartitionsState, IsOver}
 use Rattle.hash_agg.proofs.DiskLaws.{left_out, still}
 use Rattle.hash_agg.proofs.KeyLaws.{if_ok_both}
 use Rattle.hash_agg.proofs.LaterLaws.{IsWaiting, pass_can, pass_made, waiting_ends}
 use Rattle.hash_agg.proofs.NeedLaws.{held_by_both}
-use Rattle.hash_agg.proofs.ReturnLaws.{no_if_ok}
+use Rattle.hash_agg.proofs.ReturnLaws.{all_if_ok, no_if_ok}
 use Rattle.hash_agg.proofs.SortLaws.{rises_once}
 use Rattle.hash_agg.proofs.StepLaws.{err_out}
 use Rattle.hash_agg.proofs.UnionLaws.{one_run_more, safe_append, safe_moved, moved_stands}
@@ -41,6 +41,7 @@ loop-pass-init g c =
       over = c.requires.over;
       plan = refl;
       hash = refl;
+      finds = refl;
       within = record { counted = c.requires.counted; held = λ is. is };
       safe = subst (AreSafe q c.args.pass.now.plan.most) (sym one) c.requires.run.safe;
       few = omega (arith, long);
@@ -55,6 +56,8 @@ pub returns-in_err-add_partition : goal.returns-in_err-add_partition
 returns-in_err-add_partition g c =
     let i = c.loop-pass.invariant in
     record {
+      over = no_if_ok c.from_residual.result _ c.from_residual.ensures.0;
+      finds = no_if_ok c.from_residual.result _ c.from_residual.ensures.0;
       made = no_if_ok c.from_residual.result _ c.from_residual.ensures.0;
       undamaged =
           err_out c.from_residual.result c.in_err-add_partition.field-0.0 _ c.from_residual.ensures.1
@@ -77,6 +80,8 @@ returns-in_err-add_partition g c =
 pub returns-in_err-more : goal.returns-in_err-more
 returns-in_err-more g c =
     record {
+      over = no_if_ok c.from_residual-in_err-more.result _ c.from_residual-in_err-more.ensures.0;
+      finds = no_if_ok c.from_residual-in_err-more.result _ c.from_residual-in_err-more.ensures.0;
       made = no_if_ok c.from_residual-in_err-more.result _ c.from_residual-in_err-more.ensures.0;
       undamaged = err_out c.from_residual-in_err-more.result c.in_err-more.field-0.0 _ c.from_residual-in_err-more.ensures.1
           (λ honest pieces start writes underway count. c.in_err-more.ensures.undamaged);
@@ -91,6 +96,8 @@ returns-in_err-more g c =
 pub returns-in_err-push : goal.returns-in_err-push
 returns-in_err-push g c =
     record {
+      over = no_if_ok c.from_residual-in_err-push.result _ c.from_residual-in_err-push.ensures.0;
+      finds = no_if_ok c.from_residual-in_err-push.result _ c.from_residual-in_err-push.ensures.0;
       made = no_if_ok c.from_residual-in_err-push.result _ c.from_residual-in_err-push.ensures.0;
       undamaged = err_out c.from_residual-in_err-push.result NoMemory _ c.from_residual-in_err-push.ensures.1
           (λ honest pieces start writes underway count same. cc);
@@ -126,6 +133,7 @@ loop-pass-preserved g c =
       over = record { ready = end.ready; fresh = end.fresh; reading = end.reading ∙ add.reading };
       plan = end.plan ∙ add.kept.plan ∙ i.plan;
       hash = end.hash ∙ add.kept.table.hash ∙ i.hash;
+      finds = end.finds ∙ add.kept.table.finds ∙ i.finds;
       within =
           record {
             counted = counts.counted;
@@ -174,6 +182,9 @@ returns g c =
     let i = c.loop-pass.invariant in
     let joined : List Entry = concatenated (c.args.run ∷ c.loop-pass.others.items) in
     record {
+      over = all_if_ok c.united.result _ (subst (λ (spill : PartitionsState). IsOver (record c.loop-pass.pass { spill = spill }))
+          (sym (c.begin_pass.ensures.unchanged c.loop-pass-test.false)) i.over);
+      finds = all_if_ok c.united.result _ i.finds;
       made =
           if_ok_both c.united.result (IsPermutation (concatenated (c.args.run ∷ c.deref.result.now))) Rises _
           (λ all moved rises.
@@ -212,6 +223,9 @@ returns-then-is_empty g c =
     let counted = c.loop-pass.others.ok in
     let none : length c.loop-pass.others.items ≡ 0 = grind (arith, common_steps, c.is_empty.ensures, c.if-is_empty.true) in
     record {
+      over = subst (λ (spill : PartitionsState). IsOver (record c.loop-pass.pass { spill = spill }))
+          (sym (c.begin_pass.ensures.unchanged c.loop-pass-test.false)) i.over;
+      finds = i.finds;
       made =
           record {
             whole =

@@ -9,6 +9,7 @@ invariant-loop-pass g l =
       over : IsOver l.pass;
       plan : l.pass.plan ≡ l.fn.pass.plan;
       hash : l.pass.groups.hash ≡ l.fn.pass.groups.hash;
+      finds : l.pass.groups.table.hash ≡ l.fn.pass.groups.table.hash;
       within : CountsWithin l.fn.pass.plan.limit l.fn.work l.work;
       safe : AreSafe (query_of l.fn.pass) l.fn.pass.plan.most (concatenated (l.fn.run ∷ l.others.items));
       few : length (concatenated (l.fn.run ∷ l.others.items)) + waiting_number l.pass.spill ≤ length l.fn.run

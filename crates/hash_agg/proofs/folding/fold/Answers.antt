@@ -1,10 +1,11 @@
 use Rattle.std.specs.Prelude.{◌+◌, ◌≤◌, map, Some}
-use Rattle.std.proofs.Common.{sym, arith}
+use Rattle.std.proofs.Common.{sym, subst, arith}
 use Rattle.tape_disks.specs.DiskLaws.{leaves_none}
 use Rattle.agg_protocol.specs.States.{most_rows}
 use Rattle.hash_agg.specs.Counting.{IsCounted, Took, no_work}
 use Rattle.hash_agg.specs.Lemmas.RanLaws.{ran_as, refused_alike, refused_by, refused_later}
-use Rattle.hash_agg.specs.Ran.{Refused, ended}
+use Rattle.hash_agg.specs.Ran.{Done, Ran, Refused, ended}
+use Rattle.hash_agg.specs.declared.work.Work.{Work}
 use Rattle.hash_agg.proofs.Words.{NoMemory, meaning, brought, all_rows}
 use Rattle.hash_agg.proofs.FoldLaws.{folded, folded_over}
 use Rattle.hash_agg.proofs.AnswerLaws.{fold_ran}
@@ -39,27 +40,35 @@ returns-clause-folded g c =
     }
 
 pub returns-clause-ran : goal.returns-clause-ran
-returns-clause-ran g c = fold_ran g.D.TapeDisk g.H.KeyHash.hash_of c.args.query.now c.args.means.now (map brought c.args.more.now)
-    c.args.disk.now c.aggregate.new.disk c.args.work.now c.in_ok-more.took c.add.new.self c.in_ok-more.ensures.ran c.add.ensures.passes
-    c.add.ensures.spilled c.add.ensures.most_held c.add.ensures.grown
+returns-clause-ran g c =
+    let more = map brought c.args.more.now in
+    subst (λ (begun : Work). Ran g.D.TapeDisk g.H.KeyHash.hash_of c.args.query.now c.args.means.now (IsCounted more) Done c.args.disk.now begun
+    c.aggregate_in.new.disk c.add.new.self) c.executor.view_is
+    (fold_ran g.D.TapeDisk g.H.KeyHash.hash_of c.args.query.now c.args.means.now more c.args.disk.now c.aggregate_in.new.disk
+    c.executor.inside.work c.in_ok-more.took c.add.new.self c.in_ok-more.ensures.ran c.add.ensures.passes c.add.ensures.spilled
+    c.add.ensures.most_held c.add.ensures.grown)
 
 pub returns-in_err-more-clause-ran : goal.returns-in_err-more-clause-ran
 returns-in_err-more-clause-ran g c =
     let more = map brought c.args.more.now in
     let error = c.in_err-more.field-0.0 in
-    ran_as g.D.TapeDisk g.H.KeyHash.hash_of c.args.query.now c.args.means.now (IsCounted more) (Refused (Some error))
-    (ended c.from_residual.result) c.args.disk.now c.args.work.now c.aggregate.new.disk c.args.work.now
+    subst (λ (done : Work). Ran g.D.TapeDisk g.H.KeyHash.hash_of c.args.query.now c.args.means.now (IsCounted more)
+    (ended c.from_residual.result) c.args.disk.now c.args.executor.now c.aggregate_in.new.disk done) (sym c.executor.view_is)
+    (ran_as g.D.TapeDisk g.H.KeyHash.hash_of c.args.query.now c.args.means.now (IsCounted more) (Refused (Some error))
+    (ended c.from_residual.result) c.args.disk.now c.args.executor.now c.aggregate_in.new.disk c.args.executor.now
     (sym (refused_by Some c.from_residual.result error c.from_residual.ensures.1))
     (refused_alike g.D.TapeDisk g.H.KeyHash.hash_of c.args.query.now c.args.means.now (Took more) (IsCounted more) (Some error)
-    c.args.disk.now no_work c.aggregate.new.disk no_work c.args.work.now c.in_err-more.ensures.ran)
+    c.args.disk.now no_work c.aggregate_in.new.disk no_work c.args.executor.now c.in_err-more.ensures.ran))
 
 pub returns-in_err-merge_from-clause-ran : goal.returns-in_err-merge_from-clause-ran
 returns-in_err-merge_from-clause-ran g c =
     let more = map brought c.args.more.now in
     let result = c.from_residual-in_err-merge_from.result in
-    ran_as g.D.TapeDisk g.H.KeyHash.hash_of c.args.query.now c.args.means.now (IsCounted more) (Refused (Some NoMemory))
-    (ended result) c.args.disk.now c.args.work.now c.aggregate.new.disk c.args.work.now
+    subst (λ (done : Work). Ran g.D.TapeDisk g.H.KeyHash.hash_of c.args.query.now c.args.means.now (IsCounted more) (ended result)
+    c.args.disk.now c.args.executor.now c.aggregate_in.new.disk done) (sym c.executor.view_is)
+    (ran_as g.D.TapeDisk g.H.KeyHash.hash_of c.args.query.now c.args.means.now (IsCounted more) (Refused (Some NoMemory))
+    (ended result) c.args.disk.now c.args.executor.now c.aggregate_in.new.disk c.args.executor.now
     (sym (refused_by Some result NoMemory c.from_residual-in_err-merge_from.ensures.1))
     (refused_later g.D.TapeDisk g.H.KeyHash.hash_of c.args.query.now c.args.means.now (IsCounted more) (Some NoMemory)
-    c.args.disk.now c.aggregate.new.disk c.aggregate.new.disk c.args.work.now c.in_ok-more.ensures.ran.disk
-    (leaves_none g.D.TapeDisk c.aggregate.new.disk) (λ honest same. cc))
+    c.args.disk.now c.aggregate_in.new.disk c.aggregate_in.new.disk c.args.executor.now c.in_ok-more.ensures.ran.disk
+    (leaves_none g.D.TapeDisk c.aggregate_in.new.disk) (λ honest same. cc)))

@@ -8,7 +8,8 @@ use Rattle.replica_merge.specs.Lemmas.Words.{meaning, Query, setting_by, Joins, 
 use Rattle.replica_merge.specs.Lemmas.Words.{Part, empty, Includes, IsPartOf, Parts, part_at, part_of, IsHeldPart, IsFirstRefused, AsideAt}
 use Rattle.aggregation_cost.specs.Space.{Setting}
 use Rattle.hash_agg.specs.Lemmas.RanLaws.{grown_twice, none_grown, refused_still, refused_later}
-use Rattle.hash_agg.specs.Ran.{Refused}
+use Rattle.hash_agg.specs.Ran.{Ran, Refused}
+use Rattle.hash_agg.specs.declared.work.Work.{Work}
 use Rattle.origin_prefix.specs.Errors.{join_reason}
 use Rattle.origin_prefix.specs.Joins.{settled}
 use Rattle.spill_partitions.specs.declared.error.SpillError.TheVariants as spill
@@ -44,7 +45,7 @@ loop-origin-init g c =
       held = search rules;
       rising = search rules;
       disk = search rules;
-      grown = none_grown c.args.means.now.limit c.args.work.now;
+      grown = none_grown c.args.means.now.limit c.args.executor.now;
       front = [];
       parts = refl;
       counted = λ so. (refl, refl);
@@ -82,12 +83,12 @@ loop-origin-preserved-then-stays g c =
           let q : Query = meaning c.args.query.now in
           let setting : Setting = setting_by g.H.KeyHash.hash_of q c.args.means.now in
           let mine : there.0 ≡ part_of own n = sym (ap (λ found. unwrap_or found empty) there.1) in
-          counted_more own front (n, p) q setting c.args.work.now (g.D.TapeDisk.writes c.args.disk.now)
-          c.loop-origin.counted (g.D.TapeDisk.writes c.loop-origin.disk) c.loop-origin.counted (g.D.TapeDisk.writes c.loop-origin.disk)
+          counted_more own front (n, p) q setting c.args.executor.now (g.D.TapeDisk.writes c.args.disk.now)
+          c.loop-origin.executor (g.D.TapeDisk.writes c.loop-origin.disk) c.loop-origin.executor (g.D.TapeDisk.writes c.loop-origin.disk)
           (c.loop-origin.invariant.counted so)
-          (subst (λ (t : Part). JoinIsCounted t p q setting c.loop-origin.counted (g.D.TapeDisk.writes c.loop-origin.disk)
-          c.loop-origin.counted (g.D.TapeDisk.writes c.loop-origin.disk)) mine
-          (stay.counted setting c.loop-origin.counted (g.D.TapeDisk.writes c.loop-origin.disk)));
+          (subst (λ (t : Part). JoinIsCounted t p q setting c.loop-origin.executor (g.D.TapeDisk.writes c.loop-origin.disk)
+          c.loop-origin.executor (g.D.TapeDisk.writes c.loop-origin.disk)) mine
+          (stay.counted setting c.loop-origin.executor (g.D.TapeDisk.writes c.loop-origin.disk)));
       can = tt;
       finite = tt;
     }
@@ -128,7 +129,7 @@ loop-origin-preserved g c =
       rising = c.insert.ensures.ordered;
       disk = leaves_twice g.D.TapeDisk 0 c.args.disk.now c.loop-origin.disk c.join_aside.new.disk c.loop-origin.invariant.disk
           c.in-Ok-join_aside.ensures.ran.disk;
-      grown = grown_twice c.args.means.now.limit c.args.work.now c.loop-origin.counted c.join_aside.new.work c.loop-origin.invariant.grown
+      grown = grown_twice c.args.means.now.limit c.args.executor.now c.loop-origin.executor c.join_aside.new.executor c.loop-origin.invariant.grown
           c.in-Ok-join_aside.ensures.ran.grown;
       front = front ++ ((n, c.in-Some.part.now) ∷ []);
       parts = c.loop-origin.invariant.parts ∙ ap (λ (left : Parts). front ++ left) c.in-Some.ensures.steps
@@ -136,13 +137,13 @@ loop-origin-preserved g c =
       counted = λ so.
           let q : Query = meaning c.args.query.now in
           let setting : Setting = setting_by g.H.KeyHash.hash_of q c.args.means.now in
-          let counted : JoinIsCounted (part_of own n) c.in-Some.part.now q setting c.loop-origin.counted
-          (g.D.TapeDisk.writes c.loop-origin.disk) c.join_aside.new.work (g.D.TapeDisk.writes c.join_aside.new.disk) =
-          subst (λ (p : Part). JoinIsCounted p c.in-Some.part.now q setting c.loop-origin.counted
-          (g.D.TapeDisk.writes c.loop-origin.disk) c.join_aside.new.work (g.D.TapeDisk.writes c.join_aside.new.disk)) own_is
+          let counted : JoinIsCounted (part_of own n) c.in-Some.part.now q setting c.loop-origin.executor
+          (g.D.TapeDisk.writes c.loop-origin.disk) c.join_aside.new.executor (g.D.TapeDisk.writes c.join_aside.new.disk) =
+          subst (λ (p : Part). JoinIsCounted p c.in-Some.part.now q setting c.loop-origin.executor
+          (g.D.TapeDisk.writes c.loop-origin.disk) c.join_aside.new.executor (g.D.TapeDisk.writes c.join_aside.new.disk)) own_is
           (c.in-Ok-join_aside.ensures.ran.counted (subst IsTrue (sym c.loop-origin.invariant.disk.honesty) so)) in
-          counted_more own front (n, c.in-Some.part.now) q setting c.args.work.now (g.D.TapeDisk.writes c.args.disk.now)
-          c.loop-origin.counted (g.D.TapeDisk.writes c.loop-origin.disk) c.join_aside.new.work (g.D.TapeDisk.writes c.join_aside.new.disk)
+          counted_more own front (n, c.in-Some.part.now) q setting c.args.executor.now (g.D.TapeDisk.writes c.args.disk.now)
+          c.loop-origin.executor (g.D.TapeDisk.writes c.loop-origin.disk) c.join_aside.new.executor (g.D.TapeDisk.writes c.join_aside.new.disk)
           (c.loop-origin.invariant.counted so) counted;
       can = tt;
       finite = tt;
@@ -176,15 +177,18 @@ returns-in-Err-clause-ran g c =
     let theirs : c.into_iter-origin-iterator.result ≡ c.args.theirs.now.entries = c.into_iter-origin-iterator.ensures.into_iter_gives.0 in
     let ran = c.in-Err.ensures.ran in
     record {
-      ran = refused_later g.D.TapeDisk g.H.KeyHash.hash_of c.args.query.now c.args.means.now (MergeIsCounted own c.args.theirs.now.entries)
-          (join_reason c.in-Err.why) c.args.disk.now c.loop-origin.disk c.join_aside.new.disk c.args.work.now c.loop-origin.invariant.disk
-          ran.disk (λ honest same. ran.undamaged honest (ap Refused same));
+      ran = subst (λ (done : Work). Ran g.D.TapeDisk g.H.KeyHash.hash_of c.args.query.now c.args.means.now
+          (MergeIsCounted own c.args.theirs.now.entries) (Refused (join_reason c.in-Err.why)) c.args.disk.now c.args.executor.now
+          c.join_aside.new.disk done) (sym (c.count_from.ensures ∙ c.work-begun.ensures))
+          (refused_later g.D.TapeDisk g.H.KeyHash.hash_of c.args.query.now c.args.means.now (MergeIsCounted own c.args.theirs.now.entries)
+          (join_reason c.in-Err.why) c.args.disk.now c.loop-origin.disk c.join_aside.new.disk c.args.executor.now
+          c.loop-origin.invariant.disk ran.disk (λ honest same. ran.undamaged honest (ap Refused same)));
       order = λ so. record {
         lower = front;
         part = c.in-Some.part.now;
         higher = c.next.new.self;
         parts = sym theirs ∙ c.loop-origin.invariant.parts ∙ ap (λ (left : Parts). front ++ left) c.in-Some.ensures.steps;
-        work = c.loop-origin.counted;
+        work = c.loop-origin.executor;
         pages = g.D.TapeDisk.writes c.loop-origin.disk;
         counted = c.loop-origin.invariant.counted so;
         reached = ran.disk.writes;
@@ -196,9 +200,12 @@ returns-then-is_err-clause-joins g c = record { joined = tt; refused = refl }
 
 pub returns-then-is_err-clause-ran : goal.returns-then-is_err-clause-ran
 returns-then-is_err-clause-ran g c = record {
-  ran = refused_later g.D.TapeDisk g.H.KeyHash.hash_of c.args.query.now c.args.means.now
+  ran = subst (λ (done : Work). Ran g.D.TapeDisk g.H.KeyHash.hash_of c.args.query.now c.args.means.now
+      (MergeIsCounted c.args.own.now.entries c.args.theirs.now.entries) (Refused (Some spill.NoMemory)) c.args.disk.now c.args.executor.now
+      c.join_aside.new.disk done) (sym (c.count_from-then-is_err.ensures ∙ c.work-begun.ensures))
+      (refused_later g.D.TapeDisk g.H.KeyHash.hash_of c.args.query.now c.args.means.now
       (MergeIsCounted c.args.own.now.entries c.args.theirs.now.entries) (Some spill.NoMemory) c.args.disk.now c.loop-origin.disk
-      c.join_aside.new.disk c.args.work.now c.loop-origin.invariant.disk c.in-Ok-join_aside.ensures.ran.disk (λ honest same. cc);
+      c.join_aside.new.disk c.args.executor.now c.loop-origin.invariant.disk c.in-Ok-join_aside.ensures.ran.disk (λ honest same. cc));
   order = λ so. tt;
 }
 
@@ -208,7 +215,7 @@ returns-in_default-clause-joins g c = record { joined = tt; refused = refl }
 pub returns-in_default-clause-ran : goal.returns-in_default-clause-ran
 returns-in_default-clause-ran g c = record {
   ran = refused_still g.D.TapeDisk g.H.KeyHash.hash_of c.args.query.now c.args.means.now
-      (MergeIsCounted c.args.own.now.entries c.args.theirs.now.entries) (Some spill.NoMemory) c.args.disk.now c.args.work.now refl
+      (MergeIsCounted c.args.own.now.entries c.args.theirs.now.entries) (Some spill.NoMemory) c.args.disk.now c.args.executor.now refl
       (λ honest same. cc);
   order = λ so. tt;
 }
@@ -247,8 +254,8 @@ returns-clause-ran g c =
       ran = record {
         disk = c.loop-origin.invariant.disk;
         undamaged = λ honest same. cc;
-        counted = λ so. subst (λ all. MergeIsCounted c.args.own.now.entries all q setting c.args.work.now
-            (g.D.TapeDisk.writes c.args.disk.now) c.loop-origin.counted (g.D.TapeDisk.writes c.loop-origin.disk)) whole
+        counted = λ so. subst (λ all. MergeIsCounted c.args.own.now.entries all q setting c.args.executor.now
+            (g.D.TapeDisk.writes c.args.disk.now) c.loop-origin.executor (g.D.TapeDisk.writes c.loop-origin.disk)) whole
             (c.loop-origin.invariant.counted so);
         uncounted = tt;
         grown = c.loop-origin.invariant.grown;

@@ -17,12 +17,12 @@ invariant-loop-origin g l =
       held : AllByRecursion (IsHeldPart l.query) l.origin-iterator;
       rising : IsStrictlySortedBy nat_cmp (map (λ (held : ℕ × Part). held.0) l.joined.entries);
       disk : DiskFrame g.D.TapeDisk 0 l.fn.disk l.disk;
-      grown : HasGrown l.means.limit l.fn.work l.counted;
+      grown : HasGrown l.means.limit l.fn.executor l.executor;
       front : Parts;
       parts : l.initial.origin-iterator ≡ front ++ l.origin-iterator;
       counted : IsTrue (g.D.TapeDisk.honest l.fn.disk)
-          → MergeIsCounted l.own.entries front (meaning l.query) (setting_by g.H.KeyHash.hash_of (meaning l.query) l.means) l.fn.work
-          (g.D.TapeDisk.writes l.fn.disk) l.counted (g.D.TapeDisk.writes l.disk);
+          → MergeIsCounted l.own.entries front (meaning l.query) (setting_by g.H.KeyHash.hash_of (meaning l.query) l.means) l.fn.executor
+          (g.D.TapeDisk.writes l.fn.disk) l.executor (g.D.TapeDisk.writes l.disk);
       can : (goal.iterator-loop-origin g).can_next l.origin-iterator;
       finite : (goal.iterator-loop-origin g).is_finite l.origin-iterator;
     }

@@ -31,7 +31,7 @@ returns-then-batch-self-clause-ran g c =
     let low : c.args.batch.number ≤ part.prefix = subst (λ (p : Part). c.args.batch.number ≤ p.prefix) c.self.view_is c.if-batch-self.true
     in
     ran_still g.D.TapeDisk g.H.KeyHash.hash_of c.args.query.now c.args.means.now
-    (AreCounted (aggregations_on part c.args.batch.number c.args.batch.rows)) c.args.disk.now c.args.work.now
+    (AreCounted (aggregations_on part c.args.batch.number c.args.batch.rows)) c.args.disk.now c.args.executor.now
     (λ honest. apart_counted _ _ part c.args.batch.number c.args.batch.rows _ _ (λ same. omega (arith, low, same)))
 
 -- ---- one that is kept early
@@ -56,7 +56,7 @@ returns-in-Some-clause-ran g c =
     subst (λ (p : Part). rows_at p.early c.args.batch.number ≡ Some c.in-Some.kept.now) c.self.view_is (sym c.get.ensures.value
     ∙ ap option_copied c.in-Some.is) in
     batch_still g.D.TapeDisk g.H.KeyHash.hash_of c.args.query.now c.args.means.now part c.args.batch.number c.args.batch.rows
-    c.known_again.result c.args.disk.now c.args.work.now
+    c.known_again.result c.args.disk.now c.args.executor.now
     (early_apart c.args.query.now part c.args.batch.number c.in-Some.kept.now c.requires.part there)
     (IfErr-weaker c.known_again.result _ _ (λ e is. disagrees_faultless e (Some c.args.batch.number) is.1) c.known_again.ensures.other)
 
@@ -90,7 +90,7 @@ returns-then-batch-self-2-clause-ran g c =
     let behind : part.prefix + 1 < c.args.batch.number = subst (λ n. n + 1 < c.args.batch.number) prefix
     (behind_gap c.self.inside.prefix c.args.batch.number c.if-batch-self.false c.if-batch-self-2.true) in
     batch_still g.D.TapeDisk g.H.KeyHash.hash_of c.args.query.now c.args.means.now part c.args.batch.number c.args.batch.rows
-    c.keep_early.result c.args.disk.now c.args.work.now (λ same. omega (arith, behind, same))
+    c.keep_early.result c.args.disk.now c.args.executor.now (λ same. omega (arith, behind, same))
     (IfErr-weaker c.keep_early.result _ _ (λ e is. no_memory_faultless e is.1) c.keep_early.ensures.refused)
 
 -- ---- the next one
@@ -157,5 +157,5 @@ returns-in-Err-clause-ran g c =
     let prefix : c.self.inside.prefix ≡ part.prefix = ap (λ (p : Part). p.prefix) c.self.view_is in
     rw (next_counted part c.args.batch.number c.args.batch.rows (omega (arith, above, next, prefix)))
     (ran_as g.D.TapeDisk g.H.KeyHash.hash_of c.args.query.now c.args.means.now
-    (AreCounted (aggregations_with part (Some c.args.batch.rows))) (Refused (Some c.in-Err.error)) _ c.args.disk.now c.args.work.now
-    c.drain.new.disk c.drain.new.work (ap (λ why. Refused (join_reason why)) (sym c.from-why.ensures)) c.in-Err.ensures.ran)
+    (AreCounted (aggregations_with part (Some c.args.batch.rows))) (Refused (Some c.in-Err.error)) _ c.args.disk.now c.args.executor.now
+    c.drain.new.disk c.drain.new.executor (ap (λ why. Refused (join_reason why)) (sym c.from-why.ensures)) c.in-Err.ensures.ran)

@@ -39,7 +39,7 @@ fold-requires g c =
 
 pub returns-in_err-inputs-clause-ran : goal.returns-in_err-inputs-clause-ran
 returns-in_err-inputs-clause-ran g c = no_memory_ran g.D.TapeDisk g.H.KeyHash.hash_of c.args.query.now c.args.means.now
-    (AreCounted (aggregations_with c.args.self.now (option_copied c.args.next))) c.from_residual.result c.args.disk.now c.args.work.now
+    (AreCounted (aggregations_with c.args.self.now (option_copied c.args.next))) c.from_residual.result c.args.disk.now c.args.executor.now
     c.from_residual.ensures.1
 
 pub returns-in_err-fold-clause-ran : goal.returns-in_err-fold-clause-ran
@@ -48,10 +48,10 @@ returns-in_err-fold-clause-ran g c =
     let result = c.from_residual-in_err-fold.result in
     let error = c.in_err-fold.field-0.0 in
     ran_as g.D.TapeDisk g.H.KeyHash.hash_of c.args.query.now c.args.means.now counts (Refused (Some error)) (ended result)
-    c.args.disk.now c.args.work.now c.fold.new.disk c.fold.new.work
+    c.args.disk.now c.args.executor.now c.fold.new.disk c.fold.new.executor
     (sym (refused_by Some result error c.from_residual-in_err-fold.ensures.1))
     (refused_other g.D.TapeDisk g.H.KeyHash.hash_of c.args.query.now c.args.means.now (IsCounted (map brought c.deref.result.now)) counts
-    (Some error) c.args.disk.now c.args.work.now c.fold.new.disk c.fold.new.work c.in_err-fold.ensures.ran)
+    (Some error) c.args.disk.now c.args.executor.now c.fold.new.disk c.fold.new.executor c.in_err-fold.ensures.ran)
 
 pub returns-clause-ran : goal.returns-clause-ran
 returns-clause-ran g c =
@@ -65,14 +65,14 @@ returns-clause-ran g c =
           let are : map brought w.deref.result.now ≡ map Packed (rows_following prefix batches) = ap (map brought) w.deref.ensures.value
           ∙ c.in_ok-inputs.ensures.inputs in
           let some = w.if-upto-self.true in
-          rw (w.disk-is, w.work-is)
+          rw (w.disk-is, w.executor-is)
           (ran_weaker g.D.TapeDisk g.H.KeyHash.hash_of c.args.query.now c.args.means.now (IsCounted (map brought w.deref.result.now))
-          counts Done c.args.disk.now c.args.work.now w.fold.new.disk w.fold.new.work
+          counts Done c.args.disk.now c.args.executor.now w.fold.new.disk w.fold.new.executor
           (λ counted. some_counted prefix batches _ _ _ _ _ _ (omega (arith, some, upto)) (rw (sym are) counted)) w.in_ok-fold.ensures.ran)
       | else-upto-self w ↦
           let none = w.if-upto-self.false in
-          rw (w.disk-is, w.work-is)
-          (ran_still g.D.TapeDisk g.H.KeyHash.hash_of c.args.query.now c.args.means.now counts c.args.disk.now c.args.work.now
+          rw (w.disk-is, w.executor-is)
+          (ran_still g.D.TapeDisk g.H.KeyHash.hash_of c.args.query.now c.args.means.now counts c.args.disk.now c.args.executor.now
           (λ honest. none_counted prefix batches _ _ _ _ (omega (arith, none, upto))))
     ])
 

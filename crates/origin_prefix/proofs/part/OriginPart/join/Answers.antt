@@ -54,7 +54,7 @@ pub returns-in_err-agree-clause-ran : goal.returns-in_err-agree-clause-ran
 returns-in_err-agree-clause-ran g c =
     let apart = c.in_err-agree.ensures.disagree in
     disagree_ran g.D.TapeDisk g.H.KeyHash.hash_of c.args.query.now c.args.means.now (JoinIsCounted c.args.self.now c.args.other.now)
-    c.from_residual.result c.in_err-agree.field-0.0 apart.0 c.args.disk.now c.args.work.now apart.1 c.from_residual.ensures.1
+    c.from_residual.result c.in_err-agree.field-0.0 apart.0 c.args.disk.now c.args.executor.now apart.1 c.from_residual.ensures.1
 
 pub returns-in_err-united-clause-joining : goal.returns-in_err-united-clause-joining
 returns-in_err-united-clause-joining g c =
@@ -66,7 +66,7 @@ pub returns-in_err-united-clause-ran : goal.returns-in_err-united-clause-ran
 returns-in_err-united-clause-ran g c =
     spill_ran g.D.TapeDisk g.H.KeyHash.hash_of c.args.query.now c.args.means.now (UniteIsCounted c.args.other.now c.args.self.now)
     (JoinIsCounted c.args.self.now c.args.other.now) c.from_residual-in_err-united.result c.in_err-united.field-0.0 c.args.disk.now
-    c.args.work.now c.united.new.disk c.united.new.work c.from_residual-in_err-united.ensures.1 c.in_err-united.ensures.ran
+    c.args.executor.now c.united.new.disk c.united.new.executor c.from_residual-in_err-united.ensures.1 c.in_err-united.ensures.ran
 
 pub returns-in_err-united-2-clause-joining : goal.returns-in_err-united-2-clause-joining
 returns-in_err-united-2-clause-joining g c =
@@ -78,4 +78,4 @@ pub returns-in_err-united-2-clause-ran : goal.returns-in_err-united-2-clause-ran
 returns-in_err-united-2-clause-ran g c =
     spill_ran g.D.TapeDisk g.H.KeyHash.hash_of c.args.query.now c.args.means.now (UniteIsCounted c.args.self.now c.args.other.now)
     (JoinIsCounted c.args.self.now c.args.other.now) c.from_residual-in_err-united-2.result c.in_err-united-2.field-0.0 c.args.disk.now
-    c.args.work.now c.united-2.new.disk c.united-2.new.work c.from_residual-in_err-united-2.ensures.1 c.in_err-united-2.ensures.ran
+    c.args.executor.now c.united-2.new.disk c.united-2.new.executor c.from_residual-in_err-united-2.ensures.1 c.in_err-united-2.ensures.ran

@@ -40,9 +40,9 @@ returns-clause-ran g c =
     let aside = c.in_ok-early_aside.field-0 in
     let keeps = c.keeps_groups.ensures.0 c.if-not-keeps_groups.false in
     let stand = c.in_ok-early_aside.ensures in
-    ran_still g.D.TapeDisk g.H.KeyHash.hash_of c.args.query.now c.args.means.now (JoinIsCounted own other) c.args.disk.now c.args.work.now
+    ran_still g.D.TapeDisk g.H.KeyHash.hash_of c.args.query.now c.args.means.now (JoinIsCounted own other) c.args.disk.now c.args.executor.now
     (λ honest. aside_counted c.args.query.now own other aside c.requires.part c.requires.other keeps.1 stand
-    (setting_by g.H.KeyHash.hash_of (meaning c.args.query.now) c.args.means.now) c.args.work.now (g.D.TapeDisk.writes c.args.disk.now))
+    (setting_by g.H.KeyHash.hash_of (meaning c.args.query.now) c.args.means.now) c.args.executor.now (g.D.TapeDisk.writes c.args.disk.now))
 
 pub returns-then-not-keeps_groups-clause-aside : goal.returns-then-not-keeps_groups-clause-aside
 returns-then-not-keeps_groups-clause-aside g c =
@@ -63,7 +63,7 @@ pub returns-in_err-agree-clause-ran : goal.returns-in_err-agree-clause-ran
 returns-in_err-agree-clause-ran g c =
     let apart = c.in_err-agree.ensures.disagree in
     disagree_ran g.D.TapeDisk g.H.KeyHash.hash_of c.args.query.now c.args.means.now (JoinIsCounted c.args.self.now c.args.other.now)
-    c.from_residual.result c.in_err-agree.field-0.0 apart.0 c.args.disk.now c.args.work.now apart.1 c.from_residual.ensures.1
+    c.from_residual.result c.in_err-agree.field-0.0 apart.0 c.args.disk.now c.args.executor.now apart.1 c.from_residual.ensures.1
 
 pub returns-in_err-early_aside-clause-joining : goal.returns-in_err-early_aside-clause-joining
 returns-in_err-early_aside-clause-joining g c =
@@ -74,7 +74,7 @@ pub returns-in_err-early_aside-clause-ran : goal.returns-in_err-early_aside-clau
 returns-in_err-early_aside-clause-ran g c =
     let result = c.from_residual-in_err-early_aside.result in
     ran_as g.D.TapeDisk g.H.KeyHash.hash_of c.args.query.now c.args.means.now (JoinIsCounted c.args.self.now c.args.other.now)
-    (Refused (Some NoMemory)) (join_ended result) c.args.disk.now c.args.work.now c.args.disk.now c.args.work.now
+    (Refused (Some NoMemory)) (join_ended result) c.args.disk.now c.args.executor.now c.args.disk.now c.args.executor.now
     (sym (refused_by join_reason result no_memory c.from_residual-in_err-early_aside.ensures.1))
     (refused_still g.D.TapeDisk g.H.KeyHash.hash_of c.args.query.now c.args.means.now (JoinIsCounted c.args.self.now c.args.other.now)
-    (Some NoMemory) c.args.disk.now c.args.work.now refl (λ honest same. cc))
+    (Some NoMemory) c.args.disk.now c.args.executor.now refl (λ honest same. cc))

@@ -51,27 +51,27 @@ returns-clause-ran g c =
     c.in_ok-copy_above.ensures.rows c.in_ok-copy_above-2.ensures.rows c.in_ok-copy_above.ensures.behind c.in_ok-copy_above-2.ensures.behind
     c.in_ok-copy_above-2.ensures.rising in
     ran_weaker g.D.TapeDisk g.H.KeyHash.hash_of c.args.query.now c.args.means.now (AreCounted (aggregations_behind a.prefix both))
-    (UniteIsCounted c.args.self.now c.args.shorter.now) Done c.args.disk.now c.args.work.now c.drain.new.disk c.drain.new.work
+    (UniteIsCounted c.args.self.now c.args.shorter.now) Done c.args.disk.now c.args.executor.now c.drain.new.disk c.drain.new.executor
     (λ counted. record {
       behind = both;
       united = united;
       counted = subst (λ (p : Part). AreCounted (aggregations_behind p.prefix both) (meaning c.args.query.now)
-          (setting_by g.H.KeyHash.hash_of (meaning c.args.query.now) c.args.means.now) c.args.work.now
-          (g.D.TapeDisk.writes c.args.disk.now) c.drain.new.work (g.D.TapeDisk.writes c.drain.new.disk)) c.self.view_is counted;
+          (setting_by g.H.KeyHash.hash_of (meaning c.args.query.now) c.args.means.now) c.args.executor.now
+          (g.D.TapeDisk.writes c.args.disk.now) c.drain.new.executor (g.D.TapeDisk.writes c.drain.new.disk)) c.self.view_is counted;
     }) c.in_ok-drain.ensures.ran
 
 pub returns-in_err-copy_above-clause-ran : goal.returns-in_err-copy_above-clause-ran
 returns-in_err-copy_above-clause-ran g c = no_memory_ran g.D.TapeDisk g.H.KeyHash.hash_of c.args.query.now c.args.means.now
-    (UniteIsCounted c.args.self.now c.args.shorter.now) c.from_residual.result c.args.disk.now c.args.work.now c.from_residual.ensures.1
+    (UniteIsCounted c.args.self.now c.args.shorter.now) c.from_residual.result c.args.disk.now c.args.executor.now c.from_residual.ensures.1
 
 pub returns-in_err-copy_above-2-clause-ran : goal.returns-in_err-copy_above-2-clause-ran
 returns-in_err-copy_above-2-clause-ran g c = no_memory_ran g.D.TapeDisk g.H.KeyHash.hash_of c.args.query.now c.args.means.now
-    (UniteIsCounted c.args.self.now c.args.shorter.now) c.from_residual-in_err-copy_above-2.result c.args.disk.now c.args.work.now
+    (UniteIsCounted c.args.self.now c.args.shorter.now) c.from_residual-in_err-copy_above-2.result c.args.disk.now c.args.executor.now
     c.from_residual-in_err-copy_above-2.ensures.1
 
 pub returns-in_err-try_clone-clause-ran : goal.returns-in_err-try_clone-clause-ran
 returns-in_err-try_clone-clause-ran g c = no_memory_ran g.D.TapeDisk g.H.KeyHash.hash_of c.args.query.now c.args.means.now
-    (UniteIsCounted c.args.self.now c.args.shorter.now) c.from_residual-in_err-try_clone.result c.args.disk.now c.args.work.now
+    (UniteIsCounted c.args.self.now c.args.shorter.now) c.from_residual-in_err-try_clone.result c.args.disk.now c.args.executor.now
     c.from_residual-in_err-try_clone.ensures.1
 
 pub returns-in_err-drain-clause-ran : goal.returns-in_err-drain-clause-ran
@@ -79,10 +79,10 @@ returns-in_err-drain-clause-ran g c =
     let result = c.from_residual-in_err-drain.result in
     let error = c.in_err-drain.field-0.0 in
     ran_as g.D.TapeDisk g.H.KeyHash.hash_of c.args.query.now c.args.means.now (UniteIsCounted c.args.self.now c.args.shorter.now)
-    (Refused (Some error)) (ended result) c.args.disk.now c.args.work.now c.drain.new.disk c.drain.new.work
+    (Refused (Some error)) (ended result) c.args.disk.now c.args.executor.now c.drain.new.disk c.drain.new.executor
     (sym (refused_by Some result error c.from_residual-in_err-drain.ensures.1))
     (refused_other g.D.TapeDisk g.H.KeyHash.hash_of c.args.query.now c.args.means.now _
-    (UniteIsCounted c.args.self.now c.args.shorter.now) (Some error) c.args.disk.now c.args.work.now c.drain.new.disk c.drain.new.work
+    (UniteIsCounted c.args.self.now c.args.shorter.now) (Some error) c.args.disk.now c.args.executor.now c.drain.new.disk c.drain.new.executor
     c.in_err-drain.ensures.ran)
 
 pub returns-clause-part : goal.returns-clause-part

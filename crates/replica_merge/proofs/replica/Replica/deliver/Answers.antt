@@ -76,10 +76,10 @@ returns-in_default-clause-ran g c =
     let batch = c.args.batch in
     subst (λ w. Ran g.D.TapeDisk g.H.KeyHash.hash_of c.args.self.now.query c.args.means.now
     (AreCounted (aggregations_on (part_of c.args.self.now.parts batch.origin) batch.number batch.rows)) (Refused (join_reason w))
-    c.args.disk.now c.args.work.now c.args.disk.now c.args.work.now) (sym c.from-why.ensures)
+    c.args.disk.now c.args.executor.now c.args.disk.now c.args.executor.now) (sym c.from-why.ensures)
     (refused_still g.D.TapeDisk g.H.KeyHash.hash_of c.args.self.now.query c.args.means.now
     (AreCounted (aggregations_on (part_of c.args.self.now.parts batch.origin) batch.number batch.rows)) (Some spill.NoMemory)
-    c.args.disk.now c.args.work.now refl (λ honest same. cc))
+    c.args.disk.now c.args.executor.now refl (λ honest same. cc))
 
 pub returns-in-Ok-deliver-clause-delivers : goal.returns-in-Ok-deliver-clause-delivers
 returns-in-Ok-deliver-clause-delivers g c =
@@ -107,11 +107,11 @@ returns-in-Ok-deliver-clause-ran g c =
     let own : c.in-Some.part.now ≡ part_of old batch.origin = ap (λ o. unwrap_or o empty) c.in-Some.ensures.value
     ∙ placed_part old c.place_of.new.parts.entries batch.origin c.in-Ok.is_new c.in-Ok.ensures.place in
     subst (λ (h : Held). Ran g.D.TapeDisk g.H.KeyHash.hash_of h.query c.args.means.now
-    (AreCounted (aggregations_on (part_of h.parts batch.origin) batch.number batch.rows)) Done c.args.disk.now c.args.work.now
-    c.deliver.new.disk c.deliver.new.work) c.self.view_is
+    (AreCounted (aggregations_on (part_of h.parts batch.origin) batch.number batch.rows)) Done c.args.disk.now c.args.executor.now
+    c.deliver.new.disk c.deliver.new.executor) c.self.view_is
     (subst (λ (p : Part). Ran g.D.TapeDisk g.H.KeyHash.hash_of c.self.inside.query c.args.means.now
-    (AreCounted (aggregations_on p batch.number batch.rows)) Done c.args.disk.now c.args.work.now
-    c.deliver.new.disk c.deliver.new.work) own c.in-Ok-deliver.ensures.ran)
+    (AreCounted (aggregations_on p batch.number batch.rows)) Done c.args.disk.now c.args.executor.now
+    c.deliver.new.disk c.deliver.new.executor) own c.in-Ok-deliver.ensures.ran)
 
 pub returns-in-Err-clause-delivers : goal.returns-in-Err-clause-delivers
 returns-in-Err-clause-delivers g c =
@@ -140,8 +140,8 @@ returns-in-Err-clause-ran g c =
     let own : c.in-Some.part.now ≡ part_of old batch.origin = ap (λ o. unwrap_or o empty) c.in-Some.ensures.value
     ∙ placed_part old c.place_of.new.parts.entries batch.origin c.in-Ok.is_new c.in-Ok.ensures.place in
     subst (λ (h : Held). Ran g.D.TapeDisk g.H.KeyHash.hash_of h.query c.args.means.now
-    (AreCounted (aggregations_on (part_of h.parts batch.origin) batch.number batch.rows)) ended c.args.disk.now c.args.work.now
-    c.deliver.new.disk c.deliver.new.work) c.self.view_is
+    (AreCounted (aggregations_on (part_of h.parts batch.origin) batch.number batch.rows)) ended c.args.disk.now c.args.executor.now
+    c.deliver.new.disk c.deliver.new.executor) c.self.view_is
     (subst (λ (p : Part). Ran g.D.TapeDisk g.H.KeyHash.hash_of c.self.inside.query c.args.means.now
-    (AreCounted (aggregations_on p batch.number batch.rows)) ended c.args.disk.now c.args.work.now
-    c.deliver.new.disk c.deliver.new.work) own c.in-Err.ensures.ran)
+    (AreCounted (aggregations_on p batch.number batch.rows)) ended c.args.disk.now c.args.executor.now
+    c.deliver.new.disk c.deliver.new.executor) own c.in-Err.ensures.ran)

@@ -16,7 +16,7 @@ join_all-requires-clause-theirs g c =
 pub returns-then-not-same_query-clause-ran : goal.returns-then-not-same_query-clause-ran
 returns-then-not-same_query-clause-ran g c = record {
   ran = refused_still g.D.TapeDisk g.H.KeyHash.hash_of c.args.self.now.query c.args.means.now
-      (MergeIsCounted c.args.self.now.parts c.args.other.now.parts) None c.args.disk.now c.args.work.now refl (λ honest same. cc);
+      (MergeIsCounted c.args.self.now.parts c.args.other.now.parts) None c.args.disk.now c.args.executor.now refl (λ honest same. cc);
   order = λ so. tt;
 }
 
@@ -42,9 +42,9 @@ returns-clause-ran g c =
     let own : Held = record { query = c.self.inside.query; parts = c.self.inside.parts.entries } in
     let hash_of = g.H.KeyHash.hash_of in
     let tapes = g.D.TapeDisk in
-    subst (λ (h : Held). MergeRan tapes hash_of h c.args.other.now c.args.means.now c.join_all.result c.args.disk.now c.args.work.now
-    c.join_all.new.disk c.join_all.new.work) c.self.view_is
-    (subst (λ (h : Held). MergeRan tapes hash_of own h c.args.means.now c.join_all.result c.args.disk.now c.args.work.now
-    c.join_all.new.disk c.join_all.new.work) c.other.view_is
+    subst (λ (h : Held). MergeRan tapes hash_of h c.args.other.now c.args.means.now c.join_all.result c.args.disk.now c.args.executor.now
+    c.join_all.new.disk c.join_all.new.executor) c.self.view_is
+    (subst (λ (h : Held). MergeRan tapes hash_of own h c.args.means.now c.join_all.result c.args.disk.now c.args.executor.now
+    c.join_all.new.disk c.join_all.new.executor) c.other.view_is
     (subst (λ (q : Checked). MergeRan tapes hash_of own (record { query = q; parts = c.other.inside.parts.entries }) c.args.means.now
-    c.join_all.result c.args.disk.now c.args.work.now c.join_all.new.disk c.join_all.new.work) same c.join_all.ensures.ran))
+    c.join_all.result c.args.disk.now c.args.executor.now c.join_all.new.disk c.join_all.new.executor) same c.join_all.ensures.ran))

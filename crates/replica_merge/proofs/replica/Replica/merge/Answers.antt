@@ -28,5 +28,5 @@ pub returns-in_err-joined-clause-ran : goal.returns-in_err-joined-clause-ran
 returns-in_err-joined-clause-ran g c =
     let p = err_from_is_err_and c.from_residual.result c.from_residual.ensures.1 in
     rw p.1 (subst (λ e. MergeRan {T = Unit {0}} g.D.TapeDisk g.H.KeyHash.hash_of c.args.self.now c.args.other.now c.args.means.now (Err e)
-    c.args.disk.now c.args.work.now c.join.new.disk c.join.new.work) (sym p.2)
+    c.args.disk.now c.args.executor.now c.join.new.disk c.join.new.executor) (sym p.2)
     (record { ran = c.in_err-joined.ensures.ran.ran; order = c.in_err-joined.ensures.ran.order }))

@@ -145,8 +145,8 @@ returns-in-Ok-deliver-clause-executes g c =
     batch.told batch.rows in
     turns_executes c.self.view_is
     (feed_taken g.D.TapeDisk old new c.args.name.now c.args.origin.now c.args.number.now c.args.told owned held c.self.invariant there later
-    c.in-Ok.batch u read c.args.disk.now c.deliver.new.disk c.none.result c.deliver.new.work c.in-Ok-deliver.delivered
-    c.in-Ok-deliver.ensures.delivers c.in-Ok-deliver.ensures.ran.disk c.none.ensures c.in-Ok-deliver.ensures.ran.counted)
+    c.in-Ok.batch u read c.args.disk.now c.deliver.new.disk c.count_from.new.self c.deliver.new.executor c.in-Ok-deliver.delivered
+    c.in-Ok-deliver.ensures.delivers c.in-Ok-deliver.ensures.ran.disk (c.count_from.ensures ∙ c.none.ensures) c.in-Ok-deliver.ensures.ran.counted)
 
 pub returns-clause-executes : goal.returns-clause-executes
 returns-clause-executes g c =
@@ -183,5 +183,5 @@ returns-clause-executes g c =
     c.args.disk.now (says.Refused w) new c.deliver.new.disk) (sym c.from-2.ensures)
     (feed_untaken g.D.TapeDisk old new c.args.name.now c.args.origin.now c.args.number.now c.args.told owned held c.self.invariant there
     later
-    c.in-Ok.batch u read c.args.disk.now c.deliver.new.disk c.none.result c.deliver.new.work c.in-Err-deliver.refused
+    c.in-Ok.batch u read c.args.disk.now c.deliver.new.disk c.count_from.new.self c.deliver.new.executor c.in-Err-deliver.refused
     c.in-Err-deliver.ensures.delivers c.in-Err-deliver.ensures.ran.disk c.in-Err-deliver.ensures.ran.undamaged))

@@ -38,9 +38,9 @@ returns g c =
         one,
         two,
         (
-          c.join.new.work,
-          subst (λ old. MergeIsCounted own.parts theirs.parts query (setting_at c.self.inside.means.limit query) old writes c.join.new.work
-              written) c.none.ensures (c.in_ok-joined.ensures.ran.ran.counted right),
+          c.join.new.executor,
+          subst (λ old. MergeIsCounted own.parts theirs.parts query (setting_at c.self.inside.means.limit query) old writes c.join.new.executor
+              written) c.new.ensures (c.in_ok-joined.ensures.ran.ran.counted right),
         ),
       );
     })
