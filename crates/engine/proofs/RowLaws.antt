@@ -1,10 +1,10 @@
 -- The rows of a batch that are as many as told, and what is told where they are not.
-use Rattle.std.specs.Prelude.{◌≡◌, ◌≢◌, ◌≤◌, ℕ, List, [], ◌∷◌, length, take, drop, Option, Some, refl}
+use Rattle.std.specs.Prelude.{◌≡◌, ◌≢◌, ◌≤◌, ℕ, List, [], ◌∷◌, length, take, drop, refl}
 use Rattle.std.proofs.Common.{sym, ap, subst, arith, ◌∙◌}
 use Rattle.std.proofs.lemmas.List.{length-drop, take_all}
 use Rattle.grouping_model.specs.Datum.{Kind, Row}
 use Rattle.grouping_model.specs.declared.limits.TheConstants.{MAX_ROWS}
-use Rattle.batch_reader.specs.File.{BatchFile, FileFault}
+use Rattle.batch_reader.specs.File.{FileFault}
 use Rattle.batch_reader.specs.Head.{ReadsOrigin, ReadsBatchNumber}
 use Rattle.batch_reader.specs.Refusal.{HeadReads}
 use Rattle.batch_reader.specs.Rows.{ReadsRows, packings}
@@ -13,10 +13,7 @@ use Rattle.batch_reader.specs.declared.error.BatchError.{BatchError}
 use Rattle.batch_reader.specs.declared.error.BatchError.TheVariants.{NoMemory, BadBatchHead, TooManyRows, RowCount, WrongWidth, BadField}
 use Rattle.script_io.specs.Records.{Record}
 use Rattle.replies.specs.Batches.{IsRead}
-
--- a batch file of a head and records
-abbrev pub behind : (origin number : List ℕ) → (told : ℕ) → List Record → Option BatchFile
-behind origin number told records = Some (record { head = record { origin = origin; number = number; told = told }; records = records })
+use Rattle.engine.specs.Calls.{file_of}
 
 -- no record is there behind those that were taken, so they are all
 all_taken : (records : List Record) (told : ℕ) → drop told records ≡ [] → take told records ≡ records
@@ -46,21 +43,21 @@ read_all ks origin number told records batch reads_origin reads_number few whole
 
 module _ (ks : List Kind) (origin number : List ℕ) (told : ℕ) (records : List Record) (otherwise : BatchError)
     (head : HeadReads origin number) (few : told ≤ MAX_ROWS)
-    (fault : FileFault ks (behind origin number told (take told records)) otherwise) where
+    (fault : FileFault ks (file_of origin number told (take told records)) otherwise) where
   -- why they are no batch, where more or none are left behind those that are told
   by_left : (left : List Record) (result : BatchError) → left ≡ drop told records → result ≢ NoMemory
       → (left ≡ [] → result ≢ NoMemory → result ≡ otherwise) → (left ≢ [] → result ≢ NoMemory → result ≡ RowCount)
-      → FileFault ks (behind origin number told records) result
+      → FileFault ks (file_of origin number told records) result
   by_left [] result is there none more =
-      subst (FileFault ks (behind origin number told records)) (sym (none refl there))
-      (subst (λ rs. FileFault ks (behind origin number told rs) otherwise) (all_taken records told (sym is)) fault)
+      subst (FileFault ks (file_of origin number told records)) (sym (none refl there))
+      (subst (λ rs. FileFault ks (file_of origin number told rs) otherwise) (all_taken records told (sym is)) fault)
   by_left (next ∷ rest) result is there none more =
-      subst (FileFault ks (behind origin number told records)) (sym (more (λ e. cc) there))
+      subst (FileFault ks (file_of origin number told records)) (sym (more (λ e. cc) there))
       (head, few, more_there records rest next told (sym is))
 
   pub unread : (left : List Record) (result : BatchError) → left ≡ drop told records
       → (left ≡ [] → result ≢ NoMemory → result ≡ otherwise) → (left ≢ [] → result ≢ NoMemory → result ≡ RowCount)
-      → FileFault ks (behind origin number told records) result
+      → FileFault ks (file_of origin number told records) result
   unread left NoMemory is none more = tt
   unread left BadBatchHead is none more = by_left left BadBatchHead is (λ e. cc) none more
   unread left TooManyRows is none more = by_left left TooManyRows is (λ e. cc) none more

@@ -1,6 +1,6 @@
 -- What a session does, by what its replica does, and by which limit.
 use Rattle.std.specs.Prelude.{◌≡◌, ◌+◌, ◌≤◌, ℕ, List, Option, true, Result, Ok, Err, IfErr, OnErr, IsTrue, refl}
-use Rattle.std.proofs.Common.{ap, arith, subst}
+use Rattle.std.proofs.Common.{ap, arith, subst, sym, ◌∙◌, inr}
 use Rattle.grouping_model.specs.declared.delivered.Delivered.{Delivered}
 use Rattle.packed_rows.specs.Columns.{kinds}
 use Rattle.batch_reader.specs.File.{BatchFile}
@@ -12,15 +12,22 @@ use Rattle.tape_disks.specs.contracts.mem_disk.MemDiskTapeDisk.TheImpl as memory
 use Rattle.tape_disks.specs.declared.disk.TapeDisk.{Ghosts}
 use Rattle.spill_partitions.specs.declared.error.SpillError.{SpillError}
 use Rattle.hash_agg.specs.Counting.{HasGrown, AreCounted, setting_by}
-use Rattle.hash_agg.specs.Lemmas.RanLaws.{Counting, ran_weaker}
+use Rattle.hash_agg.specs.Lemmas.RanLaws.{Counting, ran_as, ran_weaker}
 use Rattle.hash_agg.specs.Means.{MeansState}
 use Rattle.hash_agg.specs.Passes.{setting_for}
-use Rattle.hash_agg.specs.Ran.{Ran, Done, Refused, faults_of}
+use Rattle.hash_agg.specs.Ran.{Ran, Done, Ended, Refused, faults_of}
+use Rattle.hash_agg.specs.declared.work.Work.{Work}
+use Rattle.query_checks.specs.Checks.{Checked}
+use Rattle.origin_prefix.specs.Errors.{join_reason}
 use Rattle.origin_prefix.specs.Parts.{aggregations_on}
+use Rattle.origin_prefix.specs.declared.error.RefusedBatch.{RefusedBatch}
 use Rattle.replica_merge.specs.Counting.{MergeIsCounted}
-use Rattle.replica_merge.specs.Replicas.{part_of}
+use Rattle.replica_merge.specs.Errors.{merge_reason}
+use Rattle.replica_merge.specs.Replicas.{MergeTells, part_of}
 use Rattle.replica_merge.specs.Results.{DeliversBatch, MergesHeld}
-use Rattle.replies.specs.Refusals.{refusal_ended, refusal_reason}
+use Rattle.replica_merge.specs.declared.error.MergeError.{MergeError}
+use Rattle.replies.specs.RefusalLaws.{join_reasons, merge_reasons}
+use Rattle.replies.specs.Refusals.{merge_refusal, refusal_ended, refusal_reason, refused_batch}
 use Rattle.replies.specs.declared.refusal.Refusal.{Refusal}
 use Rattle.command_replicas.specs.Commands.{IsReadOf, FeedIsCounted, FileMergeIsCounted}
 use Rattle.command_replicas.specs.Lemmas.FileLaws.{of_batch_file}
@@ -32,6 +39,15 @@ use Rattle.engine.specs.Sessions.{SessionState}
 -- two sessions that hold the same by the same means, and took the same, are one
 session_is : (a b : SessionState) → a.held ≡ b.held → KeepsMeans b a → a.work ≡ b.work → a ≡ b
 session_is a b held means work = λ i. record { held = held i; limit = means.limit i; seed = means.seed i; work = work i }
+
+-- a call that counts on from the work of a session, and gives it back, ran by the session's
+pub carried : {D H : Type 0} {g : Ghosts D} {hash_of : H → List ℕ → ℕ} {query : Checked} {means : MeansState H} {Counts : Counting}
+    {ended : Ended} {before after : D} {begun done old new : Work} → begun ≡ old → new ≡ done
+    → Ran g hash_of query means Counts ended before begun after done → Ran g hash_of query means Counts ended before old after new
+carried {g = g} {hash_of = hash_of} {query = query} {means = means} {Counts = Counts} {ended = ended} {before = before} {after = after}
+    {begun = begun} {new = new} start end ran =
+    subst (λ w. Ran g hash_of query means Counts ended before w after new) start
+    (subst (λ w. Ran g hash_of query means Counts ended before begun after w) (sym end) ran)
 
 -- a refusal changes nothing
 pub fed_same : (file : Option BatchFile) (old new : SessionState) (result : Result Delivered Refusal) → FeedsSession file old new result
@@ -125,6 +141,19 @@ module _ {H : Type 0} (means : MeansState H) (old new : SessionState) (before af
       after.count)
       batch read counted) ran)
 
+  -- a batch was read, and the replica refused it
+  pub rows_refused : (file : Option BatchFile) (batch : Batch) (refused : RefusedBatch) (why : Refusal) → why ≡ refused_batch refused
+      → IsReadOf (kinds old.held.query.columns) file batch → DeliversBatch true old.held batch new.held (Err refused)
+      → Ran memory.ghosts (λ _ key. fnv_1a key) old.held.query means
+      (AreCounted (aggregations_on (part_of old.held.parts batch.origin) batch.number batch.rows)) (Refused (join_reason refused.why)) before
+      old.work after new.work → FeedsSession file old new (Err why)
+  rows_refused file batch refused why is read delivers ran =
+      fed_by_limit file (Err why) (inr (refused, is, record { batch = batch; is_read = read; delivers = delivers }))
+      (ran_as memory.ghosts (λ _ key. fnv_1a key) old.held.query means (FeedIsCounted file old.held) _ (Refused (refusal_reason why)) before
+      old.work after new.work
+      (ap Refused (sym (join_reasons refused.batch.origin refused.why) ∙ ap refusal_reason (sym is)))
+      (record { disk = ran.disk; undamaged = ran.undamaged; counted = tt; uncounted = ran.uncounted; grown = ran.grown }))
+
   pub merged_by_limit : (other : SessionState) → MergesHeld true old.held other.held new.held
       → Ran memory.ghosts (λ _ key. fnv_1a key) old.held.query means (MergeIsCounted old.held.parts other.held.parts) Done before old.work
       after new.work → MergesSession {T = Unit {0}} other old new (Ok tt)
@@ -135,6 +164,22 @@ module _ {H : Type 0} (means : MeansState H) (old new : SessionState) (before af
             ran;
         means = kept;
         untaped = tt;
+      }
+
+  -- the replicas were not merged
+  pub merge_refused : (other : SessionState) (error : MergeError) (why : Refusal) → why ≡ merge_refusal error → new.held ≡ old.held
+      → MergeTells error old.held other.held
+      → Ran memory.ghosts (λ _ key. fnv_1a key) old.held.query means (MergeIsCounted old.held.parts other.held.parts)
+      (Refused (merge_reason error)) before old.work after new.work → MergesSession {T = Unit {0}} other old new (Err why)
+  merge_refused other error why is same tells ran =
+      let Counts = MergeIsCounted old.held.parts other.held.parts in
+      let refused = ran_as memory.ghosts (λ _ key. fnv_1a key) old.held.query means Counts _ (Refused (refusal_reason why)) before old.work
+      after new.work (ap Refused (sym (merge_reasons error) ∙ ap refusal_reason (sym is))) ran in
+      record {
+        merges = (same, (error, is, tells));
+        ran = ran_by_limit memory.ghosts means Counts old new before after limit refl fresh (Err why) refused;
+        means = kept;
+        untaped = untaped {T = Unit {0}} memory.ghosts means Counts old new before after limit refl fresh (Err why) refl refused;
       }
 
   pub merged_file_by_limit : (file : List ℕ) (result : Result (Unit {0}) Refusal) → MergesFile true file old.held new.held result

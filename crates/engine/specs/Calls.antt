@@ -100,13 +100,12 @@ abbrev pub IsUntaped : Refusal → Type 0
 IsUntaped why = (why ≢ TapeFault) × (why ≢ TapeDamaged)
 
 -- the batch file of an origin, a number and a number of rows, as they are spelled, and the records after them
-abbrev pub file_of : (origin number : List ℕ) (count : ℕ) (rows : List ℕ) → Option BatchFile
-file_of origin number count rows =
-    Some (record { head = record { origin = origin; number = number; told = count }; records = csv.records_of rows })
+abbrev pub file_of : (origin number : List ℕ) (count : ℕ) → List csv.Record → Option BatchFile
+file_of origin number count records = Some (record { head = record { origin = origin; number = number; told = count }; records = records })
 
--- the same of numbers
+-- the same of numbers, and of the text of rows
 abbrev pub batch_of : (origin number count : ℕ) → (rows : List ℕ) → Option BatchFile
-batch_of origin number count rows = file_of (decimal origin) (decimal number) count rows
+batch_of origin number count rows = file_of (decimal origin) (decimal number) count (csv.records_of rows)
 
 -- a batch file is fed as `feed` feeds it, over honest tapes
 pub record FeedsSession (file : Option BatchFile) (old new : SessionState) (result : Result Delivered Refusal) : Type 0 where

@@ -34,13 +34,12 @@ fn read_left(
     origin: &[u8],
     number: &[u8],
     count: u32,
-    rows: &[u8],
+    records: &mut Records<'_>,
 ) -> Result<Batch, BatchError>
-    ensures read { IfOk result (IsRead (kinds schema.now) origin.now number.now count (records_of rows.now)) }
-    ensures refused { IfErr result (FileFault (kinds schema.now) (file_of origin.now number.now count rows.now)) }
+    ensures read { IfOk result (IsRead (kinds schema.now) origin.now number.now count records.old) }
+    ensures refused { IfErr result (FileFault (kinds schema.now) (file_of origin.now number.now count records.old)) }
 {
-    let mut records = Records::new(alloc, rows);
-    match read_rows(alloc, schema, origin, number, count, &mut records)? {
+    match read_rows(alloc, schema, origin, number, count, records)? {
         Ok(batch) => {
             if records.next()?.is_some() {
                 return Err(BatchError::RowCount);
@@ -52,12 +51,28 @@ fn read_left(
         Err(BatchError::TooManyRows) => return Err(BatchError::TooManyRows),
         Err(BatchError::RowCount) => return Err(BatchError::RowCount),
         Err(BatchError::WrongWidth { row }) => {
-            return Err(why_unread(&mut records, BatchError::WrongWidth { row }));
+            return Err(why_unread(records, BatchError::WrongWidth { row }));
         }
         Err(BatchError::BadField { row, column }) => {
-            return Err(why_unread(&mut records, BatchError::BadField { row, column }));
+            return Err(why_unread(records, BatchError::BadField { row, column }));
         }
     }
+}
+
+/// The batch of all records of a text, by the rules of batch files.
+fn read_all(
+    alloc: Global,
+    schema: &Schema,
+    origin: &[u8],
+    number: &[u8],
+    count: u32,
+    rows: &[u8],
+) -> Result<Batch, BatchError>
+    ensures read { IfOk result (IsRead (kinds schema.now) origin.now number.now count (records_of rows.now)) }
+    ensures refused { IfErr result (FileFault (kinds schema.now) (file_of origin.now number.now count (records_of rows.now))) }
+{
+    let mut records = Records::new(alloc, rows);
+    read_left(alloc, schema, origin, number, count, &mut records)
 }
 
 /// The batch of an origin and a number, with rows in CSV, as many as declared. The error is the first in the order of [`BatchError`].
@@ -75,5 +90,5 @@ pub(crate) fn read_numbered(
     let (mut first, mut second) = (Buffer::new(), Buffer::new());
     let origin = first.format(origin as usize).as_bytes();
     let number = second.format(number as usize).as_bytes();
-    read_left(alloc, schema, origin, number, count, rows)
+    read_all(alloc, schema, origin, number, count, rows)
 }

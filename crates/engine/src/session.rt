@@ -8,7 +8,7 @@ ghost use Rattle.engine.specs.Calls.{IsTableOf, IsKnownText, IsQueryText, IsColu
 
 use crate::rows::read_numbered;
 use grouping_model::limits::MAX_INPUT_LEN;
-use hash_agg::{Fnv1a, Means, MemDisk, Seed, Work};
+use hash_agg::{Executor, Fnv1a, Means, MemDisk, Seed, Work};
 use replica_merge::{Delivered, Replica};
 use replies::{Format, Refusal, RunError, origin_lines, table};
 use std::alloc::{AllocError, Global};
@@ -126,15 +126,17 @@ impl Session {
         ensures feeds { FeedsFile file.now self.old self.new result }
         ensures same { OnErr result (self.new ≡ self.old) }
     {
-        let mut disk = MemDisk::new(self.alloc);
-        command_replicas::feed(
+        let (mut disk, mut executor) = (MemDisk::new(self.alloc), Executor::after(self.work));
+        let fed = command_replicas::feed(
             self.alloc,
             &mut self.replica,
             file,
             &self.means,
             &mut disk,
-            &mut self.work,
-        )
+            &mut executor,
+        );
+        self.work = executor.into_work();
+        fed
     }
 
     /// Feeds the batch of an origin and a number, with rows in CSV, as many as declared. It is the same as a feed of their batch file, but
@@ -160,10 +162,12 @@ impl Session {
             Ok(batch) => batch,
             Err(why) => return Err(Refusal::from(why)),
         };
-        match self
+        let mut executor = Executor::after(self.work);
+        let delivered = self
             .replica
-            .deliver(batch, &self.means, &mut disk, &mut self.work)
-        {
+            .deliver(batch, &self.means, &mut disk, &mut executor);
+        self.work = executor.into_work();
+        match delivered {
             Ok(delivered) => Ok(delivered),
             Err(refused) => Err(Refusal::from(refused)),
         }
@@ -178,11 +182,12 @@ impl Session {
         ensures merges { MergesSession other.now self.old self.new result }
         ensures same { OnErr result (self.new ≡ self.old) }
     {
-        let mut disk = MemDisk::new(self.alloc);
-        match self
+        let (mut disk, mut executor) = (MemDisk::new(self.alloc), Executor::after(self.work));
+        let merged = self
             .replica
-            .merge(&other.replica, &self.means, &mut disk, &mut self.work)
-        {
+            .merge(&other.replica, &self.means, &mut disk, &mut executor);
+        self.work = executor.into_work();
+        match merged {
             Ok(()) => Ok(()),
             Err(error) => Err(Refusal::from(error)),
         }
@@ -197,15 +202,17 @@ impl Session {
         ensures merges { MergesFileSession file.now self.old self.new result }
         ensures same { OnErr result (self.new ≡ self.old) }
     {
-        let mut disk = MemDisk::new(self.alloc);
-        command_replicas::merge(
+        let (mut disk, mut executor) = (MemDisk::new(self.alloc), Executor::after(self.work));
+        let merged = command_replicas::merge(
             self.alloc,
             &mut self.replica,
             file,
             &self.means,
             &mut disk,
-            &mut self.work,
-        )
+            &mut executor,
+        );
+        self.work = executor.into_work();
+        merged
     }
 
     /// The summary file, as [`command_replicas::save`] makes it, of at most 67,108,864 bytes.
