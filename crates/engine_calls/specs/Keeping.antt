@@ -6,8 +6,8 @@ use Rattle.engine.specs.Sessions.{SessionState}
 use Rattle.fault_sentences.specs.declared.reason.Reason.{Reason}
 use Rattle.engine_calls.specs.declared.last.Asked.{Asked}
 use Rattle.engine_calls.specs.declared.last.Asked.TheVariants.{Merge}
+use Rattle.engine_calls.specs.declared.last.CallReason.{CallReason}
 use Rattle.engine_calls.specs.declared.last.Last.{Last}
-use Rattle.engine_calls.specs.declared.last.Told.{Told}
 
 -- a reason of a refusal: what the call asked, and the sentence, with the picture of its place
 pub record ReasonState : Type 0 where
@@ -17,8 +17,8 @@ pub record ReasonState : Type 0 where
 abbrev pub text_of : Reason → List ℕ
 text_of reason = string_bytes reason.said ++ string_bytes reason.picture
 
-abbrev pub reason_state : Told → ReasonState
-reason_state told = record { asked = told.asked; text = text_of told.reason }
+abbrev pub reason_state : CallReason → ReasonState
+reason_state kept = record { asked = kept.asked; text = text_of kept.reason }
 
 -- the session, if one is open, what was told last, until it is fetched, the last refusal, if there was one, and its reason, if there was
 -- memory for it
@@ -32,7 +32,7 @@ abbrev pub why_of : Option Last → Option Refusal
 why_of last = option_map (λ l. l.why) last
 
 abbrev pub reason_of : Option Last → Option ReasonState
-reason_of last = option_and_then (λ l. option_map reason_state l.told) last
+reason_of last = option_and_then (λ l. option_map reason_state l.reason) last
 
 -- what is kept of the reason that was made of a refusal
 abbrev pub reason_made : Asked → Result (Option Reason) AllocError → Option ReasonState

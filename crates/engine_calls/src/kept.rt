@@ -9,7 +9,7 @@ ghost use Rattle.engine_calls.specs.Keeping.{Unchanged, nothing, reason_made, re
 ghost use Rattle.engine_calls.specs.Keeping.{ReasonOnAsking, ReasonOnClosed, ReasonOnMerge, ReasonOnOpen};
 ghost use Rattle.engine_calls.specs.declared.last.Asked.TheVariants.{Create, Feed, Load, Merge, Save};
 
-use crate::last::{Asked, Last, Told};
+use crate::last::{Asked, CallReason, Last};
 use crate::reasons::{merging_reason, opening_reason, rows_reason, sentence};
 use engine::{Delivered, Format, Place, Refusal, Seed, Session, Status};
 use fault_sentences::Reason;
@@ -45,11 +45,11 @@ fn bytes_of(alloc: Global, text: &str) -> Result<Vec<u8>, AllocError>
 }
 
 /// The reason of a call that asked this, if there was memory for it.
-fn told_of(asked: Asked, reason: Result<Option<Reason>, AllocError>) -> Option<Told>
+fn call_reason(asked: Asked, reason: Result<Option<Reason>, AllocError>) -> Option<CallReason>
     ensures { option_map reason_state result ≡ reason_made asked reason }
 {
     match reason {
-        Ok(Some(reason)) => Some(Told { asked, reason }),
+        Ok(Some(reason)) => Some(CallReason { asked, reason }),
         Ok(None) => None,
         Err(_) => None,
     }
@@ -69,14 +69,14 @@ impl Kept {
     }
 
     /// Keeps why a call was refused.
-    fn keep(&mut self, why: Refusal, told: Option<Told>) -> Status
+    fn keep(&mut self, why: Refusal, reason: Option<CallReason>) -> Status
         ensures status { result ≡ status_of why }
         ensures last { self.new.why ≡ Some why }
-        ensures reason { self.new.reason ≡ option_map reason_state told }
+        ensures reason { self.new.reason ≡ option_map reason_state reason }
         ensures session { self.new.session ≡ self.old.session }
         ensures told { self.new.told ≡ self.old.told }
     {
-        self.last = Some(Last { why, told });
+        self.last = Some(Last { why, reason });
         Status::from(why)
     }
 
@@ -93,7 +93,7 @@ impl Kept {
         ensures session { self.new.session ≡ self.old.session }
         ensures told { self.new.told ≡ self.old.told }
     {
-        self.keep(why, told_of(asked, reason))
+        self.keep(why, call_reason(asked, reason))
     }
 
     /// Keeps that memory ran out.

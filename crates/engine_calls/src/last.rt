@@ -20,7 +20,7 @@ pub enum Asked {
 
 /// The reason of a refusal, and what the call asked.
 #[derive(Drop)]
-pub(crate) struct Told {
+pub(crate) struct CallReason {
     pub(crate) asked: Asked,
     pub(crate) reason: Reason,
 }
@@ -29,5 +29,5 @@ pub(crate) struct Told {
 #[derive(Drop)]
 pub(crate) struct Last {
     pub(crate) why: Refusal,
-    pub(crate) told: Option<Told>,
+    pub(crate) reason: Option<CallReason>,
 }

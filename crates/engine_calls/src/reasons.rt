@@ -64,11 +64,11 @@ pub(crate) fn merging_reason(
 
 /// The sentence on a refusal: its reason, or else its general sentence.
 pub(crate) fn sentence(alloc: Global, last: &Last) -> Result<String, AllocError>
-    ensures { IfOk result (λ text. IfSome last.now.told (λ told. string_bytes text ≡ text_of told.reason)) }
+    ensures { IfOk result (λ text. IfSome last.now.reason (λ kept. string_bytes text ≡ text_of kept.reason)) }
 {
-    match &last.told {
-        Some(told) => {
-            let (said, picture) = (&told.reason.said, &told.reason.picture);
+    match &last.reason {
+        Some(kept) => {
+            let (said, picture) = (&kept.reason.said, &kept.reason.picture);
             format!(in alloc; "{said}{picture}")
         }
         None => {

@@ -5,8 +5,8 @@ use Rattle.engine.specs.contracts.session.Session as Session
 use Rattle.engine_c.specs.Handles.{handle_owns, Content}
 use Rattle.engine_c.specs.contracts.handle.Handle.{the_row, the_type}
 use Rattle.engine_calls.proofs.last.Asked.TheSendSync as asking
+use Rattle.engine_calls.proofs.last.CallReason.TheSendSync as call_reason
 use Rattle.engine_calls.proofs.last.Last.TheSendSync as last
-use Rattle.engine_calls.proofs.last.Told.TheSendSync as told
 use Rattle.engine_calls.specs.contracts.kept.Kept as Kept
 use Rattle.fault_sentences.proofs.reason.Reason.TheSendSync as reason
 use Rattle.hash_agg.proofs.means.Means.TheSendSync as means
@@ -160,8 +160,8 @@ kept_send =
       reason.the_field_send,
       asking.the_send,
       asking.the_field_send,
-      told.the_send,
-      told.the_field_send,
+      call_reason.the_send,
+      call_reason.the_field_send,
       last.the_send,
       last.the_field_send,
     ) depth 20
