@@ -1,18 +1,20 @@
 -- What was printed after something else was said or printed.
-use Rattle.std.specs.Prelude.{◌≡◌, refl, true, false, ℕ, List, [], ◌++◌, length, Option}
+use Rattle.std.specs.Prelude.{◌≡◌, ◌≢◌, ◌≤◌, refl, true, false, ℕ, List, [], ◌++◌, length, Option}
 use Rattle.std.specs.Io.KnownBytes.{Appends, Keeps}
-use Rattle.std.proofs.Common.{◌∙◌, sym, subst}
+use Rattle.std.proofs.Common.{◌∙◌, arith, inl, inr, sym, subst}
 use Rattle.std.proofs.KnownBytes.{Appends-kept, Appends-nil, Appends-trans}
 use Rattle.script_io.specs.Fused.{written}
 use Rattle.replica_merge.specs.Replicas.{Held}
 use Rattle.replies.specs.Text.{said_text}
 use Rattle.replies.specs.declared.reply.Reply.{Reply}
-use Rattle.replies.specs.declared.reply.Reply.TheVariants.{Saved}
+use Rattle.replies.specs.declared.reply.Reply.TheVariants.{Refused, Saved}
 use Rattle.replies.specs.declared.showing.Format.{Format}
 use Rattle.replies.specs.declared.ending.ExitKind.{ExitKind}
+use Rattle.replies.specs.declared.ending.ExitKind.TheVariants.{Fault}
 use Rattle.replies.specs.declared.refusal.Refusal.{Refusal}
-use Rattle.command_streams.specs.Stopping.{RepliesRefused}
-use Rattle.command_files.specs.Reporting.{file_on_output, output_of, reply_on_output, OnlySays, Prints, PrintsTable, Saves}
+use Rattle.command_streams.specs.Stopping.{ending_of, RepliesRefused}
+use Rattle.command_files.specs.Reporting.{file_on_output, output_of, replies_on_output, reply_on_output, OnlySays, Prints, PrintsTable}
+use Rattle.command_files.specs.Reporting.{RepliesFew, Saves, StopsBy}
 use Rattle.command_files.specs.declared.reporter.Reporter.{Reporter}
 
 -- nothing was said
@@ -138,3 +140,52 @@ pub refused_behind : {W E : Type 0} (contents : W → Option (List ℕ)) (old mi
     → RepliesRefused line (output_of contents old) new why exit
 refused_behind contents old mid line new why exit says refused =
     subst (λ w. RepliesRefused line (written contents w) new why exit) says.output refused
+
+-- and the command ended as its refusal tells
+pub stops_there : {W E : Type 0} (contents : W → Option (List ℕ)) (old mid new : Reporter W E) (why : Refusal) (exit : ExitKind)
+    → OnlySays old mid → mid.is_piped ≡ false → new.is_piped ≡ mid.is_piped
+    → RepliesRefused (said_text (Refused why)) (output_of contents mid) (output_of contents new) why exit → exit ≢ Fault
+    → StopsBy contents why exit old new
+stops_there contents old mid new why exit says unpiped same (inl (ended, printed)) sound = record {
+  ended = ended;
+  printed = replied_behind contents old mid new (Refused why) says
+      (replied_there contents mid new (Refused why) unpiped (record { output = printed; piped = same }));
+}
+stops_there contents old mid new why exit says unpiped same (inr (fault, short)) sound = absurd (sound fault)
+
+-- or the reply stands beside standard output
+pub stops_beside : {W E : Type 0} (contents : W → Option (List ℕ)) (old new : Reporter W E) (why : Refusal) (exit : ExitKind)
+    → old.is_piped ≡ true → OnlySays old new → exit ≡ ending_of why → StopsBy contents why exit old new
+stops_beside contents old new why exit piped says ended =
+    record { ended = ended; printed = replied_beside contents old new (Refused why) piped says }
+
+-- ---- replies
+
+-- no reply was written
+pub replies_none : {W E : Type 0} (contents : W → Option (List ℕ)) (most : ℕ) (old new : Reporter W E) → OnlySays old new
+    → RepliesFew contents most old new
+replies_none contents most old new says = record { replies = []; few = omega arith; printed = prints_none contents old new says }
+
+-- something was said before replies were written, or behind them
+pub replies_behind : {W E : Type 0} (contents : W → Option (List ℕ)) (most : ℕ) (old mid new : Reporter W E) → OnlySays old mid
+    → RepliesFew contents most mid new → RepliesFew contents most old new
+replies_behind contents most old mid new says replied = record {
+  replies = replied.replies;
+  few = replied.few;
+  printed = subst (λ p. Prints contents old new (replies_on_output p replied.replies)) says.piped
+      (prints_behind contents old mid new (replies_on_output mid.is_piped replied.replies) says replied.printed);
+}
+
+pub replies_before : {W E : Type 0} (contents : W → Option (List ℕ)) (most : ℕ) (old mid new : Reporter W E)
+    → RepliesFew contents most old mid → OnlySays mid new → RepliesFew contents most old new
+replies_before contents most old mid new replied says = record {
+  replies = replied.replies;
+  few = replied.few;
+  printed = prints_before contents old mid new (replies_on_output old.is_piped replied.replies) replied.printed says;
+}
+
+-- or a greater number says how many there are at most
+pub replies_fewer : {W E : Type 0} (contents : W → Option (List ℕ)) (few most : ℕ) (old new : Reporter W E) → few ≤ most
+    → RepliesFew contents few old new → RepliesFew contents most old new
+replies_fewer contents few most old new less replied =
+    record { replies = replied.replies; few = omega (arith, less, replied.few); printed = replied.printed }

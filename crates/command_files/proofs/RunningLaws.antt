@@ -1,8 +1,10 @@
 -- Commands that do their work, and what was said or sent out beside that.
-use Rattle.std.specs.Prelude.{◌≡◌, ◌≢◌, refl, ◌⊎◌, ℕ, Bool, true, List, Option, Some, Result, Ok, Err, IfErr, OnOk}
+use Rattle.std.specs.Prelude.{◌≡◌, ◌≢◌, refl, ◌⊎◌, ◌==◌, ◌&&◌, ℕ, min, Bool, not, if◌then◌else◌, List, ◌++◌, Option, Some}
+use Rattle.std.specs.Prelude.{Result, Ok, Err, IfErr, OnOk}
 use Rattle.std.specs.Io.KnownBytes.{Appends, Keeps}
-use Rattle.std.proofs.Common.{◌∙◌, ap, inl, inr, subst, sym}
-use Rattle.std.proofs.KnownBytes.{Appends-kept, Keeps-refl, Keeps-trans}
+use Rattle.std.proofs.Common.{◌∙◌, ap, arith, inl, inr, subst, sym}
+use Rattle.std.proofs.lemmas.Bool.Decides.{nat_tests}
+use Rattle.std.proofs.KnownBytes.{Appends-kept, Appends-trans, Keeps-refl, Keeps-trans}
 use Rattle.grouping_model.specs.Replies.{known_list}
 use Rattle.clap.specs.declared.parser.matches.ArgMatches.{ArgMatches}
 use Rattle.hash_agg.specs.Means.{MeansState}
@@ -13,22 +15,26 @@ use Rattle.script_io.specs.Fused.{written}
 use Rattle.replica_merge.specs.Replicas.{Held, told}
 use Rattle.replies.specs.KnownTables.{known_in}
 use Rattle.replies.specs.declared.ending.ExitKind.{ExitKind}
-use Rattle.replies.specs.declared.ending.ExitKind.TheVariants.{Fault}
+use Rattle.replies.specs.declared.ending.ExitKind.TheVariants.{BadUsage, Fault}
+use Rattle.replies.specs.declared.refusal.Refusal.{Refusal}
+use Rattle.replies.specs.declared.reply.Reply.TheVariants.{Refused}
 use Rattle.replies.specs.declared.showing.Format.{Format}
 use Rattle.replies.specs.declared.showing.KnownFormat.{KnownFormat}
 use Rattle.command_words.specs.declared.subcommands.Subcommand.{Subcommand}
 use Rattle.command_words.specs.declared.subcommands.Subcommand.TheVariants.{New, Feed, Merge, Known, Answer}
 use Rattle.command_words.specs.Told.{is_out_stream, limit_told}
-use Rattle.command_streams.specs.Stopping.{ending_of, EndsRefused}
+use Rattle.command_streams.specs.Stopping.{ending_of}
 use Rattle.command_streams.specs.declared.problem.Problem.{Problem}
 use Rattle.key_hashes.specs.declared.hash.Fnv1a.{Fnv1a}
+use Rattle.command_files.specs.Ending.{ending_beside, lacking_of}
 use Rattle.command_files.specs.Limits.{limit_of}
-use Rattle.command_files.specs.Reporting.{output_of, OnlySays, Prints, PrintsTable, Saves}
-use Rattle.command_files.specs.Running.{standpoint_of, AnswersHeld, BeginsWith, IsDone, IsDoneOrSilent, Performs, RunsCommand, SavesHeld}
-use Rattle.command_files.specs.Running.{StandsAsTold, Standpoint, TakesAndSaves}
+use Rattle.command_files.specs.Reporting.{output_of, replies_on_output, reply_on_output, OnlySays, Prints, PrintsTable, RefusedAfter}
+use Rattle.command_files.specs.Reporting.{RepliesFew, Saves, StopsBy}
+use Rattle.command_files.specs.Running.{files_told, standpoint_of, AnswersHeld, BeginsWith, IsDone, IsDoneOrStopped, IsRefused, Performs}
+use Rattle.command_files.specs.Running.{RunsCommand, SavesHeld, StandsAsTold, Standpoint, TakesAndSaves}
 use Rattle.command_files.specs.Taking.{CommandState, Manner, TakesAll, state_of}
 use Rattle.command_files.specs.declared.reporter.Reporter.{Reporter}
-use Rattle.command_files.proofs.ReportingLaws.{says_more, saves_behind}
+use Rattle.command_files.proofs.ReportingLaws.{replies_before, replies_behind, replies_none, says_more, says_nothing, saves_behind}
 
 -- a replica was saved, and what that wrote
 pub saves_held : {W E A X : Type 0} (contents : W → Option (List ℕ)) (held : Held) (old new : Reporter W E) (result : Result A X)
@@ -49,18 +55,31 @@ lists_held contents format told_format held old new (Err error) same prints = tt
 
 -- an answer was printed
 pub answers_held : {W E A X : Type 0} (contents : W → Option (List ℕ)) (format told_format : Format) (held : Held)
-    (old new : Reporter W E) (result : Result A X) → format ≡ told_format → OnOk result (PrintsTable contents format held old new)
-    → OnOk result (AnswersHeld told_format held (output_of contents old) (output_of contents new))
-answers_held contents format told_format held old new (Ok value) same table =
-    subst (λ f. AnswersHeld f held (output_of contents old) (output_of contents new)) same (record {
-      rows = table.rows;
-      table = table.table;
-      foot = table.foot;
-      answers = table.answers;
-      footless = table.footless;
-      printed = table.printed.output;
-    })
-answers_held contents format told_format held old new (Err error) same table = tt
+    (old new : Reporter W E) (passed lack : ℕ) (result : Result A X) → format ≡ told_format
+    → OnOk result (PrintsTable contents format held old new)
+    → OnOk result (passed ≡ lack)
+    → OnOk result (AnswersHeld told_format held (output_of contents old) (output_of contents new) × (passed ≡ lack))
+answers_held contents format told_format held old new passed lack (Ok value) same table lacks = (
+  subst (λ f. AnswersHeld f held (output_of contents old) (output_of contents new)) same (record {
+    rows = table.rows;
+    table = table.table;
+    foot = table.foot;
+    answers = table.answers;
+    footless = table.footless;
+    printed = table.printed.output;
+  }),
+  lacks,
+)
+answers_held contents format told_format held old new passed lack (Err error) same table lacks = tt
+
+-- an answer lacks batches where its lines tell of some: at most eleven lines, and none only where there are none
+zero_of_few : (count waiting : ℕ) → count ≡ min 11 waiting → (count == 0) ≡ (waiting == 0)
+zero_of_few count waiting same = grind (arith, nat_tests)
+
+pub lacking_few : (wants_all : Bool) (count waiting : ℕ) → count ≡ min 11 waiting
+    → lacking_of wants_all count ≡ lacking_of wants_all waiting
+lacking_few wants_all count waiting same =
+    ap (λ (zero : Bool). if wants_all && not zero then 1 else 0) (zero_of_few count waiting same)
 
 -- files were taken, something was said, and the replica was saved
 pub takes_and_saves : {F H W E : Type 0} (contents : W → Option (List ℕ)) (manner : Manner H) (count : ℕ) (old : CommandState F)
@@ -138,14 +157,17 @@ performs_kept : {F H : Type 0} (subcommand : Subcommand) (matches : ArgMatches) 
 performs_kept New matches means held from passed_now output sent kept saves =
     saves_kept _ _ _ output sent kept saves
 performs_kept Known matches means held from passed_now output sent kept printed = Appends-kept _ _ _ _ printed kept
-performs_kept Answer matches means held from passed_now output sent kept table = record {
-  rows = table.rows;
-  table = table.table;
-  foot = table.foot;
-  answers = table.answers;
-  footless = table.footless;
-  printed = Appends-kept _ _ _ _ table.printed kept;
-}
+performs_kept Answer matches means held from passed_now output sent kept (table, lacks) = (
+  record {
+    rows = table.rows;
+    table = table.table;
+    foot = table.foot;
+    answers = table.answers;
+    footless = table.footless;
+    printed = Appends-kept _ _ _ _ table.printed kept;
+  },
+  lacks,
+)
 performs_kept Feed matches means held from passed_now output sent kept done = takes_kept _ _ _ _ _ output sent kept done
 performs_kept Merge matches means held from passed_now output sent kept done = takes_kept _ _ _ _ _ output sent kept done
 
@@ -178,76 +200,151 @@ pub done_before : {W E : Type 0} (F : Type 0) (contents : W → Option (List ℕ
 done_before F contents subcommand matches passed old mid new says done =
     subst (λ w. IsDone F subcommand matches passed old (written contents w)) (sym says.output) done
 
--- ---- commands that stop where OUT is standard output
+-- ---- commands that stop
 
--- nothing was written
-pub silent_said : {W E : Type 0} (F : Type 0) (contents : W → Option (List ℕ)) (subcommand : Subcommand) (matches : ArgMatches)
-    (old new : Reporter W E) → OnlySays old new → IsDoneOrSilent F subcommand matches (output_of contents old) (output_of contents new)
-silent_said F contents subcommand matches old new says =
-    inr (subst (λ w. Keeps (output_of contents old) (written contents w)) (sym says.output) (Keeps-refl (output_of contents old)))
+-- a call that failed wrote no reply
+pub unput_none : {W E A : Type 0} (contents : W → Option (List ℕ)) (most : ℕ) (old new : Reporter W E) (result : Result A Problem)
+    → IfErr result (λ problem. ending_of problem.why ≢ Fault → OnlySays old new)
+    → IfErr result (λ problem. ending_of problem.why ≢ Fault → RepliesFew contents most old new)
+unput_none contents most old new (Ok value) says = tt
+unput_none contents most old new (Err problem) says = λ sound. replies_none contents most old new (says sound)
 
--- a command was refused after something was said
-pub refused_silently : {W E : Type 0} (F : Type 0) (contents : W → Option (List ℕ)) (subcommand : Subcommand) (matches : ArgMatches)
-    (old mid new : Reporter W E) → OnlySays old mid → old.is_piped ≡ is_out_stream subcommand matches
-    → is_out_stream subcommand matches ≡ true → (mid.is_piped ≡ true → OnlySays mid new)
-    → IsDoneOrSilent F subcommand matches (output_of contents old) (output_of contents new)
-refused_silently F contents subcommand matches old mid new says told piped silent =
-    silent_said F contents subcommand matches old new (says_more old mid new says (silent (says.piped ∙ told ∙ piped)))
+-- or as many as another number says
+pub unput_counted : {W E A : Type 0} (contents : W → Option (List ℕ)) (few most : ℕ) (old new : Reporter W E) (result : Result A Problem)
+    → few ≡ most → IfErr result (λ problem. ending_of problem.why ≢ Fault → RepliesFew contents few old new)
+    → IfErr result (λ problem. ending_of problem.why ≢ Fault → RepliesFew contents most old new)
+unput_counted contents few most old new result same unput =
+    subst (λ n. IfErr result (λ problem. ending_of problem.why ≢ Fault → RepliesFew contents n old new)) same unput
+
+-- something was said before that
+pub unput_behind : {W E A : Type 0} (contents : W → Option (List ℕ)) (most : ℕ) (old mid new : Reporter W E) (result : Result A Problem)
+    → OnlySays old mid → IfErr result (λ problem. ending_of problem.why ≢ Fault → RepliesFew contents most mid new)
+    → IfErr result (λ problem. ending_of problem.why ≢ Fault → RepliesFew contents most old new)
+unput_behind contents most old mid new (Ok value) says unput = tt
+unput_behind contents most old mid new (Err problem) says unput = λ sound. replies_behind contents most old mid new says (unput sound)
+
+-- a command was refused, behind replies to its files
+refused_as : {W E : Type 0} (contents : W → Option (List ℕ)) (subcommand : Subcommand) (matches : ArgMatches) (exit : ExitKind)
+    (old new : Reporter W E) → old.is_piped ≡ is_out_stream subcommand matches
+    → RefusedAfter contents (files_told subcommand matches) exit old new
+    → IsRefused subcommand matches exit (output_of contents old) (output_of contents new)
+refused_as contents subcommand matches exit old new piped refused = record {
+  replies = refused.replied.replies;
+  why = refused.why;
+  few = refused.replied.few;
+  ended = refused.stops.ended;
+  printed = subst (λ p. Appends (output_of contents old) (output_of contents new)
+      (replies_on_output p refused.replied.replies ++ reply_on_output p (Refused refused.why))) piped
+      (Appends-trans (output_of contents old) (output_of contents refused.mid) (output_of contents new)
+      (replies_on_output old.is_piped refused.replied.replies) (reply_on_output old.is_piped (Refused refused.why))
+      refused.replied.printed.output
+      (subst (λ p. Appends (output_of contents refused.mid) (output_of contents new) (reply_on_output p (Refused refused.why)))
+      refused.replied.printed.piped refused.stops.printed.output));
+}
+
+-- or when something had been said
+pub refused_said : {W E : Type 0} (F : Type 0) (contents : W → Option (List ℕ)) (subcommand : Subcommand) (matches : ArgMatches)
+    (why : Refusal) (exit : ExitKind) (old mid new : Reporter W E) → OnlySays old mid → old.is_piped ≡ is_out_stream subcommand matches
+    → (exit ≢ Fault → StopsBy contents why exit mid new) → exit ≢ Fault
+    → IsDoneOrStopped F subcommand matches exit (output_of contents old) (output_of contents new)
+refused_said F contents subcommand matches why exit old mid new says piped stops sound =
+    inr (inl (refused_as contents subcommand matches exit old new piped (record {
+      mid = mid;
+      why = why;
+      replied = replies_none contents (files_told subcommand matches) old mid says;
+      stops = stops sound;
+    })))
+
+-- or its words were wrong
+pub misused_said : {W E : Type 0} (F : Type 0) (contents : W → Option (List ℕ)) (subcommand : Subcommand) (matches : ArgMatches)
+    (exit : ExitKind) (old new : Reporter W E) → exit ≡ BadUsage → OnlySays old new
+    → IsDoneOrStopped F subcommand matches exit (output_of contents old) (output_of contents new)
+misused_said F contents subcommand matches exit old new misused says = inr (inr (
+  misused,
+  subst (λ w. Keeps (output_of contents old) (written contents w)) (sym says.output) (Keeps-refl (output_of contents old)),
+))
+
+-- a limit was refused, or was no number of bytes
+pub limit_refused : {W E : Type 0} (F : Type 0) (contents : W → Option (List ℕ)) (subcommand : Subcommand) (matches : ArgMatches)
+    (why : Refusal) (exit : ExitKind) (old new : Reporter W E) → old.is_piped ≡ is_out_stream subcommand matches
+    → (exit ≢ Fault → StopsBy contents why exit old new ⊎ ((exit ≡ BadUsage) × OnlySays old new)) → exit ≢ Fault
+    → IsDoneOrStopped F subcommand matches exit (output_of contents old) (output_of contents new)
+limit_refused F contents subcommand matches why exit old new piped stops sound = by_ending (stops sound)
+  where
+    by_ending : StopsBy contents why exit old new ⊎ ((exit ≡ BadUsage) × OnlySays old new)
+        → IsDoneOrStopped F subcommand matches exit (output_of contents old) (output_of contents new)
+    by_ending (inl stopped) =
+        refused_said F contents subcommand matches why exit old old new (says_nothing old) piped (λ sound. stopped) sound
+    by_ending (inr (misused, says)) = misused_said F contents subcommand matches exit old new misused says
 
 -- something was said before that, or behind it
 pub stopped_behind : {W E : Type 0} (F : Type 0) (contents : W → Option (List ℕ)) (subcommand : Subcommand) (matches : ArgMatches)
-    (old mid : Reporter W E) (output : Option (List ℕ)) → mid.streams.writer.now ≡ old.streams.writer.now
-    → IsDoneOrSilent F subcommand matches (output_of contents mid) output
-    → IsDoneOrSilent F subcommand matches (output_of contents old) output
-stopped_behind F contents subcommand matches old mid output same stopped =
-    subst (λ w. IsDoneOrSilent F subcommand matches (written contents w) output) same stopped
+    (exit : ExitKind) (old mid : Reporter W E) (output : Option (List ℕ)) → mid.streams.writer.now ≡ old.streams.writer.now
+    → IsDoneOrStopped F subcommand matches exit (output_of contents mid) output
+    → IsDoneOrStopped F subcommand matches exit (output_of contents old) output
+stopped_behind F contents subcommand matches exit old mid output same stopped =
+    subst (λ w. IsDoneOrStopped F subcommand matches exit (written contents w) output) same stopped
 
 pub stopped_before : {W E : Type 0} (F : Type 0) (contents : W → Option (List ℕ)) (subcommand : Subcommand) (matches : ArgMatches)
-    (old : Option (List ℕ)) (mid new : Reporter W E) → OnlySays mid new → IsDoneOrSilent F subcommand matches old (output_of contents mid)
-    → IsDoneOrSilent F subcommand matches old (output_of contents new)
-stopped_before F contents subcommand matches old mid new says stopped =
-    subst (λ w. IsDoneOrSilent F subcommand matches old (written contents w)) (sym says.output) stopped
+    (exit : ExitKind) (old : Option (List ℕ)) (mid new : Reporter W E) → OnlySays mid new
+    → IsDoneOrStopped F subcommand matches exit old (output_of contents mid)
+    → IsDoneOrStopped F subcommand matches exit old (output_of contents new)
+stopped_before F contents subcommand matches exit old mid new says stopped =
+    subst (λ w. IsDoneOrStopped F subcommand matches exit old (written contents w)) (sym says.output) stopped
 
 -- all was sent out then
-pub stopped_kept : (F : Type 0) (subcommand : Subcommand) (matches : ArgMatches) (old output sent : Option (List ℕ)) → Keeps output sent
-    → IsDoneOrSilent F subcommand matches old output → IsDoneOrSilent F subcommand matches old sent
-stopped_kept F subcommand matches old output sent kept (inl done) =
-    inl (done.0, done_kept F subcommand matches done.0 old output sent kept done.1)
-stopped_kept F subcommand matches old output sent kept (inr silent) = inr (Keeps-trans old output sent silent kept)
+pub stopped_kept : (F : Type 0) (subcommand : Subcommand) (matches : ArgMatches) (exit result : ExitKind)
+    (old output sent : Option (List ℕ)) → Keeps output sent → result ≡ exit → IsDoneOrStopped F subcommand matches exit old output
+    → IsDoneOrStopped F subcommand matches result old sent
+stopped_kept F subcommand matches exit result old output sent kept same (inl done) =
+    inl (done.0, same ∙ done.1, done_kept F subcommand matches done.0 old output sent kept done.2)
+stopped_kept F subcommand matches exit result old output sent kept same (inr (inl refused)) = inr (inl (record {
+  replies = refused.replies;
+  why = refused.why;
+  few = refused.few;
+  ended = same ∙ refused.ended;
+  printed = Appends-kept _ _ _ _ refused.printed kept;
+}))
+stopped_kept F subcommand matches exit result old output sent kept same (inr (inr misused)) =
+    inr (inr (same ∙ misused.0, Keeps-trans old output sent misused.1 kept))
 
--- a command did its work, and something was said, or it stopped before it wrote anything
+-- a command did its work, and something was said, or it stopped behind replies to its files
 pub stopped_by : {F H W E T : Type 0} (contents : W → Option (List ℕ)) (subcommand : Subcommand) (matches : ArgMatches)
-    (means : MeansState H) (from : Standpoint F) (old mid said new : Reporter W E) (done : Result T Problem) (exit : ExitKind)
+    (means : MeansState H) (from : Standpoint F) (most : ℕ) (old mid said new : Reporter W E) (done : Result T Problem) (exit : ExitKind)
     (passed passed_said passed_now : ℕ)
     → OnOk done (RunsCommand subcommand matches means from passed (output_of contents mid))
-    → IfErr done (λ problem. ending_of problem.why ≢ Fault → OnlySays old mid) → OnlySays mid said
-    → OnOk done (OnlySays said new) → (said.is_piped ≡ true → OnlySays said new) → IfErr done (λ problem. EndsRefused problem.why exit)
-    → passed_said ≡ passed → passed_now ≡ passed_said → old.is_piped ≡ true → exit ≢ Fault
-    → RunsCommand subcommand matches means from passed_now (output_of contents new) ⊎ OnlySays old new
-stopped_by contents subcommand matches means from old mid said new (Ok value) exit passed passed_said passed_now runs unput says told silent
-    ends same same_now piped sound =
-    let more = says_more mid said new says told in
-    inl (subst (λ n. RunsCommand subcommand matches means from n (output_of contents new)) (sym (same_now ∙ same))
-    (subst (λ w. RunsCommand subcommand matches means from passed (written contents w)) (sym more.output) runs))
-stopped_by contents subcommand matches means from old mid said new (Err problem) exit passed passed_said passed_now runs unput says told
-    silent ends same same_now piped sound = by_ending ends
-  where
-    by_ending : EndsRefused problem.why exit
-        → RunsCommand subcommand matches means from passed_now (output_of contents new) ⊎ OnlySays old new
-    by_ending (inr fault) = absurd (sound fault)
-    by_ending (inl ended) =
-        let before = says_more old mid said (unput (λ fault. sound (ended ∙ fault))) says in
-        inr (says_more old said new before (silent (before.piped ∙ piped)))
+    → IfErr done (λ problem. ending_of problem.why ≢ Fault → RepliesFew contents most old mid) → OnlySays mid said
+    → OnOk done (OnlySays said new) → IfErr done (λ problem. exit ≢ Fault → StopsBy contents problem.why exit said new)
+    → OnOk done (exit ≡ ending_beside passed_said) → passed_said ≡ passed → passed_now ≡ passed_said → exit ≢ Fault
+    → RunsCommand subcommand matches means from passed_now (output_of contents new) × (exit ≡ ending_beside passed_now)
+    ⊎ RefusedAfter contents most exit old new
+stopped_by contents subcommand matches means from most old mid said new (Ok value) exit passed passed_said passed_now runs unput says told
+    stops ends same same_now sound =
+    let more = says_more mid said new says told in inl (
+      subst (λ n. RunsCommand subcommand matches means from n (output_of contents new)) (sym (same_now ∙ same))
+          (subst (λ w. RunsCommand subcommand matches means from passed (written contents w)) (sym more.output) runs),
+      ends ∙ ap ending_beside (sym same_now),
+    )
+stopped_by contents subcommand matches means from most old mid said new (Err problem) exit passed passed_said passed_now runs unput says
+    told stops ends same same_now sound =
+    let stopped = stops sound in inr (record {
+      mid = said;
+      why = problem.why;
+      replied = replies_before contents most old mid said (unput (λ fault. sound (stopped.ended ∙ fault))) says;
+      stops = stopped;
+    })
 
 -- and that was by its means, from where it stood
 pub stopped_as : {F W E : Type 0} (contents : W → Option (List ℕ)) (subcommand : Subcommand) (matches : ArgMatches)
     (means : MeansState Fnv1a) (disk : SpillDisk (SystemState F)) (work : Work) (listed : Option ℕ) (passed passed_now : ℕ)
-    (old new : Reporter W E) → limit_of (limit_told subcommand matches) ≡ Some means.limit
+    (exit : ExitKind) (old new : Reporter W E) → limit_of (limit_told subcommand matches) ≡ Some means.limit
     → StandsAsTold subcommand matches (standpoint_of contents disk work listed passed old)
     → (RunsCommand subcommand matches means (standpoint_of contents disk work listed passed old) passed_now (output_of contents new)
-    ⊎ OnlySays old new) → IsDoneOrSilent F subcommand matches (output_of contents old) (output_of contents new)
-stopped_as contents subcommand matches means disk work listed passed passed_now old new limited stands (inl runs) = inl (
+    × (exit ≡ ending_beside passed_now) ⊎ RefusedAfter contents (files_told subcommand matches) exit old new)
+    → IsDoneOrStopped F subcommand matches exit (output_of contents old) (output_of contents new)
+stopped_as contents subcommand matches means disk work listed passed passed_now exit old new limited stands (inl (runs, ends)) = inl (
   passed_now,
+  ends,
   record {
     means = means;
     from = standpoint_of contents disk work listed passed old;
@@ -257,5 +354,5 @@ stopped_as contents subcommand matches means disk work listed passed passed_now 
     runs = runs;
   },
 )
-stopped_as {F} contents subcommand matches means disk work listed passed passed_now old new limited stands (inr says) =
-    silent_said F contents subcommand matches old new says
+stopped_as contents subcommand matches means disk work listed passed passed_now exit old new limited stands (inr refused) =
+    inr (inl (refused_as contents subcommand matches exit old new stands.piped refused))

@@ -1,9 +1,11 @@
 -- Files that are taken one after the other.
-use Rattle.std.specs.Prelude.{◌≡◌, ◌≢◌, refl, ◌+◌, ◌^◌, ◌<◌, ℕ, suc, Bool, List, [], ◌∷◌, ◌++◌, length, Option, Some}
+use Rattle.std.specs.Prelude.{◌≡◌, ◌≢◌, refl, ◌+◌, ◌^◌, ◌<◌, ℕ, suc, Bool, List, [], ◌∷◌, ◌++◌, length, map, Option, Some}
 use Rattle.std.specs.Prelude.{Result, Ok, Err, OnOk}
+use Rattle.std.specs.Io.KnownBytes.{Appends}
 use Rattle.std.specs.Result.{is_err}
 use Rattle.std.proofs.Common.{◌∙◌, ap, sym, subst, arith}
-use Rattle.std.proofs.lemmas.List.{length-append}
+use Rattle.std.proofs.KnownBytes.{Appends-nil, Appends-trans}
+use Rattle.std.proofs.lemmas.List.{length-append, length-map}
 use Rattle.std.proofs.lemmas.List.Elements.{filter-append}
 use Rattle.script_io.specs.Fused.{written}
 use Rattle.tape_disks.specs.Chosen.{is_honest}
@@ -20,9 +22,9 @@ use Rattle.replies.specs.declared.reply.Reply.TheVariants.{Refused}
 use Rattle.file_sentences.specs.declared.reasons.FileKind.{FileKind}
 use Rattle.command_streams.specs.Disks.{is_in_memory}
 use Rattle.command_streams.specs.Stopping.{ending_of}
-use Rattle.command_files.specs.Reporting.{output_of, reply_on_output, OnlySays, Prints}
+use Rattle.command_files.specs.Reporting.{output_of, replies_on_output, reply_on_output, OnlySays, Prints, RepliesFew}
 use Rattle.command_files.specs.Taking.{Takes, TakesFile, RanFile, TakenFile, CommandState, Manner, TakesOne, TakesEach, TakesAll}
-use Rattle.command_files.specs.Taking.{manner_of, state_of, refused_of, system_file}
+use Rattle.command_files.specs.Taking.{manner_of, reply_to, state_of, refused_of, system_file}
 use Rattle.command_files.specs.declared.reporter.Reporter.{Reporter}
 use Rattle.command_files.proofs.ReportingLaws.{replied_behind}
 
@@ -167,3 +169,31 @@ pub takes_none_yet : {F H W E : Type 0} (contents : W → Option (List ℕ)) (ma
 takes_none_yet contents manner place held disk work start mid passed says =
     subst (λ w. TakesAll manner place 0 (state_of held disk work (output_of contents start)) (state_of held disk work (written contents w))
     passed passed) (sym says.output) (takes_none manner place (state_of held disk work (output_of contents start)) passed)
+
+-- each file that was taken has its reply
+replies_each : {F H : Type 0} (manner : Manner H) (place : ℕ) (files : List TakenFile) (old new : CommandState F)
+    → TakesEach manner place files old new
+    → Appends old.output new.output (replies_on_output manner.is_piped (map (λ file. reply_to file.told) files))
+replies_each {F} manner place [] old new same =
+    subst (λ (state : CommandState F). Appends old.output state.output []) (sym same) (Appends-nil old.output)
+replies_each manner place (file ∷ files) old new (mid, takes, rest) =
+    Appends-trans old.output mid.output new.output _ _ takes.replied (replies_each manner (place + 1) files mid new rest)
+
+-- so many files were taken, and nothing else was written
+pub replies_taken : {F H W E : Type 0} (contents : W → Option (List ℕ)) (manner : Manner H) (place count : ℕ) (held held_now : Held)
+    (disk disk_now : SpillDisk (SystemState F)) (work work_now : Work) (passed now : ℕ) (old new : Reporter W E)
+    → TakesAll manner place count (state_of held disk work (output_of contents old))
+    (state_of held_now disk_now work_now (output_of contents new)) passed now → old.is_piped ≡ manner.is_piped
+    → new.is_piped ≡ old.is_piped → RepliesFew contents count old new
+replies_taken contents manner place count held held_now disk disk_now work work_now passed now old new takes piped same =
+    let replies = map (λ (file : TakenFile). reply_to file.told) takes.files in
+    let long = length-map takes.files (λ (file : TakenFile). reply_to file.told) in record {
+      replies = replies;
+      few = omega (arith, long, takes.many);
+      printed = record {
+        output = subst (λ p. Appends (output_of contents old) (output_of contents new) (replies_on_output p replies)) (sym piped)
+            (replies_each manner place takes.files (state_of held disk work (output_of contents old))
+            (state_of held_now disk_now work_now (output_of contents new)) takes.each);
+        piped = same;
+      };
+    }

@@ -2,8 +2,7 @@
 use Rattle.std.specs.Prelude.{◌≡◌, ◌==◌, ℕ, Bool, codes, true, false, Option, Some, None, Result, Ok, Err, IsErr, if◌then◌else◌}
 use Rattle.out_files.specs.declared.occupant.Occupant.{Occupant}
 use Rattle.out_files.specs.declared.occupant.Occupant.TheVariants.{Another, Listed}
-use Rattle.command_words.specs.Told.{IsFlagTold}
-use Rattle.command_words.specs.declared.subcommands.Subcommand.{Subcommand}
+use Rattle.command_words.specs.Told.{is_flag_told}
 use Rattle.clap.specs.declared.parser.matches.ArgMatches.{ArgMatches}
 use Rattle.file_sentences.specs.Standing.{is_foreign}
 use Rattle.file_sentences.specs.declared.out.Fate.{Fate}
@@ -38,5 +37,5 @@ IsFile (Listed place) keeps = Unit {0}
 IsFile occupant keeps = ⊥
 
 -- a command line does not force its command
-abbrev pub IsUnforced : Subcommand → ArgMatches → Type 0
-IsUnforced subcommand matches = (told : Bool) → IsFlagTold subcommand matches (codes "force") told → told ≡ false
+abbrev pub IsUnforced : ArgMatches → Type 0
+IsUnforced matches = is_flag_told matches (codes "force") ≡ false

@@ -1,5 +1,5 @@
 -- What a command on files does, from the replica that it begins with to what it prints. All of this is our own.
-use Rattle.std.specs.Prelude.{◌≡◌, ◌≢◌, ◌⊎◌, ◌-◌, ℕ, Bool, List, [], ◌++◌, length, codes, Option, Some, is_none}
+use Rattle.std.specs.Prelude.{◌≡◌, ◌≢◌, ◌⊎◌, ◌-◌, ◌≤◌, ℕ, Bool, List, [], ◌++◌, length, codes, Option, Some, is_none}
 use Rattle.std.specs.Io.KnownBytes.{Appends, Keeps}
 use Rattle.clap.specs.declared.parser.matches.ArgMatches.{ArgMatches}
 use Rattle.grouping_model.specs.Replies.{known_list}
@@ -13,7 +13,11 @@ use Rattle.summary_codec.specs.Reading.{IsSaved}
 use Rattle.replica_merge.specs.Replicas.{Held, told}
 use Rattle.replica_merge.specs.Results.{IsLoaded}
 use Rattle.replies.specs.KnownTables.{known_in}
-use Rattle.replies.specs.declared.reply.Reply.TheVariants.{Saved}
+use Rattle.replies.specs.declared.ending.ExitKind.{ExitKind}
+use Rattle.replies.specs.declared.ending.ExitKind.TheVariants.{BadUsage}
+use Rattle.replies.specs.declared.refusal.Refusal.{Refusal}
+use Rattle.replies.specs.declared.reply.Reply.{Reply}
+use Rattle.replies.specs.declared.reply.Reply.TheVariants.{Refused, Saved}
 use Rattle.replies.specs.Printed.{PrintsAnswer}
 use Rattle.replies.specs.declared.showing.Format.{Format}
 use Rattle.replies.specs.declared.showing.Format.TheVariants.{Aligned}
@@ -21,12 +25,14 @@ use Rattle.command_replicas.specs.Commands.{IsNew}
 use Rattle.file_sentences.specs.declared.reasons.FileKind.{FileKind}
 use Rattle.file_sentences.specs.declared.reasons.FileKind.TheVariants.{Batch, Summary}
 use Rattle.command_streams.specs.Disks.{is_in_memory}
+use Rattle.command_streams.specs.Stopping.{ending_of}
 use Rattle.command_words.specs.Told.{is_out_stream, limit_told, spill_told, value_told, values_told}
 use Rattle.command_words.specs.declared.subcommands.Subcommand.{Subcommand}
 use Rattle.command_words.specs.declared.subcommands.Subcommand.TheVariants.{New, Feed, Merge, Known, Answer}
+use Rattle.command_files.specs.Ending.{ending_beside, lacking}
 use Rattle.command_files.specs.Formats.{format_told, known_format_told}
 use Rattle.command_files.specs.Limits.{limit_of}
-use Rattle.command_files.specs.Reporting.{file_on_output, output_of, reply_on_output}
+use Rattle.command_files.specs.Reporting.{file_on_output, output_of, replies_on_output, reply_on_output}
 use Rattle.command_files.specs.Texts.{AreTextsTold}
 use Rattle.command_files.specs.Taking.{CommandState, Manner, TakesAll, manner_of, state_of}
 use Rattle.command_files.specs.declared.reporter.Reporter.{Reporter}
@@ -98,22 +104,29 @@ TakesFiles kind count means held old passed_now output =
     TakesAndSaves (manner_of kind means old.disk old.is_piped old.listed) count (state_of held old.disk old.work old.output) old.passed
     passed_now output
 
+-- how many files a command line tells that a command takes: those of a merge begin with the one whose replica it is
+abbrev pub files_told : Subcommand → ArgMatches → ℕ
+files_told Feed matches = length (values_told matches (codes "BATCH"))
+files_told Merge matches = length (values_told matches (codes "IN")) - 1
+files_told subcommand matches = 0
+
 -- the name of the format that a command line tells
 abbrev pub format_name : ArgMatches → List ℕ
 format_name matches = value_told matches (codes "format")
 
 -- what a command does with its replica, by what its command line tells: it saves it as it is, or with what files bring to it, or it prints
--- what it knows or its answer. The files of a merge begin with the one whose replica it is
+-- what it knows or its answer
 abbrev pub Performs : {F H : Type 0} → Subcommand → ArgMatches → MeansState H → Held → (old : Standpoint F) → (passed_now : ℕ)
     → (output : Option (List ℕ)) → Type 0
 Performs New matches means held old passed_now output = SavesHeld held old.is_piped old.output output
 Performs Known matches means held old passed_now output =
     Appends old.output output (known_in (known_format_told (format_name matches)) (known_list (told held.parts)))
-Performs Answer matches means held old passed_now output = AnswersHeld (format_told (format_name matches)) held old.output output
+Performs Answer matches means held old passed_now output =
+    AnswersHeld (format_told (format_name matches)) held old.output output × (passed_now ≡ lacking matches held)
 Performs Feed matches means held old passed_now output =
-    TakesFiles Batch (length (values_told matches (codes "BATCH"))) means held old passed_now output
+    TakesFiles Batch (files_told Feed matches) means held old passed_now output
 Performs Merge matches means held old passed_now output =
-    TakesFiles Summary (length (values_told matches (codes "IN")) - 1) means held old passed_now output
+    TakesFiles Summary (files_told Merge matches) means held old passed_now output
 
 -- a command does its work, of a replica that it begins with
 abbrev pub RunsCommand : {F H : Type 0} → Subcommand → ArgMatches → MeansState H → (old : Standpoint F) → (passed_now : ℕ)
@@ -128,7 +141,7 @@ pub record StandsAsTold {F : Type 0} (subcommand : Subcommand) (matches : ArgMat
   pub piped : from.is_piped ≡ is_out_stream subcommand matches
 
 -- a command did its work as its command line tells, from where it stood, by the limit that is told or the usual one, and passed so many
--- files over
+-- files over; an answer that lacks batches which it should have counts as one
 pub record IsDone (F : Type 0) (subcommand : Subcommand) (matches : ArgMatches) (passed : ℕ) (old new : Option (List ℕ)) : Type 0 where
   pub means : MeansState Fnv1a
   pub from : Standpoint F
@@ -137,9 +150,24 @@ pub record IsDone (F : Type 0) (subcommand : Subcommand) (matches : ArgMatches) 
   pub begun : from.output ≡ old
   pub runs : RunsCommand subcommand matches means from passed new
 
--- a command did its work, but for files that it passed over, or nothing was written to standard output
-abbrev pub IsDoneOrSilent : (F : Type 0) → Subcommand → ArgMatches → (old new : Option (List ℕ)) → Type 0
-IsDoneOrSilent F subcommand matches old new = ((passed : ℕ) × IsDone F subcommand matches passed old new) ⊎ Keeps old new
+-- a command was refused: standard output got replies to some of the files that it takes, and the reply that says so, and nothing else
+pub record IsRefused (subcommand : Subcommand) (matches : ArgMatches) (exit : ExitKind) (old new : Option (List ℕ)) : Type 0 where
+  pub replies : List Reply
+  pub why : Refusal
+  pub few : length replies ≤ files_told subcommand matches
+  pub ended : exit ≡ ending_of why
+  pub printed : Appends old new
+      (replies_on_output (is_out_stream subcommand matches) replies ++ reply_on_output (is_out_stream subcommand matches) (Refused why))
+
+-- its words were no command line, or told to keep a file: standard output got nothing
+abbrev pub IsMisused : (exit : ExitKind) → (old new : Option (List ℕ)) → Type 0
+IsMisused exit old new = (exit ≡ BadUsage) × Keeps old new
+
+-- a command did its work, but for files that it passed over, or it stopped
+abbrev pub IsDoneOrStopped : (F : Type 0) → Subcommand → ArgMatches → (exit : ExitKind) → (old new : Option (List ℕ)) → Type 0
+IsDoneOrStopped F subcommand matches exit old new =
+    ((passed : ℕ) × (exit ≡ ending_beside passed) × IsDone F subcommand matches passed old new)
+    ⊎ IsRefused subcommand matches exit old new ⊎ IsMisused exit old new
 
 -- what standard output holds in a session, if that is known
 abbrev pub session_output : {R I W E A B : Type 0} → (W → Option (List ℕ)) → Session R I W E A B → Option (List ℕ)

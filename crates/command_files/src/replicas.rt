@@ -21,7 +21,7 @@ use command_replicas::SummaryFile;
 use command_streams::{Inputs, Problem};
 use command_words::{COLUMNS, COLUMNS_FILE, QUERY, QUERY_FILE, input_name};
 use file_sentences::{FileKind, columns_reason, query_reason, saving_reason, summary_reason};
-use hash_agg::{Fnv1a, Means, TapeDisk, Work};
+use hash_agg::{Executor, Fnv1a, Means, TapeDisk};
 use replica_merge::Replica;
 use replies::{Refusal, Reply};
 use std::alloc::Global;
@@ -106,21 +106,21 @@ pub(crate) fn take<D: TapeDisk>(
     file: &[u8],
     means: &Means<Fnv1a>,
     disk: &mut D,
-    work: &mut Work,
+    executor: &mut Executor,
 ) -> Result<Reply<'static>, Refusal>
     ensures takes { Takes kind (D.honest disk.old) file.now replica.old replica.new result }
     ensures ran { Ran D.TapeDisk (λ _ key. fnv_1a key) replica.old.query means.now (TakeIsCounted kind file.now replica.old)
-        (refusal_ended result) disk.old work.old disk.new work.new }
+        (refusal_ended result) disk.old executor.old disk.new executor.new }
 {
     match kind {
         FileKind::Batch => {
-            match command_replicas::feed(alloc, replica, file, means, disk, work) {
+            match command_replicas::feed(alloc, replica, file, means, disk, executor) {
                 Ok(delivered) => Ok(Reply::Delivered(delivered)),
                 Err(why) => Err(why),
             }
         }
         FileKind::Summary => {
-            match command_replicas::merge(alloc, replica, file, means, disk, work) {
+            match command_replicas::merge(alloc, replica, file, means, disk, executor) {
                 Ok(()) => Ok(Reply::Merged),
                 Err(why) => Err(why),
             }

@@ -10,7 +10,7 @@ ghost use Rattle.replies.specs.declared.refusal.Refusal.TheVariants.{Run};
 ghost use Rattle.replies.specs.declared.reply.Reply.TheVariants.{Refused};
 ghost use Rattle.replies.specs.declared.showing.Format.TheVariants.{Aligned};
 ghost use Rattle.command_streams.specs.Stopping.{ending_of, EndsRefused, RepliesRefused};
-ghost use Rattle.command_files.specs.Reporting.{output_of, reply_on_output, OnlySays, Prints};
+ghost use Rattle.command_files.specs.Reporting.{output_of, reply_on_output, OnlySays, Prints, StopsBy};
 
 use command_replicas::SummaryFile;
 use command_streams::{
@@ -268,7 +268,7 @@ impl<'c, W: Write, E: Write> Reporter<'c, W, E> {
         ensures piped { self.old.is_piped ≡ true → result ≡ ending_of problem.entry.why }
         ensures replied { self.old.is_piped ≡ false → RepliesRefused (said_text (Refused problem.entry.why))
             (output_of W.contents self.old) (output_of W.contents self.new) problem.entry.why result }
-        ensures silent { self.old.is_piped ≡ true → OnlySays self.old self.new }
+        ensures stops { result ≢ Fault → StopsBy W.contents problem.entry.why result self.old self.new }
     {
         self.complain(&problem, output);
         if self.is_piped {

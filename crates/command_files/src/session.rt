@@ -6,17 +6,18 @@ ghost use Rattle.grouping_model.specs.Replies.{known_list};
 ghost use Rattle.replica_merge.specs.Replicas.{told};
 ghost use Rattle.script_io.specs.Fused.{written};
 ghost use Rattle.replies.specs.KnownTables.{known_in};
-ghost use Rattle.replies.specs.declared.ending.ExitKind.TheVariants.{Done, Fault};
+ghost use Rattle.replies.specs.declared.ending.ExitKind.TheVariants.{BadUsage, Done, Fault};
 ghost use Rattle.replies.specs.declared.reply.Reply.TheVariants.{Refused};
 ghost use Rattle.command_streams.specs.Disks.{is_in_memory};
 ghost use Rattle.command_streams.specs.Stopping.{ending_of, EndsRefused};
-ghost use Rattle.command_words.specs.Told.{is_out_stream, limit_told, spill_told, values_told};
-ghost use Rattle.command_files.specs.Ending.{ending_beside};
+ghost use Rattle.command_words.specs.Told.{is_flag_told, is_out_stream, limit_told, spill_told, values_told};
+ghost use Rattle.command_files.specs.Ending.{ending_beside, lacking, lacking_of};
 ghost use Rattle.command_files.specs.Formats.{format_told, known_format_told};
 ghost use Rattle.command_files.specs.Limits.{limit_of};
-ghost use Rattle.command_files.specs.Reporting.{output_of, file_on_output, reply_on_output, OnlySays, Prints, PrintsTable, Saves};
-ghost use Rattle.command_files.specs.Running.{session_failed, session_output, standpoint_of, BeginsWith, IsDone, IsDoneOrSilent, Performs};
-ghost use Rattle.command_files.specs.Running.{format_name, RunsCommand, StandsAsTold, TakesAndSaves};
+ghost use Rattle.command_files.specs.Reporting.{output_of, file_on_output, reply_on_output, OnlySays, Prints, PrintsTable, RefusedAfter};
+ghost use Rattle.command_files.specs.Reporting.{RepliesFew, Saves, StopsBy};
+ghost use Rattle.command_files.specs.Running.{files_told, format_name, session_failed, session_output, standpoint_of, BeginsWith, IsDone};
+ghost use Rattle.command_files.specs.Running.{IsDoneOrStopped, Performs, RunsCommand, StandsAsTold, TakesAndSaves};
 ghost use Rattle.command_files.specs.Taking.{manner_of, state_of, taken, RanFile, StopsAt, TakesFile, TakesAll};
 
 use crate::limit::{means_of, said_of_limit};
@@ -29,11 +30,11 @@ use command_streams::{
     Inputs, OutputStatus, Problem, Streams, open_disk, reason_of, system_seed, tape_reason,
 };
 use command_words::{
-    BATCH, COMPLETE, EXPLAIN, FORMAT, IN, OUT, PROGRESS, Subcommand, input_name, is_stream,
-    output_name, value, values,
+    BATCH, COMPLETE, EXPLAIN, FORMAT, IN, OUT, PROGRESS, Subcommand, input_name, is_flag_told,
+    is_stream, output_name, value, values,
 };
 use file_sentences::{Explained, FileKind, PassedOver, Standing, WrittenOver, file_reason};
-use hash_agg::{Fnv1a, Means, Work};
+use hash_agg::{Executor, Fnv1a, Means};
 use holding_sentences::{answer_line, holding_lines, waiting_lines};
 use replica_merge::Replica;
 use replies::{ExitKind, Format, KnownFormat, Refusal, Reply, known_table, table};
@@ -104,25 +105,35 @@ fn is_out_stream(subcommand: Subcommand, matches: &ArgMatches<'_>) -> bool
     }
 }
 
+/// How many answers lack batches that they are told to have: one where all are wanted, and lines tell of some that are not counted.
+fn lacking(matches: &ArgMatches<'_>, lines: &[String]) -> usize
+    ensures { result ≡ lacking_of (is_flag_told matches.now (codes "complete")) (length lines.now) }
+{
+    if is_flag_told(matches, COMPLETE) && !lines.is_empty() {
+        1
+    } else {
+        0
+    }
+}
+
 /// That there was no memory for what the summary IN has.
 fn no_memory_for<'p>(matches: &ArgMatches<'p>) -> Problem<'p> {
     Problem::refused(input_name(value(matches, IN)), Refusal::NoMemory)
 }
 
 /// A running command: its files, what it replies and says, its tape disk and whether that is in a file. It counts what its aggregations
-/// took and how many files were passed over. It has its OUT, whether that was written, and whether an answer lacks batches that it should
-/// have.
+/// took and how many files were passed over; an answer that lacks batches which it should have counts as one. It has its OUT, and whether
+/// that was written.
 #[derive(Drop)]
 pub struct Session<'c, R: Files, I, W, E> {
     inputs: Inputs<'c, R, I>,
     reporter: Reporter<'c, W, E>,
     disk: SpillDisk<SystemFile<R::File>>,
     in_file: bool,
-    work: Work,
+    executor: Executor,
     passed: usize,
     target: Target,
     is_written: bool,
-    is_short: bool,
 }
 
 impl<'c, R: Files + AllocGlobal + RandomSource, I: Read, W: Write, E: Write> Session<
@@ -142,11 +153,10 @@ impl<'c, R: Files + AllocGlobal + RandomSource, I: Read, W: Write, E: Write> Ses
             reporter: Reporter::new(streams),
             disk: SpillDisk::Memory(MemDisk::new(alloc)),
             in_file: false,
-            work: Work::none(),
+            executor: Executor::new(),
             passed: 0,
             target: Target::new(),
             is_written: false,
-            is_short: false,
         }
     }
 
@@ -159,9 +169,9 @@ impl<'c, R: Files + AllocGlobal + RandomSource, I: Read, W: Write, E: Write> Ses
         ensures told { OnOk result (Prints W.contents self.old.reporter self.new.reporter
             (reply_on_output self.old.reporter.is_piped (Refused problem.entry.why))) }
         ensures disk { self.new.disk ≡ self.old.disk }
-        ensures work { self.new.work ≡ self.old.work }
+        ensures work { self.new.executor ≡ self.old.executor }
         ensures target { self.new.target ≡ self.old.target }
-        ensures silent { self.old.reporter.is_piped ≡ true → OnlySays self.old.reporter self.new.reporter }
+        ensures unput { IfErr result (λ stopped. ending_of stopped.why ≢ Fault → OnlySays self.old.reporter self.new.reporter) }
     {
         if problem.is_fault() || self.target.is_at(place) {
             return Err(problem);
@@ -169,13 +179,14 @@ impl<'c, R: Files + AllocGlobal + RandomSource, I: Read, W: Write, E: Write> Ses
         self.passed = self.passed.saturating_add(1);
         self.reporter.complain(&problem, None);
         self.reporter
-            .reply_to(problem.subject, &Reply::Refused(problem.why))
+            .reply_to(problem.subject, &Reply::Refused(problem.why))?;
+        Ok(())
     }
 
     /// Removes the file in which the tapes lay, when nothing is spilled any more.
     fn remove_spill(&mut self, subcommand: Subcommand, matches: &ArgMatches<'_>)
         ensures says { OnlySays self.old.reporter self.new.reporter }
-        ensures counts { (self.new.passed ≡ self.old.passed) × (self.new.is_short ≡ self.old.is_short) }
+        ensures passed { self.new.passed ≡ self.old.passed }
     {
         if !self.in_file {
             return;
@@ -248,7 +259,7 @@ impl<'c, R: Files + AllocGlobal + RandomSource, I: Read, W: Write, E: Write> Ses
     ) -> Result<Reply<'static>, Problem<'p>>
         ensures takes { (file : Option (List ℕ))
             × TakesFile kind (is_in_memory self.old.disk) file replica.old replica.new (taken result)
-            × RanFile kind file replica.old means.now (taken result) self.old.disk self.old.work self.new.disk self.new.work }
+            × RanFile kind file replica.old means.now (taken result) self.old.disk self.old.executor self.new.disk self.new.executor }
         ensures passed { self.new.passed ≡ self.old.passed }
         ensures disk { is_in_memory self.new.disk ≡ is_in_memory self.old.disk }
         ensures says { OnlySays self.old.reporter self.new.reporter }
@@ -259,8 +270,8 @@ impl<'c, R: Files + AllocGlobal + RandomSource, I: Read, W: Write, E: Write> Ses
             Err(problem) => return Err(problem),
         };
         let alloc = self.inputs.rt.alloc();
-        let (disk, work) = (&mut self.disk, &mut self.work);
-        match take(alloc, kind, replica, &file, means, disk, work) {
+        let (disk, executor) = (&mut self.disk, &mut self.executor);
+        match take(alloc, kind, replica, &file, means, disk, executor) {
             Ok(reply) => {
                 self.reporter.tell_cut(input_name(path), &file, &reply);
                 self.target.keep_old(place, file);
@@ -282,14 +293,14 @@ impl<'c, R: Files + AllocGlobal + RandomSource, I: Read, W: Write, E: Write> Ses
     ) -> Result<(), Problem<'p>>
         ensures takes { OnOk result (TakesAll (manner_of kind means.now self.old.disk
             self.old.reporter.is_piped self.old.target.listed) place 1
-            (state_of replica.old self.old.disk self.old.work (output_of W.contents self.old.reporter))
-            (state_of replica.new self.new.disk self.new.work (output_of W.contents self.new.reporter))
+            (state_of replica.old self.old.disk self.old.executor (output_of W.contents self.old.reporter))
+            (state_of replica.new self.new.disk self.new.executor (output_of W.contents self.new.reporter))
             self.old.passed self.new.passed) }
         ensures stops { IfErr result (λ stopped. StopsAt self.old.target.listed place stopped.why) }
         ensures disk { is_in_memory self.new.disk ≡ is_in_memory self.old.disk }
         ensures piped { OnOk result (self.new.reporter.is_piped ≡ self.old.reporter.is_piped) }
         ensures listed { self.new.target.listed ≡ self.old.target.listed }
-        ensures silent { self.old.reporter.is_piped ≡ true → OnlySays self.old.reporter self.new.reporter }
+        ensures unput { IfErr result (λ stopped. ending_of stopped.why ≢ Fault → OnlySays self.old.reporter self.new.reporter) }
     {
         let reply = match self.take_file(kind, replica, path, place, means, spill) {
             Ok(reply) => reply,
@@ -310,13 +321,14 @@ impl<'c, R: Files + AllocGlobal + RandomSource, I: Read, W: Write, E: Write> Ses
     ) -> Result<(), Problem<'p>>
         ensures takes { OnOk result (TakesAll (manner_of kind means.now self.old.disk
             self.old.reporter.is_piped self.old.target.listed) 1 (length paths.now)
-            (state_of replica.old self.old.disk self.old.work (output_of W.contents self.old.reporter))
-            (state_of replica.new self.new.disk self.new.work (output_of W.contents self.new.reporter))
+            (state_of replica.old self.old.disk self.old.executor (output_of W.contents self.old.reporter))
+            (state_of replica.new self.new.disk self.new.executor (output_of W.contents self.new.reporter))
             self.old.passed self.new.passed) }
         ensures stops { IfErr result (λ stopped. (place : ℕ) × (place ≤ length paths.now)
             × StopsAt self.old.target.listed place stopped.why) }
         ensures piped { OnOk result (self.new.reporter.is_piped ≡ self.old.reporter.is_piped) }
-        ensures silent { self.old.reporter.is_piped ≡ true → OnlySays self.old.reporter self.new.reporter }
+        ensures unput { IfErr result (λ stopped. ending_of stopped.why ≢ Fault
+            → RepliesFew W.contents (length paths.now) self.old.reporter self.new.reporter) }
     {
         self.reporter.set_files(paths.len());
         let mut place: usize = 0;
@@ -384,6 +396,7 @@ impl<'c, R: Files + AllocGlobal + RandomSource, I: Read, W: Write, E: Write> Ses
         is_told: bool,
     ) -> Result<(), Problem<'p>>
         ensures answered { OnOk result (PrintsTable W.contents format replica.now self.old.reporter self.new.reporter) }
+        ensures lacking { OnOk result (self.new.passed ≡ lacking matches.now replica.now) }
         ensures unput { IfErr result (λ problem. ending_of problem.why ≢ Fault → OnlySays self.old.reporter self.new.reporter) }
     {
         let alloc = self.inputs.rt.alloc();
@@ -393,7 +406,7 @@ impl<'c, R: Files + AllocGlobal + RandomSource, I: Read, W: Write, E: Write> Ses
                 self.reporter.print(&found.1)?;
                 self.reporter.tell_waiting(&lines, format)?;
                 self.explain_answer(replica, is_told);
-                self.is_short = !lines.is_empty() && Subcommand::Answer.is_told(matches, COMPLETE);
+                self.passed = lacking(matches, &lines);
                 Ok(())
             }
             _ => Err(no_memory_for(matches)),
@@ -411,11 +424,11 @@ impl<'c, R: Files + AllocGlobal + RandomSource, I: Read, W: Write, E: Write> Ses
         means: &Means<Fnv1a>,
     ) -> Result<(), Problem<'p>>
         ensures saves { OnOk result (TakesAndSaves (manner_of kind means.now self.old.disk
-            self.old.reporter.is_piped self.old.target.listed) (length paths.now) (state_of replica.old self.old.disk self.old.work
+            self.old.reporter.is_piped self.old.target.listed) (length paths.now) (state_of replica.old self.old.disk self.old.executor
             (output_of W.contents self.old.reporter))
             self.old.passed self.new.passed (output_of W.contents self.new.reporter)) }
-        ensures unput { self.old.reporter.is_piped ≡ true
-            → IfErr result (λ problem. ending_of problem.why ≢ Fault → OnlySays self.old.reporter self.new.reporter) }
+        ensures unput { IfErr result (λ problem. ending_of problem.why ≢ Fault
+            → RepliesFew W.contents (length paths.now) self.old.reporter self.new.reporter) }
     {
         let spill = subcommand.spill(matches);
         self.take_files(kind, replica, paths, means, spill)?;
@@ -434,12 +447,12 @@ impl<'c, R: Files + AllocGlobal + RandomSource, I: Read, W: Write, E: Write> Ses
         means: &Means<Fnv1a>,
     ) -> Result<(), Problem<'p>>
         ensures performs { OnOk result (Performs subcommand matches.now means.now replica.old
-            (standpoint_of W.contents self.old.disk self.old.work self.old.target.listed self.old.passed self.old.reporter)
+            (standpoint_of W.contents self.old.disk self.old.executor self.old.target.listed self.old.passed self.old.reporter)
             self.new.passed (output_of W.contents self.new.reporter)) }
-        ensures unput { self.old.reporter.is_piped ≡ true
-            → IfErr result (λ problem. ending_of problem.why ≢ Fault → OnlySays self.old.reporter self.new.reporter) }
+        ensures unput { IfErr result (λ problem. ending_of problem.why ≢ Fault
+            → RepliesFew W.contents (files_told subcommand matches.now) self.old.reporter self.new.reporter) }
     {
-        let is_told = subcommand.is_told(matches, EXPLAIN);
+        let is_told = is_flag_told(matches, EXPLAIN);
         match subcommand {
             Subcommand::Known => self.list(replica, known_format_of(matches), matches, is_told),
             Subcommand::Answer => self.answer(replica, format_of(matches), matches, is_told),
@@ -472,7 +485,7 @@ impl<'c, R: Files + AllocGlobal + RandomSource, I: Read, W: Write, E: Write> Ses
         ensures begins { IfOk result (BeginsWith subcommand matches.now) }
         ensures says { OnlySays self.old.reporter self.new.reporter }
         ensures disk { self.new.disk ≡ self.old.disk }
-        ensures work { self.new.work ≡ self.old.work }
+        ensures work { self.new.executor ≡ self.old.executor }
         ensures listed { self.new.target.listed ≡ self.old.target.listed }
         ensures passed { self.new.passed ≡ self.old.passed }
     {
@@ -496,10 +509,10 @@ impl<'c, R: Files + AllocGlobal + RandomSource, I: Read, W: Write, E: Write> Ses
         means: &Means<Fnv1a>,
     ) -> Result<(), Problem<'p>>
         ensures ran { OnOk result (RunsCommand subcommand matches.now means.now
-            (standpoint_of W.contents self.old.disk self.old.work self.old.target.listed self.old.passed self.old.reporter)
+            (standpoint_of W.contents self.old.disk self.old.executor self.old.target.listed self.old.passed self.old.reporter)
             self.new.passed (output_of W.contents self.new.reporter)) }
-        ensures unput { self.old.reporter.is_piped ≡ true
-            → IfErr result (λ problem. ending_of problem.why ≢ Fault → OnlySays self.old.reporter self.new.reporter) }
+        ensures unput { IfErr result (λ problem. ending_of problem.why ≢ Fault
+            → RepliesFew W.contents (files_told subcommand matches.now) self.old.reporter self.new.reporter) }
     {
         let mut replica = self.first_replica(subcommand, matches)?;
         let done = self.perform(&mut replica, subcommand, matches, means);
@@ -510,16 +523,16 @@ impl<'c, R: Files + AllocGlobal + RandomSource, I: Read, W: Write, E: Write> Ses
     /// Tells what the grouping took, beside the limit, where that is asked for.
     fn explain(&mut self, is_told: bool, limit: u64)
         ensures says { OnlySays self.old.reporter self.new.reporter }
-        ensures counts { (self.new.passed ≡ self.old.passed) × (self.new.is_short ≡ self.old.is_short) }
+        ensures passed { self.new.passed ≡ self.old.passed }
     {
         if !is_told {
             return;
         }
         self.reporter.say(&Explained {
-            passes: self.work.passes,
-            spilled: self.work.spilled,
+            passes: self.executor.work().passes,
+            spilled: self.executor.work().spilled,
             pages: self.disk.writes(),
-            held: self.work.most_held,
+            held: self.executor.work().most_held,
             limit,
         });
     }
@@ -547,7 +560,8 @@ impl<'c, R: Files + AllocGlobal + RandomSource, I: Read, W: Write, E: Write> Ses
         why: Refusal,
     ) -> ExitKind
         ensures ends { result ≢ Done }
-        ensures silent { self.old.reporter.is_piped ≡ true → OnlySays self.old.reporter self.new.reporter }
+        ensures stops { result ≢ Fault → StopsBy W.contents why result self.old.reporter self.new.reporter
+            ⊎ ((result ≡ BadUsage) × OnlySays self.old.reporter self.new.reporter) }
     {
         let alloc = self.inputs.rt.alloc();
         let reason = match said_of_limit(alloc, matches, why) {
@@ -571,7 +585,7 @@ impl<'c, R: Files + AllocGlobal + RandomSource, I: Read, W: Write, E: Write> Ses
         problem: Problem<'_>,
     ) -> ExitKind
         ensures ends { EndsRefused problem.entry.why result }
-        ensures silent { self.old.reporter.is_piped ≡ true → OnlySays self.old.reporter self.new.reporter }
+        ensures stops { result ≢ Fault → StopsBy W.contents problem.entry.why result self.old.reporter self.new.reporter }
     {
         let output = self.output_status(subcommand, matches);
         self.reporter.stop(problem, output)
@@ -587,7 +601,7 @@ impl<'c, R: Files + AllocGlobal + RandomSource, I: Read, W: Write, E: Write> Ses
         requires { self.old.reporter.is_piped ≡ is_out_stream subcommand matches.now }
         ensures done { result ≡ Done → IsDone R.File subcommand matches.now 0 (output_of W.contents self.old.reporter)
             (output_of W.contents self.new.reporter) }
-        ensures stopped { result ≢ Fault → is_out_stream subcommand matches.now ≡ true → IsDoneOrSilent R.File subcommand matches.now
+        ensures stopped { result ≢ Fault → IsDoneOrStopped R.File subcommand matches.now result
             (output_of W.contents self.old.reporter) (output_of W.contents self.new.reporter) }
     {
         match means_of(subcommand, matches) {
@@ -606,7 +620,7 @@ impl<'c, R: Files + AllocGlobal + RandomSource, I: Read, W: Write, E: Write> Ses
         requires { self.old.reporter.is_piped ≡ is_out_stream subcommand matches.now }
         ensures done { result ≡ Done → IsDone R.File subcommand matches.now 0 (output_of W.contents self.old.reporter)
             (output_of W.contents self.new.reporter) }
-        ensures stopped { result ≢ Fault → is_out_stream subcommand matches.now ≡ true → IsDoneOrSilent R.File subcommand matches.now
+        ensures stopped { result ≢ Fault → IsDoneOrStopped R.File subcommand matches.now result
             (output_of W.contents self.old.reporter) (output_of W.contents self.new.reporter) }
     {
         match looked {
@@ -620,7 +634,7 @@ impl<'c, R: Files + AllocGlobal + RandomSource, I: Read, W: Write, E: Write> Ses
         ensures done { result ≡ Done → IsDone R.File subcommand matches.now 0 (session_output W.contents self.old)
             (session_output W.contents self.new) }
         ensures sent { result ≡ Done → session_failed self.new ≡ false }
-        ensures stopped { result ≢ Fault → is_out_stream subcommand matches.now ≡ true → IsDoneOrSilent R.File subcommand matches.now
+        ensures stopped { result ≢ Fault → IsDoneOrStopped R.File subcommand matches.now result
             (session_output W.contents self.old) (session_output W.contents self.new) }
     {
         let rt = self.inputs.rt;
@@ -663,7 +677,7 @@ impl<'c, R: Files + AllocGlobal + RandomSource, I: Read, W: Write, E: Write> Ses
     ) -> Result<(), Problem<'p>>
         ensures says { OnlySays self.old.reporter self.new.reporter }
         ensures disk { self.new.disk ≡ self.old.disk }
-        ensures work { self.new.work ≡ self.old.work }
+        ensures work { self.new.executor ≡ self.old.executor }
         ensures listed { self.new.target.listed ≡ self.old.target.listed }
         ensures passed { self.new.passed ≡ self.old.passed }
     {
@@ -713,10 +727,10 @@ impl<'c, R: Files + AllocGlobal + RandomSource, I: Read, W: Write, E: Write> Ses
     ) -> ExitKind
         requires limited { limit_of (limit_told subcommand matches.now) ≡ Some means.limit }
         requires stands { StandsAsTold subcommand matches.now
-            (standpoint_of W.contents self.old.disk self.old.work self.old.target.listed self.old.passed self.old.reporter) }
+            (standpoint_of W.contents self.old.disk self.old.executor self.old.target.listed self.old.passed self.old.reporter) }
         ensures done { result ≡ Done → IsDone R.File subcommand matches.now 0 (output_of W.contents self.old.reporter)
             (output_of W.contents self.new.reporter) }
-        ensures stopped { result ≢ Fault → is_out_stream subcommand matches.now ≡ true → IsDoneOrSilent R.File subcommand matches.now
+        ensures stopped { result ≢ Fault → IsDoneOrStopped R.File subcommand matches.now result
             (output_of W.contents self.old.reporter) (output_of W.contents self.new.reporter) }
     {
         match self.seeded(subcommand, means) {
@@ -737,10 +751,10 @@ impl<'c, R: Files + AllocGlobal + RandomSource, I: Read, W: Write, E: Write> Ses
         requires piped { self.old.reporter.is_piped ≡ is_out_stream subcommand matches.now }
         ensures done { result ≡ Done → IsDone R.File subcommand matches.now 0 (output_of W.contents self.old.reporter)
             (output_of W.contents self.new.reporter) }
-        ensures stopped { result ≢ Fault → is_out_stream subcommand matches.now ≡ true → IsDoneOrSilent R.File subcommand matches.now
+        ensures stopped { result ≢ Fault → IsDoneOrStopped R.File subcommand matches.now result
             (output_of W.contents self.old.reporter) (output_of W.contents self.new.reporter) }
     {
-        let is_asked = subcommand.is_told(matches, PROGRESS);
+        let is_asked = is_flag_told(matches, PROGRESS);
         self.reporter.set_progress(is_asked);
         if let Err(problem) = self.try_before(subcommand, matches) {
             return self.refuse(subcommand, matches, problem);
@@ -780,19 +794,19 @@ impl<'c, R: Files + AllocGlobal + RandomSource, I: Read, W: Write, E: Write> Ses
         matches: &ArgMatches<'_>,
         done: Result<(), Problem<'_>>,
     ) -> ExitKind
-        ensures done { OnOk done.entry (result ≡ ending_beside self.old.passed self.old.is_short) }
+        ensures done { OnOk done.entry (result ≡ ending_beside self.old.passed) }
         ensures refused { IfErr done.entry (λ problem. EndsRefused problem.why result) }
         ensures stays { result ≡ Done → self.new ≡ self.old }
         ensures told { OnOk done.entry (OnlySays self.old.reporter self.new.reporter) }
         ensures passed { self.new.passed ≡ self.old.passed }
-        ensures silent { self.old.reporter.is_piped ≡ true → OnlySays self.old.reporter self.new.reporter }
+        ensures stops { IfErr done.entry (λ problem. result ≢ Fault
+            → StopsBy W.contents problem.why result self.old.reporter self.new.reporter) }
     {
         match done {
             Ok(()) if self.passed > 0 => {
                 self.tell_passed(subcommand, matches);
                 ExitKind::Refused
             }
-            Ok(()) if self.is_short => ExitKind::Refused,
             Ok(()) => ExitKind::Done,
             Err(problem) => {
                 let output = self.output_status(subcommand, matches);
@@ -809,18 +823,16 @@ impl<'c, R: Files + AllocGlobal + RandomSource, I: Read, W: Write, E: Write> Ses
         means: &Means<Fnv1a>,
     ) -> ExitKind
         ensures ran { result ≡ Done → RunsCommand subcommand matches.now means.now
-            (standpoint_of W.contents self.old.disk self.old.work self.old.target.listed self.old.passed self.old.reporter)
+            (standpoint_of W.contents self.old.disk self.old.executor self.old.target.listed self.old.passed self.old.reporter)
             0 (output_of W.contents self.new.reporter) }
         ensures passed { result ≡ Done → self.new.passed ≡ 0 }
-        ensures short { result ≡ Done → self.new.is_short ≡ false }
-        ensures stopped { result ≢ Fault → self.old.reporter.is_piped ≡ true → RunsCommand subcommand matches.now means.now
-            (standpoint_of W.contents self.old.disk self.old.work self.old.target.listed self.old.passed self.old.reporter)
-            self.new.passed (output_of W.contents self.new.reporter) ⊎ OnlySays self.old.reporter self.new.reporter }
+        ensures stopped { result ≢ Fault → RunsCommand subcommand matches.now means.now
+            (standpoint_of W.contents self.old.disk self.old.executor self.old.target.listed self.old.passed self.old.reporter)
+            self.new.passed (output_of W.contents self.new.reporter) × (result ≡ ending_beside self.new.passed)
+            ⊎ RefusedAfter W.contents (files_told subcommand matches.now) result self.old.reporter self.new.reporter }
     {
         let done = self.run_command(subcommand, matches, means);
-        let is_told = done.is_ok()
-            && subcommand.aggregates()
-            && subcommand.is_told(matches, EXPLAIN);
+        let is_told = done.is_ok() && subcommand.aggregates() && is_flag_told(matches, EXPLAIN);
         self.explain(is_told, means.limit());
         self.end(subcommand, matches, done)
     }

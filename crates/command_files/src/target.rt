@@ -13,7 +13,7 @@ use crate::files::{front_kind, occupant_of_out, try_files, write_out};
 use clap::ArgMatches;
 use command_replicas::SummaryFile;
 use command_streams::Problem;
-use command_words::{FORCE, NO_CLOBBER, Subcommand, is_stream, output_name};
+use command_words::{FORCE, NO_CLOBBER, Subcommand, is_flag_told, is_stream, output_name};
 use file_sentences::{Fate, FrontKind, Standing};
 use out_files::{Occupant, Place};
 use replies::Refusal;
@@ -156,16 +156,16 @@ impl Target {
         matches: &ArgMatches<'p>,
         out: &'p str,
     ) -> Result<Option<Standing<'p>>, Problem<'p>>
-        ensures unforced { IsUnforced subcommand matches.now → IfOk result (λ found. IfSome found (λ standing. standing.fate ≢ Forced)) }
+        ensures unforced { IsUnforced matches.now → IfOk result (λ found. IfSome found (λ standing. standing.fate ≢ Forced)) }
         ensures bytes { self.new.bytes ≡ self.old.bytes }
     {
-        let keeps = subcommand.is_told(matches, NO_CLOBBER);
+        let keeps = is_flag_told(matches, NO_CLOBBER);
         let occupant = match occupant_of_out(rt, subcommand, matches, out) {
             Ok(occupant) => occupant,
             Err(problem) if keeps || problem.why == Refusal::NoMemory => return Err(problem),
             Err(_) => return Ok(None),
         };
-        let is_forced = subcommand.is_told(matches, FORCE);
+        let is_forced = is_flag_told(matches, FORCE);
         match self.fate_of(rt, keeps, is_forced, out, occupant)? {
             Some(fate) => Ok(Some(Standing { out, fate })),
             None => Ok(None),
@@ -186,7 +186,7 @@ impl Target {
         ensures stream { is_out_stream subcommand matches.now ≡ true → is_terminal ≡ false → result ≡ Ok None }
         ensures shown { is_out_stream subcommand matches.now ≡ true
             → IfOk result (λ found. IfSome found (λ standing. standing.fate ≡ Shown)) }
-        ensures unforced { IsUnforced subcommand matches.now → IfOk result (λ found. IfSome found (λ standing. standing.fate ≢ Forced)) }
+        ensures unforced { IsUnforced matches.now → IfOk result (λ found. IfSome found (λ standing. standing.fate ≢ Forced)) }
     {
         let Some(out) = subcommand.out(matches) else {
             return Ok(None);
@@ -194,7 +194,7 @@ impl Target {
         if !is_stream(out) {
             return self.look_at(rt, subcommand, matches, out);
         }
-        if !is_terminal || subcommand.is_told(matches, FORCE) {
+        if !is_terminal || is_flag_told(matches, FORCE) {
             return Ok(None);
         }
         Ok(Some(Standing {

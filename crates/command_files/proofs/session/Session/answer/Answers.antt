@@ -1,10 +1,14 @@
-use Rattle.std.proofs.Common.{subst}
+use Rattle.std.specs.Prelude.{codes, length}
+use Rattle.std.proofs.Common.{◌∙◌, ap, subst}
+use Rattle.command_words.specs.Told.{is_flag_told}
+use Rattle.command_files.specs.Ending.{lacking_of}
 use Rattle.command_files.specs.Reporting.{Prints}
 use Rattle.command_files.proofs.ReportingLaws.{prints_more, table_before}
+use Rattle.command_files.proofs.RunningLaws.{lacking_few}
 use Rattle.command_files.proofs.session.Session.answer.Goals as goal
 
-pub returns-after-not-is_empty : goal.returns-after-not-is_empty
-returns-after-not-is_empty g c =
+pub returns-in_ok-tell_waiting-in-Ok-Ok : goal.returns-in_ok-tell_waiting-in-Ok-Ok
+returns-in_ok-tell_waiting-in-Ok-Ok g c =
     let foot = c.in_ok-tell_waiting-in-Ok-Ok.ensures.told in
     let text = subst (λ l. Prints g.W.Write.contents c.args.self.now.reporter c.print.new.self l) c.deref.ensures.value
     c.in_ok-print-in-Ok-Ok.ensures.printed in
@@ -19,5 +23,7 @@ returns-after-not-is_empty g c =
             printed = prints_more g.W.Write.contents c.args.self.now.reporter c.print.new.self c.tell_waiting.new.self
                 c.in-Ok-Ok.found.1.items foot.0 text foot.1;
           }) c.explain_answer.ensures.says;
+      lacking = c.lacking-self.ensures ∙ ap (λ n. lacking_of (is_flag_told c.args.matches.now (codes "complete")) n)
+          (ap length c.deref-in-Ok-Ok-2.ensures.value) ∙ lacking_few _ _ _ c.in-Ok-Ok.ensures.told;
       unput = tt;
     }

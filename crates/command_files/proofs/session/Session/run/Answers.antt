@@ -12,11 +12,11 @@ was_done : (has_failed : Bool) (exit result : ExitKind) → (has_failed ≡ fals
 was_done false exit result sent failed done = sym (sent refl) ∙ done
 was_done true exit result sent failed done = let e : Fault ≡ Done = sym (failed refl) ∙ done in absurd cc
 
--- and ends by a fault if it did before that
-was_sound : (has_failed : Bool) (exit result : ExitKind) → (has_failed ≡ false → result ≡ exit) → (has_failed ≡ true → result ≡ Fault)
-    → result ≢ Fault → exit ≢ Fault
-was_sound false exit result sent failed sound = λ fault. sound (sent refl ∙ fault)
-was_sound true exit result sent failed sound = absurd (sound (failed refl))
+-- and where no call of the output failed, it ends as it did before
+was_same : (has_failed : Bool) (exit result : ExitKind) → (has_failed ≡ false → result ≡ exit) → (has_failed ≡ true → result ≡ Fault)
+    → result ≢ Fault → result ≡ exit
+was_same false exit result sent failed sound = sent refl
+was_same true exit result sent failed sound = absurd (sound (failed refl))
 
 pub returns-clause-done : goal.returns-clause-done
 returns-clause-done g c is =
@@ -29,10 +29,10 @@ returns-clause-done g c is =
     done_kept _ c.args.subcommand c.args.matches.now 0 _ _ _ told.keeps begun
 
 pub returns-clause-stopped : goal.returns-clause-stopped
-returns-clause-stopped g c sound piped =
+returns-clause-stopped g c sound =
     let told = c.finish.ensures in
-    let before = was_sound (has_failed c.finish.new.self.streams.writer.now) c.run_looked-exit.result c.finish.result told.sent told.failed
-    sound in
-    let begun = stopped_behind _ g.W.Write.contents c.args.subcommand c.args.matches.now c.args.self.now.reporter c.set_piped.new.self _
-    c.set_piped.ensures.output (c.run_looked-exit.ensures.stopped before piped) in
-    stopped_kept _ c.args.subcommand c.args.matches.now _ _ _ told.keeps begun
+    let exit = c.run_looked-exit.result in
+    let same = was_same (has_failed c.finish.new.self.streams.writer.now) exit c.finish.result told.sent told.failed sound in
+    let begun = stopped_behind _ g.W.Write.contents c.args.subcommand c.args.matches.now exit c.args.self.now.reporter
+    c.set_piped.new.self _ c.set_piped.ensures.output (c.run_looked-exit.ensures.stopped (λ fault. sound (same ∙ fault))) in
+    stopped_kept _ c.args.subcommand c.args.matches.now exit c.finish.result _ _ _ told.keeps same begun

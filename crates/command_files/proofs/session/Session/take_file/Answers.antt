@@ -24,7 +24,7 @@ returns-clause-takes g c = (
       (took_over c.args.kind _ _ c.deref.result.now c.args.replica.now c.take.new.replica (Err c.in-Err-take.why)
       (honest_in_memory c.args.self.now.disk) c.in-Err-take.ensures.takes),
   ran_as c.args.kind (Some c.deref.result.now) c.args.replica.now c.args.means.now c.in-Err-take.why c.refused.result.why
-      c.args.self.now.disk c.args.self.now.work c.take.new.disk c.take.new.work c.refused.ensures c.in-Err-take.ensures.ran,
+      c.args.self.now.disk c.args.self.now.executor c.take.new.disk c.take.new.executor c.refused.ensures c.in-Err-take.ensures.ran,
 )
 
 pub returns-clause-disk : goal.returns-clause-disk

@@ -1,9 +1,10 @@
 use Rattle.std.specs.Prelude.{◌≡◌, refl, ℕ, ◌+◌, ◌<◌, ◌^◌, length}
 use Rattle.std.proofs.Common.{◌∙◌, arith, rules, subst}
+use Rattle.std.proofs.lemmas.Result.{err_from_is_err_and}
 use Rattle.command_files.specs.Reporting.{output_of}
 use Rattle.command_files.specs.Taking.{TakesAll, manner_of, state_of}
-use Rattle.command_files.proofs.ReportingLaws.{says_more}
-use Rattle.command_files.proofs.TakingLaws.{takes_as, takes_more, takes_none_yet}
+use Rattle.command_files.proofs.ReportingLaws.{replies_before, replies_fewer}
+use Rattle.command_files.proofs.TakingLaws.{replies_taken, takes_as, takes_more, takes_none_yet}
 use Rattle.command_files.proofs.session.Session.take_files.Goals as goal
 
 pub loop-path-init : goal.loop-path-init
@@ -12,7 +13,6 @@ loop-path-init g c = record {
   place = refl;
   disk = refl;
   piped = c.set_files.ensures.says.piped;
-  silent = λ piped. c.set_files.ensures.says;
   listed = refl;
   taken = takes_none_yet g.W.Write.contents _ 1 _ _ _ c.args.self.now.reporter c.set_files.new.self _ c.set_files.ensures.says;
 }
@@ -34,13 +34,11 @@ loop-path-preserved g c =
       place = omega (arith, next);
       disk = c.take_or_pass.ensures.disk ∙ before.disk;
       piped = c.in_ok-take_or_pass.ensures.piped ∙ before.piped;
-      silent = λ piped. says_more c.args.self.now.reporter c.loop-path.self.reporter c.take_or_pass.new.self.reporter (before.silent piped)
-          (c.take_or_pass.ensures.silent (before.piped ∙ piped));
       listed = c.take_or_pass.ensures.listed ∙ before.listed;
       taken = takes_more manner 1 c.loop-path.path-index 1 _ _ _ _ _ _ before.taken (subst (λ n. TakesAll manner n 1
-          (state_of c.loop-path.replica c.loop-path.self.disk c.loop-path.self.work
+          (state_of c.loop-path.replica c.loop-path.self.disk c.loop-path.self.executor
           (output_of g.W.Write.contents c.loop-path.self.reporter))
-          (state_of c.take_or_pass.new.replica c.take_or_pass.new.self.disk c.take_or_pass.new.self.work
+          (state_of c.take_or_pass.new.replica c.take_or_pass.new.self.disk c.take_or_pass.new.self.executor
           (output_of g.W.Write.contents c.take_or_pass.new.self.reporter)) c.loop-path.self.passed c.take_or_pass.new.self.passed) next
           took);
     }
@@ -52,6 +50,21 @@ returns-clause-takes g c =
     let all : c.loop-path.path-index ≡ length c.args.paths.now = omega (arith, within, past) in
     subst (λ (n : ℕ). TakesAll (manner_of c.args.kind c.args.means.now c.args.self.now.disk c.args.self.now.reporter.is_piped
     c.args.self.now.target.listed) 1 n
-    (state_of c.args.replica.now c.args.self.now.disk c.args.self.now.work (output_of g.W.Write.contents c.args.self.now.reporter))
-    (state_of c.loop-path.replica c.loop-path.self.disk c.loop-path.self.work (output_of g.W.Write.contents c.loop-path.self.reporter))
+    (state_of c.args.replica.now c.args.self.now.disk c.args.self.now.executor (output_of g.W.Write.contents c.args.self.now.reporter))
+    (state_of c.loop-path.replica c.loop-path.self.disk c.loop-path.self.executor (output_of g.W.Write.contents c.loop-path.self.reporter))
     c.args.self.now.passed c.loop-path.self.passed) all c.loop-path.invariant.taken
+
+pub returns-in_err-take_or_pass-clause-unput : goal.returns-in_err-take_or_pass-clause-unput
+returns-in_err-take_or_pass-clause-unput g c =
+    let before = c.loop-path.invariant in
+    let low = c.loop-path-test.true in
+    let manner = manner_of c.args.kind c.args.means.now c.args.self.now.disk c.args.self.now.reporter.is_piped
+    c.args.self.now.target.listed in
+    let old = c.args.self.now.reporter in
+    let told = replies_taken g.W.Write.contents manner 1 c.loop-path.path-index _ _ _ _ _ _ _ _ old c.loop-path.self.reporter
+    before.taken refl before.piped in
+    let p = err_from_is_err_and c.from_residual.result c.from_residual.ensures.1 in
+    rw (p.1, p.2) (λ sound. replies_fewer g.W.Write.contents c.loop-path.path-index (length c.args.paths.now) old
+    c.take_or_pass.new.self.reporter (omega (arith, low))
+    (replies_before g.W.Write.contents c.loop-path.path-index old c.loop-path.self.reporter c.take_or_pass.new.self.reporter told
+    (c.in_err-take_or_pass.ensures.unput sound)))

@@ -1,6 +1,6 @@
 use Rattle.std.specs.Prelude.{◌≡◌, ◌≤◌, length, true}
 use Rattle.command_streams.specs.Disks.{is_in_memory}
-use Rattle.command_files.specs.Reporting.{output_of, OnlySays}
+use Rattle.command_files.specs.Reporting.{output_of}
 use Rattle.command_files.specs.Taking.{TakesAll, manner_of, state_of}
 use Rattle.command_files.proofs.session.Session.take_files.Given as goal
 
@@ -11,9 +11,8 @@ invariant-loop-path g l =
       place : l.place ≡ l.path-index;
       disk : is_in_memory l.self.disk ≡ is_in_memory l.fn.self.disk;
       piped : l.self.reporter.is_piped ≡ l.fn.self.reporter.is_piped;
-      silent : l.fn.self.reporter.is_piped ≡ true → OnlySays l.fn.self.reporter l.self.reporter;
       listed : l.self.target.listed ≡ l.fn.self.target.listed;
       taken : TakesAll (manner_of l.kind l.means l.fn.self.disk l.fn.self.reporter.is_piped l.fn.self.target.listed) 1 l.path-index
-          (state_of l.fn.replica l.fn.self.disk l.fn.self.work (output_of g.W.Write.contents l.fn.self.reporter))
-          (state_of l.replica l.self.disk l.self.work (output_of g.W.Write.contents l.self.reporter)) l.fn.self.passed l.self.passed;
+          (state_of l.fn.replica l.fn.self.disk l.fn.self.executor (output_of g.W.Write.contents l.fn.self.reporter))
+          (state_of l.replica l.self.disk l.self.executor (output_of g.W.Write.contents l.self.reporter)) l.fn.self.passed l.self.passed;
     }
