@@ -60,6 +60,10 @@ fn make_file(
     let places = checked_places(alloc, &names, &header, layout.skips_columns)?;
     let width = header.len();
     let (rows, lines) = row_lines(alloc, layout.null, &places, width, &mut records)?;
+    drop(records);
+    drop(places);
+    drop(header);
+    drop(names);
     let mut file = head_line(alloc, origin, number, rows)?;
     file.extend_from_slice(&lines)?;
     Ok(file)
