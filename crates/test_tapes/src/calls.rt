@@ -1,8 +1,17 @@
 //! Tapes over a disk. Each call is made where its condition holds; else it answers `NoMemory`, which no test wants.
 
-use spill_tapes::{TapeDisk, TapeError, TapeId, Tapes};
+use crate::disks::Marks;
+use spill_tapes::{MemDisk, TapeDisk, TapeError, TapeId, Tapes};
 use std::alloc::Global;
 use std::test::*;
+
+/// A disk in memory that keeps how far it was written.
+pub(crate) fn marks(alloc: Global) -> Marks {
+    Marks {
+        inner: MemDisk::new(alloc),
+        end: 0,
+    }
+}
 
 /// Tapes, and the disk that they lie on.
 #[derive(Drop)]

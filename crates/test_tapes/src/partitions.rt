@@ -1,12 +1,13 @@
 //! Partitions that passes spill, and read again.
 ghost use Rattle.std.specs.Prelude.{◌≡◌, [], false, OnOk};
 
+use crate::calls::marks;
 use crate::disks::{Marks, failing, flipping};
 use spill_partitions::{SpillError, SpillPartitions};
-use spill_tapes::{MemDisk, TapeDisk};
+use spill_tapes::TapeDisk;
 use std::alloc::Global;
 use std::test::*;
-use test_cases::expect;
+use test_cases::expect_lines;
 
 /// Partitions, the disk that they lie on, and the bytes of the record that was read last.
 #[derive(Drop)]
@@ -117,18 +118,6 @@ fn tell_writes(alloc: Global, writes: u64, text: &mut String) -> Result<(), Fail
     Ok(text.push_str(&told)?)
 }
 
-/// What is told of records once a pass has spilled them, and how many writes there were.
-fn spilled(alloc: Global, records: &[(u32, u8, &[u8])]) -> Result<String, Fail> {
-    let mut spool = Spool::new(alloc, MemDisk::new(alloc));
-    let mut text = String::new(alloc);
-    let told = spool.tell_spilled(records, &mut text);
-    let writes = spool.disk.writes();
-    drop(spool);
-    told?;
-    tell_writes(alloc, writes, &mut text)?;
-    Ok(text)
-}
-
 /// Records on three partitions: their hashes, tags and bytes.
 const RECORDS: [(u32, u8, &[u8]); 7] = [
     (0x1000_0000, 0, b"a"),
@@ -140,40 +129,18 @@ const RECORDS: [(u32, u8, &[u8]); 7] = [
     (0x1000_0000, 0, b"a"),
 ];
 
-#[test]
-fn records_fall_on_partitions_by_the_first_digit(rt: HostRuntime) -> Result<(), Fail> {
-    expect(
-        spilled(rt.alloc(), &RECORDS),
-        "[ f0000001/1/b f0000001/0/d ][ 10000000/0/a 1fffffff/1/ 10000000/0/a ][ 0/0/c abcdef0/0/e ] 3 written",
-    )
-}
-
 impl<D: TapeDisk + Drop> Spool<D> {
-    /// Whether there is no record, before one is spilled, behind it and behind the end of the pass.
-    fn emptiness(&mut self) -> Result<[bool; 3], Fail>
+    /// Tells whether there is no record, before one is spilled, behind it and behind the end of the pass.
+    fn tell_emptiness(&mut self, text: &mut String) -> Result<(), Fail>
         requires alive { self.old.partitions.tapes.is_dead ≡ false }
     {
         let before = self.partitions.is_empty();
         self.spill(7, 0, b"")?;
         let behind = self.partitions.is_empty();
         self.partitions.end_pass(&mut self.disk)?;
-        Ok([before, behind, self.partitions.is_empty()])
+        let told = format!(in self.alloc; "{before} {behind} {}", self.partitions.is_empty())?;
+        Ok(text.push_str(&told)?)
     }
-}
-
-/// Whether new partitions have no record, before one is spilled, behind it and behind the end of the pass.
-fn emptiness_in_memory(alloc: Global) -> Result<[bool; 3], Fail> {
-    let mut spool = Spool::new(alloc, MemDisk::new(alloc));
-    let told = spool.emptiness();
-    drop(spool);
-    told
-}
-
-#[test]
-fn without_records_there_is_no_partition(rt: HostRuntime) -> Result<(), Fail> {
-    expect(spilled(rt.alloc(), &[]), " 0 written")?;
-    assert!(rt; emptiness_in_memory(rt.alloc())? == [true, false, true]);
-    Ok(())
 }
 
 /// How often a record is spilled before it is told.
@@ -225,7 +192,7 @@ impl<D: TapeDisk + Drop> Spool<D> {
     }
 
     /// The numbers of records, in the order in which passes tell them.
-    fn tell_apart(
+    fn told_apart(
         &mut self,
         records: &[(u32, u8, &[u8])],
         numbers: &mut Vec<u8>,
@@ -236,6 +203,19 @@ impl<D: TapeDisk + Drop> Spool<D> {
         self.spill_all(records)?;
         self.partitions.end_pass(&mut self.disk)?;
         self.passes(numbers)
+    }
+
+    /// Tells the same.
+    fn tell_apart(&mut self, records: &[(u32, u8, &[u8])], text: &mut String) -> Result<(), Fail>
+        requires alive { self.old.partitions.tapes.is_dead ≡ false }
+        requires reading { self.old.partitions.reading ≡ [] }
+    {
+        let mut numbers = Vec::new(self.alloc);
+        let apart = self.told_apart(records, &mut numbers);
+        let told = format!(in self.alloc; "{:?}", numbers.as_slice());
+        drop(numbers);
+        apart?;
+        Ok(text.push_str(&told?)?)
     }
 }
 
@@ -254,24 +234,6 @@ const HASHES: [(u32, u8, &[u8]); 12] = [
     (0x7fff_ffff, 0, &[1, 10]),
     (0x1234_5678, 1, &[1, 11]),
 ];
-
-/// The numbers of these records over a disk in memory.
-fn told_apart_in_memory(alloc: Global) -> Result<Vec<u8>, Fail> {
-    let mut spool = Spool::new(alloc, MemDisk::new(alloc));
-    let mut numbers = Vec::new(alloc);
-    let told = spool.tell_apart(&HASHES, &mut numbers);
-    drop(spool);
-    told?;
-    Ok(numbers)
-}
-
-/// Since the last partition comes first, what eight passes tell apart comes by falling hashes; what they do not comes as it was spilled.
-#[test]
-fn eight_passes_tell_all_hashes_apart(rt: HostRuntime) -> Result<(), Fail> {
-    let numbers = told_apart_in_memory(rt.alloc())?;
-    assert!(rt; numbers.as_slice() == [3, 7, 9, 10, 6, 2, 5, 11, 4, 1, 0, 8].as_slice());
-    Ok(())
-}
 
 /// How many records there are on 16 partitions, each of which has many pages.
 const MANY: u32 = 4000;
@@ -405,61 +367,67 @@ impl<D: TapeDisk + Drop> Spool<D> {
     }
 }
 
-/// How many of these records come wrong, twice, and how far the disk was written each time.
-fn two_turns(spool: &mut Spool<Marks>) -> Result<([u32; 2], [u64; 2]), Fail>
-    requires alive { spool.old.partitions.tapes.is_dead ≡ false }
-    requires reading { spool.old.partitions.reading ≡ [] }
-{
-    let first = spool.wrong_of_many(false)?;
-    let end = spool.disk.end;
-    let second = spool.wrong_of_many(true)?;
-    Ok(([first, second], [end, spool.disk.end]))
+impl Spool<Marks> {
+    /// Tells the records that a pass has spilled, and how many writes there were.
+    fn tell_written(&mut self, records: &[(u32, u8, &[u8])], text: &mut String) -> Result<(), Fail>
+        requires alive { self.old.partitions.tapes.is_dead ≡ false }
+        requires reading { self.old.partitions.reading ≡ [] }
+    {
+        self.tell_spilled(records, text)?;
+        tell_writes(self.alloc, self.disk.inner.writes(), text)
+    }
+
+    /// Tells how many of these records come wrong, twice, and whether the disk was written as far each time.
+    fn tell_turns(&mut self, text: &mut String) -> Result<(), Fail>
+        requires alive { self.old.partitions.tapes.is_dead ≡ false }
+        requires reading { self.old.partitions.reading ≡ [] }
+    {
+        let first = self.wrong_of_many(false)?;
+        let end = self.disk.end;
+        let second = self.wrong_of_many(true)?;
+        let told = format!(in self.alloc; "{first} {second} {}", self.disk.end == end)?;
+        Ok(text.push_str(&told)?)
+    }
+
+    /// Tells what a case names.
+    fn tell_case(&mut self, case: &str, text: &mut String) -> Result<(), Fail>
+        requires alive { self.old.partitions.tapes.is_dead ≡ false }
+        requires reading { self.old.partitions.reading ≡ [] }
+    {
+        match case {
+            "records" => self.tell_written(&RECORDS, text),
+            "no records" => self.tell_written(&[], text),
+            "emptiness" => self.tell_emptiness(text),
+            "eight passes" => self.tell_apart(&HASHES, text),
+            _ => self.tell_turns(text),
+        }
+    }
 }
 
-/// How many of these records come wrong of new partitions, twice, and how far the disk was written each time.
-fn two_turns_of_new_partitions(alloc: Global) -> Result<([u32; 2], [u64; 2]), Fail> {
-    let disk = Marks {
-        inner: MemDisk::new(alloc),
-        end: 0,
-    };
-    let mut spool = Spool::new(alloc, disk);
-    let told = two_turns(&mut spool);
+/// What is told of a case over a disk in memory.
+fn told_over_marks(alloc: Global, case: &str) -> Result<String, Fail> {
+    let mut spool = Spool::new(alloc, marks(alloc));
+    let mut text = String::new(alloc);
+    let told = spool.tell_case(case, &mut text);
     drop(spool);
-    told
+    told?;
+    Ok(text)
 }
 
-#[test]
-fn many_records_are_read_again_and_their_pages_used_again(rt: HostRuntime) -> Result<(), Fail> {
-    let (wrong, ends) = two_turns_of_new_partitions(rt.alloc())?;
-    assert!(rt; wrong == [0, 0] && ends[1] == ends[0]);
-    Ok(())
-}
-
-/// Whether a record is spilled over a disk that fails to write, and why it or the end of the pass is refused.
-fn write_fault(alloc: Global, bytes: &[u8]) -> Result<(bool, Option<SpillError>), Fail> {
+/// Tells whether a record is spilled over a disk that fails to write, and why it or the end of the pass is refused.
+fn write_fault(alloc: Global, bytes: &[u8]) -> Result<String, Fail> {
     if bytes.len() > 65535 {
         return Err(Fail::from("no record"));
     }
     let mut disk = failing(alloc, 0);
     let mut partitions = SpillPartitions::new(alloc, &disk);
-    match partitions.spill(&mut disk, 7, 0, bytes) {
-        Ok(()) => Ok((true, partitions.end_pass(&mut disk).err())),
-        Err(error) => Ok((false, Some(error))),
-    }
-}
-
-#[test]
-fn a_fault_is_told(rt: HostRuntime) -> Result<(), Fail> {
-    let told = write_fault(rt.alloc(), b"ab")?;
-    assert!(rt; told == (true, Some(SpillError::TapeFault)));
-    Ok(())
-}
-
-#[test]
-fn a_fault_of_a_full_page_is_told(rt: HostRuntime) -> Result<(), Fail> {
-    let told = write_fault(rt.alloc(), &[b'x'; 9000])?;
-    assert!(rt; told == (false, Some(SpillError::TapeFault)));
-    Ok(())
+    let spilled = partitions.spill(&mut disk, 7, 0, bytes);
+    let refused = match spilled {
+        Ok(()) => partitions.end_pass(&mut disk),
+        Err(error) => Err(error),
+    };
+    drop(partitions);
+    Ok(format!(in alloc; "{spilled:?} {refused:?}")?)
 }
 
 type Found = Result<Option<(u32, u8)>, SpillError>;
@@ -480,21 +448,11 @@ impl<D: TapeDisk + Drop> Spool<D> {
 }
 
 /// What becomes of the one record of a partition that is read again over a disk.
-fn read_over<D: TapeDisk + Drop>(alloc: Global, disk: D) -> Result<Found, Fail> {
+fn read_over<D: TapeDisk + Drop>(alloc: Global, disk: D) -> Result<String, Fail> {
     let mut spool = Spool::new(alloc, disk);
-    spool.read_again()
-}
-
-#[test]
-fn damage_is_told(rt: HostRuntime) -> Result<(), Fail> {
-    assert!(rt; read_over(rt.alloc(), flipping(rt.alloc()))? == Err(SpillError::TapeDamaged));
-    Ok(())
-}
-
-#[test]
-fn a_fault_of_reading_is_told(rt: HostRuntime) -> Result<(), Fail> {
-    assert!(rt; read_over(rt.alloc(), failing(rt.alloc(), 1))? == Err(SpillError::TapeFault));
-    Ok(())
+    let found = spool.read_again();
+    drop(spool);
+    Ok(format!(in alloc; "{:?}", found?)?)
 }
 
 /// The messages of all errors.
@@ -503,10 +461,36 @@ fn all_messages(alloc: Global) -> Result<String, Fail> {
     Ok(format!(in alloc; "{NoMemory}, {TapeFault}, {TapeDamaged}")?)
 }
 
+/// What is told of a case.
+fn told(rt: HostRuntime, case: &str) -> Result<String, Fail> {
+    let alloc = rt.alloc();
+    match case {
+        "write fault" => write_fault(alloc, b"ab"),
+        "write fault of a full page" => write_fault(alloc, &[b'x'; 9000]),
+        "read fault" => read_over(alloc, failing(alloc, 1)),
+        "damage" => read_over(alloc, flipping(alloc)),
+        "messages" => all_messages(alloc),
+        _ => told_over_marks(alloc, case),
+    }
+}
+
+/// Records fall on partitions by the first digit of their hashes; without records there is no partition. Since the last partition comes
+/// first, what eight passes tell apart comes by falling hashes; what they do not comes as it was spilled. Many records are read again
+/// twice, none of them wrong, and their pages used again. Faults and damage are told.
+const TOLD: &str = "\
+records => [ f0000001/1/b f0000001/0/d ][ 10000000/0/a 1fffffff/1/ 10000000/0/a ][ 0/0/c abcdef0/0/e ] 3 written
+no records =>  0 written
+emptiness => true false true
+eight passes => [3, 7, 9, 10, 6, 2, 5, 11, 4, 1, 0, 8]
+turns => 0 0 true
+write fault => Ok(()) Err(TapeFault)
+write fault of a full page => Err(TapeFault) Err(TapeFault)
+read fault => Err(TapeFault)
+damage => Err(TapeDamaged)
+messages => out of memory, the tape disk failed, the tape is damaged
+";
+
 #[test]
-fn messages(rt: HostRuntime) -> Result<(), Fail> {
-    expect(
-        all_messages(rt.alloc()),
-        "out of memory, the tape disk failed, the tape is damaged",
-    )
+fn partitions_give_what_they_took_or_fail(rt: HostRuntime) -> Result<(), Fail> {
+    expect_lines(rt, TOLD, told)
 }

@@ -2,11 +2,11 @@
 
 ghost use Rattle.std.specs.Prelude.{◌+◌, ◌<◌, ◌^◌};
 
-use crate::calls::Deck;
+use crate::calls::{Deck, marks};
 use crate::disks::{Marks, failing, flipping};
 use spill_tapes::{DiskError, FlipDisk, MemDisk, TapeDisk, TapeError, TapeId};
 use std::alloc::{AllocError, Global};
-use std::test::Fail;
+use std::test::*;
 use test_cases::{expect_lines, halves};
 
 /// How many tapes there are at once, and how many records each has.
@@ -130,70 +130,51 @@ impl<D: TapeDisk + Drop> Deck<D> {
     }
 }
 
-/// What is told of a case over a disk, and how many writes there were.
-fn told_over<D: TapeDisk + Drop, F: FnOnce(&D) -> u64>(
+/// What was told of a case, and how many writes there were.
+fn with_writes(
     alloc: Global,
-    disk: D,
-    case: &str,
-    writes: F,
-) -> Result<String, Fail>
-    requires { F.IsAlwaysCallable writes }
-{
-    let mut deck = Deck::new(alloc, disk);
-    let mut text = String::new(alloc);
-    let told = deck.tell_case(case, &mut text);
-    let writes = writes(&deck.disk);
-    drop(deck);
+    told: Result<(), Fail>,
+    mut text: String,
+    writes: u64,
+) -> Result<String, Fail> {
     told?;
     tell_writes(alloc, writes, &mut text)?;
     Ok(text)
 }
 
-/// The same over a disk of which a call fails.
+/// What is told of a case over a disk of which a call fails, and how many writes there were.
 fn told_over_failing(alloc: Global, call: u64, case: &str) -> Result<String, Fail> {
-    told_over(alloc, failing(alloc, call), case, |disk| {
-        disk.inner().writes()
-    })
+    let mut deck = Deck::new(alloc, failing(alloc, call));
+    let mut text = String::new(alloc);
+    let told = deck.tell_case(case, &mut text);
+    let writes = deck.disk.inner().writes();
+    drop(deck);
+    with_writes(alloc, told, text, writes)
 }
 
 /// The same over a disk that flips a bit.
 fn told_over_flipping(alloc: Global, disk: FlipDisk<MemDisk>, case: &str) -> Result<String, Fail> {
-    told_over(alloc, disk, case, |disk| disk.inner().writes())
+    let mut deck = Deck::new(alloc, disk);
+    let mut text = String::new(alloc);
+    let told = deck.tell_case(case, &mut text);
+    let writes = deck.disk.inner().writes();
+    drop(deck);
+    with_writes(alloc, told, text, writes)
+}
+
+/// The same over a disk in memory.
+fn told_over_memory(alloc: Global, case: &str) -> Result<String, Fail> {
+    let mut deck = Deck::new(alloc, MemDisk::new(alloc));
+    let mut text = String::new(alloc);
+    let told = deck.tell_case(case, &mut text);
+    let writes = deck.disk.writes();
+    drop(deck);
+    with_writes(alloc, told, text, writes)
 }
 
 /// A disk by which the first record on each page, of two bytes, has none.
 fn shortening(alloc: Global) -> FlipDisk<MemDisk> {
     FlipDisk::new(MemDisk::new(alloc), 8, 2)
-}
-
-/// What is told of a case over a disk with a fault, or in memory where it has none: `FAULT CASE`.
-fn told(rt: HostRuntime, line: &str) -> Result<String, Fail> {
-    let alloc = rt.alloc();
-    let (fault, case) = halves(line, " ")?;
-    match fault {
-        "none" => told_over(alloc, MemDisk::new(alloc), case, |disk| disk.writes()),
-        "write" => told_over_failing(alloc, 0, case),
-        "read" => told_over_failing(alloc, 1, case),
-        "shorter" => told_over_flipping(alloc, shortening(alloc), case),
-        _ => told_over_flipping(alloc, flipping(alloc), case),
-    }
-}
-
-/// Records come in order. A fault of writing or of reading, and damage, kill the tapes, which then take no record; bytes behind
-/// the last record are damage; an empty tape has no page.
-const TOLD: &str = "\
-none two => Ok(()), Ok(Some((7, 0))) ab, Ok(Some((9, 1))) , Ok(None) , None, 1 written
-write two => Err(TapeFault), Err(TapesDead) , Err(TapesDead) , Err(TapesDead) , Some(TapesDead), 0 written
-flip two => Ok(()), Err(TapeDamaged) , Err(TapesDead) , Err(TapesDead) , Some(TapesDead), 1 written
-shorter one => Err(TapeDamaged) , Err(TapesDead) , , 1 written
-read two => Ok(()), Err(TapeFault) , Err(TapesDead) , Err(TapesDead) , Some(TapesDead), 1 written
-write long => Err(TapeFault), Err(TapesDead), Err(TapesDead), Some(TapesDead), 0 written
-none none => Ok(None) , , 0 written
-";
-
-#[test]
-fn tapes_give_what_they_took_or_die(rt: HostRuntime) -> Result<(), Fail> {
-    expect_lines(rt, TOLD, told)
 }
 
 /// The bytes of a record: of one length in a hundred and twenty, so that some records are longer than a page.
@@ -326,67 +307,47 @@ fn pages_of_many() -> u64 {
     pages
 }
 
-/// How many records of many tapes come wrong over a disk in memory, and how many writes there were.
-fn many_over_memory(alloc: Global) -> Result<(u32, u64), Fail> {
-    let mut deck = Deck::new(alloc, MemDisk::new(alloc));
-    let wrong = deck.wrong_of_many();
-    let writes = deck.disk.writes();
-    drop(deck);
-    Ok((wrong?, writes))
-}
-
-#[test]
-fn many_tapes_at_once(rt: HostRuntime) -> Result<(), Fail> {
-    assert!(rt; many_over_memory(rt.alloc())? == (0, pages_of_many()));
-    Ok(())
-}
-
-/// How many records of many tapes come wrong, and how far the disk was written.
-fn turn(deck: &mut Deck<Marks>) -> Result<(u32, u64), Fail> {
-    let wrong = deck.wrong_of_many()?;
-    Ok((wrong, deck.disk.end))
-}
-
-/// The outcomes of two turns, one after the other.
-fn two_turns(deck: &mut Deck<Marks>) -> Result<[(u32, u64); 2], Fail> {
-    let first = turn(deck)?;
-    let second = turn(deck)?;
-    Ok([first, second])
-}
-
-/// How far a disk is written by tapes that are closed, nine times: each has a record that is longer than a page.
-fn closed_tapes(deck: &mut Deck<Marks>) -> Result<u64, Fail> {
-    for _ in 0..9 {
-        let tape = deck.open()?;
-        deck.append_one(tape, 0, 119)?;
-        deck.close(tape);
+impl Deck<Marks> {
+    /// Tells how many records of many tapes come wrong, and whether the disk was written as far as their pages go.
+    fn tell_many(&mut self, text: &mut String) -> Result<(), Fail> {
+        let wrong = self.wrong_of_many()?;
+        let is_end = self.disk.end == pages_of_many().saturating_mul(8192);
+        let told = format!(in self.alloc; "{wrong} {is_end};")?;
+        Ok(text.push_str(&told)?)
     }
-    Ok(deck.disk.end)
+
+    /// Tells the same, and how many writes there were for each page. Then it tells the same of as many tapes again, on the same pages.
+    fn tell_turns(&mut self, text: &mut String) -> Result<(), Fail> {
+        self.tell_many(text)?;
+        let is_once = self.disk.inner.writes() == pages_of_many();
+        let told = format!(in self.alloc; "{is_once};")?;
+        text.push_str(&told)?;
+        self.tell_many(text)
+    }
+
+    /// Tells how far a disk is written by tapes that are closed, nine times: each has a record that is longer than a page.
+    fn tell_closed(&mut self, text: &mut String) -> Result<(), Fail> {
+        for _ in 0..9 {
+            let tape = self.open()?;
+            self.append_one(tape, 0, 119)?;
+            self.close(tape);
+        }
+        let told = format!(in self.alloc; "{}", self.disk.end)?;
+        Ok(text.push_str(&told)?)
+    }
 }
 
-/// What a function tells of new tapes over a disk that keeps how far it was written.
-fn over_marks<R, F: FnOnce(&mut Deck<Marks>) -> R>(alloc: Global, told: F) -> R
-    requires { F.IsAlwaysCallable told }
-{
-    let disk = Marks {
-        inner: MemDisk::new(alloc),
-        end: 0,
+/// What is told of new tapes over a disk that keeps how far it was written.
+fn told_over_marks(alloc: Global, case: &str) -> Result<String, Fail> {
+    let mut deck = Deck::new(alloc, marks(alloc));
+    let mut text = String::new(alloc);
+    let told = match case {
+        "turns" => deck.tell_turns(&mut text),
+        _ => deck.tell_closed(&mut text),
     };
-    let mut deck = Deck::new(alloc, disk);
-    told(&mut deck)
-}
-
-#[test]
-fn pages_are_used_again(rt: HostRuntime) -> Result<(), Fail> {
-    let end = pages_of_many().saturating_mul(8192);
-    assert!(rt; over_marks(rt.alloc(), two_turns)? == [(0, end), (0, end)]);
-    Ok(())
-}
-
-#[test]
-fn pages_of_closed_tapes_are_used_again(rt: HostRuntime) -> Result<(), Fail> {
-    assert!(rt; over_marks(rt.alloc(), closed_tapes)? == 8192);
-    Ok(())
+    drop(deck);
+    told?;
+    Ok(text)
 }
 
 /// The eight bytes of a disk from a place on.
@@ -407,19 +368,53 @@ fn two_places(disk: &mut MemDisk) -> Result<[[u8; 8]; 2], DiskError> {
     Ok([first, second])
 }
 
-/// Writes at two places of a new disk in memory: the bytes around each, and how many writes there were.
-fn two_places_in_memory(alloc: Global) -> Result<([[u8; 8]; 2], u64), DiskError> {
+/// What is told of two places of a new disk in memory: whether the bytes around each are right, and how many writes there were.
+fn told_of_places(alloc: Global) -> Result<String, Fail> {
     let mut disk = MemDisk::new(alloc);
-    let places = two_places(&mut disk);
+    let is_right = two_places(&mut disk) == Ok([*b"\0\0abcd\0\0", *b"\0\0end\0\0\0"]);
     let writes = disk.writes();
     drop(disk);
-    Ok((places?, writes))
+    Ok(format!(in alloc; "{is_right}, {writes} written")?)
+}
+
+/// What is told of a case over a disk with a fault, or in memory where it has none: `FAULT CASE`.
+fn told(rt: HostRuntime, line: &str) -> Result<String, Fail> {
+    let alloc = rt.alloc();
+    let (fault, case) = halves(line, " ")?;
+    match fault {
+        "none" => told_over_memory(alloc, case),
+        "write" => told_over_failing(alloc, 0, case),
+        "read" => told_over_failing(alloc, 1, case),
+        "shorter" => told_over_flipping(alloc, shortening(alloc), case),
+        "flip" => told_over_flipping(alloc, flipping(alloc), case),
+        "places" => told_of_places(alloc),
+        _ => told_over_marks(alloc, case),
+    }
+}
+
+/// Records come in order. A fault of writing or of reading, and damage, kill the tapes, which then take no record; bytes behind
+/// the last record are damage; an empty tape has no page. Pages of closed tapes are used again, and what was never written is zero.
+const TOLD: &str = "\
+none two => Ok(()), Ok(Some((7, 0))) ab, Ok(Some((9, 1))) , Ok(None) , None, 1 written
+write two => Err(TapeFault), Err(TapesDead) , Err(TapesDead) , Err(TapesDead) , Some(TapesDead), 0 written
+flip two => Ok(()), Err(TapeDamaged) , Err(TapesDead) , Err(TapesDead) , Some(TapesDead), 1 written
+shorter one => Err(TapeDamaged) , Err(TapesDead) , , 1 written
+read two => Ok(()), Err(TapeFault) , Err(TapesDead) , Err(TapesDead) , Some(TapesDead), 1 written
+write long => Err(TapeFault), Err(TapesDead), Err(TapesDead), Some(TapesDead), 0 written
+none none => Ok(None) , , 0 written
+marks closed => 8192
+places two => true, 2 written
+";
+
+/// Many tapes at once, twice: none of their records comes wrong, and both times they have the same pages, each of which is written once.
+const TURNS: &str = "marks turns => 0 true;true;0 true;";
+
+#[test]
+fn pages_are_used_again(rt: HostRuntime) -> Result<(), Fail> {
+    expect_lines(rt, TURNS, told)
 }
 
 #[test]
-fn a_place_that_was_never_written_is_zero(rt: HostRuntime) -> Result<(), DiskError> {
-    let (places, writes) = two_places_in_memory(rt.alloc())?;
-    assert!(rt; places == [*b"\0\0abcd\0\0", *b"\0\0end\0\0\0"]);
-    assert!(rt; writes == 2);
-    Ok(())
+fn tapes_give_what_they_took_or_die(rt: HostRuntime) -> Result<(), Fail> {
+    expect_lines(rt, TOLD, told)
 }

@@ -1,7 +1,7 @@
 //! Batch files of many rows, and what commands are to print of them, made by hand.
 
 use crate::files::number;
-use std::alloc::AllocError;
+use std::alloc::{AllocError, Global};
 use std::io::{Error, ErrorKind};
 use std::{fs, io};
 
@@ -13,63 +13,60 @@ fn two_numbers(told: &str) -> io::Result<(u32, u32)> {
     }
 }
 
-/// Writes the lines of so many towns, behind a first line, where each town was told so many times.
-fn write_lines<F: Fn(HostRuntime, &mut String, u32, u32) -> Result<(), AllocError>>(
+/// What each line of a file is.
+#[derive(Clone, Copy)]
+enum Line {
+    /// The row of a town, whose name has five digits where there are more than 10,000.
+    Row,
+    /// The line of a town in an answer in CSV, and in one in columns.
+    Csv,
+    Aligned,
+    /// An origin of which all batches are known that there can be.
+    Origin,
+}
+
+impl Line {
+    /// The line of a town that was told so many times, or of an origin.
+    fn of(self, alloc: Global, town: u32, times: u32) -> Result<String, AllocError> {
+        let sum = town.saturating_mul(times);
+        match self {
+            Line::Row if times > 10_000 => format!(in alloc; "k{town:05},{town}\n"),
+            Line::Row => format!(in alloc; "k{town:04},{town}\n"),
+            Line::Csv => format!(in alloc; "k{town:05},{times},{sum}\n"),
+            Line::Aligned => format!(in alloc; "k{town:05} | {times:>5} | {sum:>5}\n"),
+            Line::Origin => format!(in alloc; "origin {town} upto 4294967295\n"),
+        }
+    }
+}
+
+/// Appends the lines of so many towns, each of which was told so many times.
+fn push_lines(
+    alloc: Global,
+    text: &mut String,
+    line: Line,
+    towns: u32,
+    times: u32,
+) -> Result<(), AllocError> {
+    for town in 0..towns {
+        let told = line.of(alloc, town, times)?;
+        text.push_str(&told)?;
+    }
+    Ok(())
+}
+
+/// Writes the same behind a first line.
+fn write_lines(
     rt: &HostRuntime,
     file: &str,
     first: &str,
+    line: Line,
     towns: u32,
     times: u32,
-    line: F,
-) -> io::Result<bool>
-    requires { F.IsAlwaysCallable line }
-{
+) -> io::Result<bool> {
     let mut text = String::from_str(rt.alloc(), first)?;
-    for town in 0..towns {
-        line(*rt, &mut text, town, times)?;
-    }
+    push_lines(rt.alloc(), &mut text, line, towns, times)?;
     fs::write(rt, file, text.as_bytes())?;
     Ok(true)
-}
-
-/// Appends the row of a town, whose name has five digits where there are more than 10,000.
-fn push_row(rt: HostRuntime, text: &mut String, town: u32, towns: u32) -> Result<(), AllocError> {
-    let line = if towns > 10_000 {
-        format!(in rt.alloc(); "k{town:05},{town}\n")?
-    } else {
-        format!(in rt.alloc(); "k{town:04},{town}\n")?
-    };
-    text.push_str(&line)
-}
-
-/// Appends the line of a town in CSV.
-fn push_csv(rt: HostRuntime, text: &mut String, town: u32, times: u32) -> Result<(), AllocError> {
-    let sum = town.saturating_mul(times);
-    let line = format!(in rt.alloc(); "k{town:05},{times},{sum}\n")?;
-    text.push_str(&line)
-}
-
-/// Appends the line of a town in columns.
-fn push_aligned(
-    rt: HostRuntime,
-    text: &mut String,
-    town: u32,
-    times: u32,
-) -> Result<(), AllocError> {
-    let sum = town.saturating_mul(times);
-    let line = format!(in rt.alloc(); "k{town:05} | {times:>5} | {sum:>5}\n")?;
-    text.push_str(&line)
-}
-
-/// Appends the line of an origin of which all batches are known that there can be.
-fn push_origin(
-    rt: HostRuntime,
-    text: &mut String,
-    origin: u32,
-    _times: u32,
-) -> Result<(), AllocError> {
-    let line = format!(in rt.alloc(); "origin {origin} upto 4294967295\n")?;
-    text.push_str(&line)
 }
 
 /// Writes a batch file, the `NUMBER|ROWS` of an origin: a row of each of so many towns, `k0000` and on.
@@ -79,26 +76,26 @@ pub(crate) fn write_rows(rt: &HostRuntime, file: &str, told: &str) -> io::Result
     };
     let (number, rows) = two_numbers(told)?;
     let head = format!(in rt.alloc(); "batch,{origin},{number},{rows}\n")?;
-    write_lines(rt, file, &head, rows, rows, push_row)
+    write_lines(rt, file, &head, Line::Row, rows, rows)
 }
 
 /// Writes the answer in CSV, `TIMES|TOWNS`: about so many towns, each of which was told so many times.
 pub(crate) fn write_csv(rt: &HostRuntime, file: &str, told: &str) -> io::Result<bool> {
     let (times, towns) = two_numbers(told)?;
-    write_lines(rt, file, "town,count,sum\n", towns, times, push_csv)
+    write_lines(rt, file, "town,count,sum\n", Line::Csv, towns, times)
 }
 
 /// Writes the answer in columns, about more than 10,000 towns.
 pub(crate) fn write_aligned(rt: &HostRuntime, file: &str, told: &str) -> io::Result<bool> {
     let (times, towns) = two_numbers(told)?;
     let first = "town   | count |   sum\n-------+-------+------\n";
-    write_lines(rt, file, first, towns, times, push_aligned)
+    write_lines(rt, file, first, Line::Aligned, towns, times)
 }
 
 /// Writes what is known of so many origins, of each all batches that there can be.
 pub(crate) fn write_listed(rt: &HostRuntime, file: &str, told: &str) -> io::Result<bool> {
     let origins = number(told)?;
-    write_lines(rt, file, "", origins, 1, push_origin)
+    write_lines(rt, file, "", Line::Origin, origins, 1)
 }
 
 /// How many bytes a text may have, and a file.
