@@ -10,4 +10,4 @@ returns c =
     let counted : all_rows (Counted c.args.run.now c.from.result ∷ Packed c.in_ok-rows.rows ∷ []) ≡ c.args.most + c.args.told =
     let told = c.in_ok-rows.ensures.2 in
     omega (arith, told) in
-    subst (λ most. IsRun (meaning c.args.query.now) most c.fold.new.run) counted c.in_ok-fold.ensures.folded.run_over.is_run
+    subst (λ most. IsRun (meaning c.args.query.now) most c.fold-folded.new.run) counted c.in_ok-folded.ensures.folded.run_over.is_run
