@@ -49,32 +49,43 @@ const ROWS: [&[ResultValue<'static>]; 4] = [
     ],
 ];
 
-/// Puts rows into those of an answer.
-fn push_rows(rows: &mut AnswerRows, those: &[&[ResultValue<'static>]]) -> Result<(), AllocError> {
+/// These rows as those of an answer.
+fn answer_rows(alloc: Global, those: &[&[ResultValue<'static>]]) -> Result<AnswerRows, AllocError> {
+    let mut rows = AnswerRows::new(alloc);
     for row in those {
         rows.push(*row)?;
     }
-    Ok(())
+    Ok(rows)
 }
 
-/// Tells the answer of rows in the order of terms, and how many rows it has.
+/// The answer of rows in the order of terms.
+fn arranged(
+    alloc: Global,
+    those: &[&[ResultValue<'static>]],
+    terms: &[OrderTerm],
+) -> Result<Answer, AllocError> {
+    let order = terms.to_vec(alloc)?;
+    let rows = answer_rows(alloc, those)?;
+    Answer::arranged(alloc, rows, &Arrangement { order })
+}
+
+/// How many rows an answer has, whether none, and its rows.
+fn told(alloc: Global, answer: &Answer) -> Result<String, AllocError> {
+    let mut shown = format!(in alloc; "{}, {}: ", answer.len(), answer.is_empty())?;
+    tell_rows(alloc, answer, &mut shown)?;
+    Ok(shown)
+}
+
+/// The same of rows in the order of terms.
 fn in_order(
     alloc: Global,
     those: &[&[ResultValue<'static>]],
     terms: &[OrderTerm],
 ) -> Result<String, AllocError> {
-    let mut rows = AnswerRows::new(alloc);
-    push_rows(&mut rows, those)?;
-    let mut order = Vec::with_capacity(alloc, terms.len())?;
-    for term in terms {
-        order.push(*term)?;
-    }
-    let answer = Answer::arranged(alloc, rows, &Arrangement { order })?;
-    let mut shown = format!(in alloc; "{}, {}: ", answer.len(), answer.is_empty())?;
-    let told = tell_rows(alloc, &answer, &mut shown);
+    let answer = arranged(alloc, those, terms)?;
+    let told = told(alloc, &answer);
     drop(answer);
-    told?;
-    Ok(shown)
+    told
 }
 
 /// What an answer tells is what is wanted.

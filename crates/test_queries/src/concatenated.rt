@@ -1,168 +1,106 @@
 use packed_rows::PackedRows;
-use std::alloc::{AllocError, Global};
+use std::alloc::Global;
+use std::test::*;
+use test_cases::{expect_lines, halves};
 
-/// Puts rows behind one another.
-fn push_all(packed: &mut PackedRows, rows: &[&[u8]]) -> Result<(), AllocError> {
-    for row in rows {
-        packed.push(row)?;
-    }
-    Ok(())
-}
-
-/// These rows, one behind the other.
-fn concatenated(alloc: Global, rows: &[&[u8]]) -> Result<PackedRows, AllocError> {
+/// Packed rows, from a text with a `;` behind each.
+fn packed(alloc: Global, rows: &str) -> Result<PackedRows, Fail> {
     let mut packed = PackedRows::new(alloc);
-    push_all(&mut packed, rows)?;
+    for row in rows.split_terminator(';') {
+        packed.push(row.as_bytes())?;
+    }
     Ok(packed)
 }
 
-/// Rows of which some are empty, one is there twice, and one begins as another does.
-const ROWS: [&[u8]; 6] = [b"", b"\x01ab\x00", b"\x01a", b"\x01ab\x00", b"", b""];
-
-/// Whether packed rows are these.
-fn are_rows(packed: &PackedRows, rows: &[&[u8]]) -> bool {
-    for (place, row) in rows.iter().enumerate() {
-        if place >= packed.len() || packed.row(place) != *row {
-            return false;
-        }
+/// Tells rows, with a `;` behind each.
+fn tell_rows(packed: &PackedRows, told: &mut String) -> Result<(), Fail> {
+    for place in 0..packed.len() {
+        told.push_str(str::from_utf8(packed.row(place))?)?;
+        told.push(';')?;
     }
-    packed.len() == rows.len()
-}
-
-#[test]
-fn rows_lie_in_order(rt: HostRuntime) -> Result<(), AllocError> {
-    let packed = concatenated(rt.alloc(), &ROWS)?;
-    let right = are_rows(&packed, &ROWS);
-    drop(packed);
-    assert!(rt; right);
     Ok(())
 }
 
-/// Whether packed rows are empty, and an empty row is one that they have then.
-fn takes_empty_row(packed: &mut PackedRows) -> Result<bool, AllocError> {
-    let empty = packed.is_empty() && packed.len() == 0;
-    packed.push(b"")?;
-    Ok(empty && !packed.is_empty() && are_rows(packed, &[b""]))
+/// Tells whether a copy has the rows of which it is one, and whether it has once it takes one more; then its rows, a `|` and the others.
+fn tell_copy(alloc: Global, packed: &PackedRows, told: &mut String) -> Result<(), Fail> {
+    let mut copy = packed.try_clone(alloc)?;
+    let before = copy.same_rows(packed);
+    copy.push(b"x")?;
+    let text = format!(in alloc; "{before} {} ", copy.same_rows(packed))?;
+    told.push_str(&text)?;
+    tell_rows(&copy, told)?;
+    told.push('|')?;
+    tell_rows(packed, told)
 }
 
-#[test]
-fn an_empty_row_is_a_row(rt: HostRuntime) -> Result<(), AllocError> {
-    let mut packed = PackedRows::new(rt.alloc());
-    let right = takes_empty_row(&mut packed);
-    drop(packed);
-    assert!(rt; right?);
-    Ok(())
-}
-
-/// Two lists of rows each; the first of them are the same.
-const PAIRS: [(&[&[u8]], &[&[u8]], bool); 8] = [
-    (&[], &[], true),
-    (&[b"ab", b"", b"c"], &[b"ab", b"", b"c"], true),
-    (&[b"ab", b"c"], &[b"a", b"bc"], false),
-    (&[b"ab", b"c"], &[b"ab", b"d"], false),
-    (&[b"ab", b"c"], &[b"ab"], false),
-    (&[b"ab", b""], &[b"ab"], false),
-    (&[b"", b"ab"], &[b"ab", b""], false),
-    (&[b""], &[], false),
-];
-
-/// Whether packed rows are the same as these, if they are whichever is compared with the other.
-fn has_same_rows(
+/// Tells how many rows there are, whether there are none, and whether they are the same as others, either way round; and a copy of them.
+fn tell(
     alloc: Global,
     packed: &PackedRows,
-    rows: &[&[u8]],
-) -> Result<Option<bool>, AllocError> {
-    let others = concatenated(alloc, rows)?;
-    let (there, back) = (packed.same_rows(&others), others.same_rows(packed));
+    others: &PackedRows,
+    told: &mut String,
+) -> Result<(), Fail> {
+    let (there, back) = (packed.same_rows(others), others.same_rows(packed));
+    let text = format!(in alloc; "{} {} {there} {back} ", packed.len(), packed.is_empty())?;
+    told.push_str(&text)?;
+    tell_copy(alloc, packed, told)
+}
+
+/// The same of two texts.
+fn told_of(alloc: Global, rows: &str, others: &str) -> Result<String, Fail> {
+    let (rows, others) = (packed(alloc, rows)?, packed(alloc, others)?);
+    let mut text = String::new(alloc);
+    let told = tell(alloc, &rows, &others, &mut text);
     drop(others);
-    Ok((there == back).then_some(there))
+    drop(rows);
+    told?;
+    Ok(text)
 }
 
-/// The same of two lists of rows.
-fn are_same_rows(
-    alloc: Global,
-    some: &[&[u8]],
-    others: &[&[u8]],
-) -> Result<Option<bool>, AllocError> {
-    let packed = concatenated(alloc, some)?;
-    let same = has_same_rows(alloc, &packed, others);
-    drop(packed);
-    same
+/// The text of 600 rows, each longer than the one before.
+fn many(alloc: Global) -> Result<String, Fail> {
+    let mut rows = String::new(alloc);
+    for len in 0..600 {
+        let digit = format!(in alloc; "{}", len % 10)?;
+        rows.push_str(&digit.repeat(alloc, len)?)?;
+        rows.push(';')?;
+    }
+    Ok(rows)
 }
+
+/// Whether these rows are told as they are.
+fn told_of_many(alloc: Global) -> Result<String, Fail> {
+    let rows = many(alloc)?;
+    let told = told_of(alloc, &rows, &rows)?;
+    let wanted = format!(in alloc; "600 false true true true false {rows}x;|{rows}")?;
+    Ok(format!(in alloc; "{}", told == wanted)?)
+}
+
+/// What is told of two lists of rows, with a `|` between them, or of many rows.
+fn told(rt: HostRuntime, case: &str) -> Result<String, Fail> {
+    if case == "many" {
+        return told_of_many(rt.alloc());
+    }
+    let (rows, others) = halves(case, "|")?;
+    told_of(rt.alloc(), rows, others)
+}
+
+/// Rows lie in order, and an empty row is a row. Lists are the same whose rows are, whichever is compared with the other. A copy goes its
+/// own way, and leaves the rows as they were.
+const TOLD: &str = "\
+| => 0 true true true true false x;|
+;| => 1 false false false true false ;x;|;
+;ab;|ab;; => 2 false false false true false ;ab;x;|;ab;
+ab;|ab;; => 1 false false false true false ab;x;|ab;
+ab;;|ab; => 2 false false false true false ab;;x;|ab;;
+ab;c;|ab; => 2 false false false true false ab;c;x;|ab;c;
+ab;c;|ab;d; => 2 false false false true false ab;c;x;|ab;c;
+ab;c;|a;bc; => 2 false false false true false ab;c;x;|ab;c;
+ab;;c;|ab;;c; => 3 false true true true false ab;;c;x;|ab;;c;
+;\x01ab\x00;\x01a;\x01ab\x00;;;| => 6 false false false true false ;\x01ab\x00;\x01a;\x01ab\x00;;;x;|;\x01ab\x00;\x01a;\x01ab\x00;;;
+many => true";
 
 #[test]
-fn the_same_rows_are_told(rt: HostRuntime) -> Result<(), AllocError> {
-    for (some, others, want) in PAIRS {
-        assert!(rt; are_same_rows(rt.alloc(), some, others)? == Some(want));
-    }
-    Ok(())
-}
-
-/// Whether a copy has the rows of which it is one, and other rows once it takes one more.
-fn goes_its_own_way(packed: &PackedRows, copy: &mut PackedRows) -> Result<bool, AllocError> {
-    let same = copy.same_rows(packed);
-    copy.push(b"\x02")?;
-    let differs = !copy.same_rows(packed) && packed.len() == 6;
-    Ok(same && differs && copy.len() == 7 && copy.row(6) == b"\x02".as_slice())
-}
-
-/// Whether a copy of packed rows goes its own way.
-fn has_own_copy(alloc: Global, packed: &PackedRows) -> Result<bool, AllocError> {
-    let mut copy = packed.try_clone(alloc)?;
-    let right = goes_its_own_way(packed, &mut copy);
-    drop(copy);
-    right
-}
-
-#[test]
-fn a_copy_goes_its_own_way(rt: HostRuntime) -> Result<(), AllocError> {
-    let packed = concatenated(rt.alloc(), &ROWS)?;
-    let right = has_own_copy(rt.alloc(), &packed);
-    drop(packed);
-    assert!(rt; right?);
-    Ok(())
-}
-
-/// So many bytes.
-fn row_of(alloc: Global, bytes: usize) -> Result<Vec<u8>, AllocError> {
-    let mut row = Vec::new(alloc);
-    for place in 0..bytes {
-        row.push((place % 251) as u8)?;
-    }
-    Ok(row)
-}
-
-/// Puts 600 rows behind one another, each longer than the one before.
-fn push_many(alloc: Global, packed: &mut PackedRows) -> Result<(), AllocError> {
-    for bytes in 0..600 {
-        let row = row_of(alloc, bytes)?;
-        packed.push(&row)?;
-    }
-    Ok(())
-}
-
-/// Whether each row has as many bytes as there are rows before it.
-fn has_many(alloc: Global, packed: &PackedRows) -> Result<bool, AllocError> {
-    for place in 0..packed.len() {
-        let row = row_of(alloc, place)?;
-        if packed.row(place) != row.as_slice() {
-            return Ok(false);
-        }
-    }
-    Ok(packed.len() == 600)
-}
-
-/// Whether these rows are found behind one another.
-fn takes_many(alloc: Global, packed: &mut PackedRows) -> Result<bool, AllocError> {
-    push_many(alloc, packed)?;
-    has_many(alloc, packed)
-}
-
-#[test]
-fn many_rows_lie_concatenated(rt: HostRuntime) -> Result<(), AllocError> {
-    let mut packed = PackedRows::new(rt.alloc());
-    let right = takes_many(rt.alloc(), &mut packed);
-    drop(packed);
-    assert!(rt; right?);
-    Ok(())
+fn rows_lie_in_order(rt: HostRuntime) -> Result<(), Fail> {
+    expect_lines(rt, TOLD, told)
 }

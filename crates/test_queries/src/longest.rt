@@ -13,7 +13,7 @@ fn longest(rt: HostRuntime) -> Result<String, Fail> {
 }
 
 /// How many rows are read.
-fn rows_read(rt: HostRuntime, file: &str) -> Result<usize, Fail> {
+pub(crate) fn rows_read(rt: HostRuntime, file: &str) -> Result<usize, Fail> {
     match read(rt, file)? {
         Ok(batch) => {
             let rows = batch.rows.len();

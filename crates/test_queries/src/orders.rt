@@ -5,34 +5,30 @@ use std::alloc::{AllocError, Global};
 use std::test::*;
 use test_cases::{expect_lines, halves};
 
-/// Tells a query's canonical text, and behind it each term of its order.
-fn tell_order(alloc: Global, query: &Query, told: &mut String) -> Result<(), AllocError> {
-    let text = print(alloc, query)?;
-    told.push_str(&text)?;
+/// A query's canonical text, and behind it each term of its order.
+fn order(alloc: Global, query: &Query) -> Result<String, AllocError> {
+    let mut told = print(alloc, query)?;
     for term in query.order() {
         let part = format!(in alloc; " / {term:?}")?;
         told.push_str(&part)?;
     }
-    Ok(())
+    Ok(told)
 }
 
 /// What a text over columns is as a query, or why it is none.
 fn told(rt: HostRuntime, case: &str) -> Result<String, Fail> {
     let (columns, text) = halves(case, "|")?;
     let schema = Schema::parse(rt.alloc(), columns)?;
-    let mut told = String::new(rt.alloc());
-    match parse(rt.alloc(), &schema, text) {
-        Ok(query) => {
-            tell_order(rt.alloc(), &query, &mut told)?;
-            drop(query);
-        }
-        Err(e) => {
-            let part = format!(in rt.alloc(); "{e:?}")?;
-            told.push_str(&part)?;
-        }
-    }
+    let parsed = parse(rt.alloc(), &schema, text);
     drop(schema);
-    Ok(told)
+    match parsed {
+        Ok(query) => {
+            let order = order(rt.alloc(), &query);
+            drop(query);
+            Ok(order?)
+        }
+        Err(error) => Ok(format!(in rt.alloc(); "{error:?}")?),
+    }
 }
 
 #[test]

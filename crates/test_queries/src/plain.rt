@@ -1,6 +1,7 @@
-use batch_reader::read_batch;
+use crate::longest::rows_read;
 use packed_rows::Schema;
 use plain_batches::{Layout, PackError, pack_batch};
+use std::alloc::{AllocError, Global};
 use std::str;
 use std::test::*;
 use test_cases::expect_lines;
@@ -84,28 +85,32 @@ fn plain_files_are_packed_or_refused_in_order(rt: HostRuntime) -> Result<(), Fai
     expect_lines(rt, FILES, told)
 }
 
-/// A plain file of many rows, and the batch file that is to be made of it.
-fn long_files(rt: HostRuntime, rows: u32) -> Result<(String, String), Fail> {
-    let mut plain = String::new(rt.alloc());
-    plain.push_str("D;other;C\n")?;
-    let mut wanted = format!(in rt.alloc(); "batch,0,1,{rows}\n")?;
-    for row in 0..rows {
-        let shop = row % 97;
-        let line = format!(in rt.alloc(); "{row};x;shop {shop}\n")?;
-        plain.push_str(&line)?;
-        let line = format!(in rt.alloc(); "shop {shop},{row}\n")?;
-        wanted.push_str(&line)?;
+/// 20,000 lines behind a first one: those of a plain file, or of the batch file that is to be made of it.
+fn long_file(alloc: Global, first: &str, is_plain: bool) -> Result<String, AllocError> {
+    let mut file = String::from_str(alloc, first)?;
+    for row in 0..20_000 {
+        let line = if is_plain {
+            format!(in alloc; "{row};x;shop {}\n", row % 97)
+        } else {
+            format!(in alloc; "shop {},{row}\n", row % 97)
+        };
+        file.push_str(&line?)?;
     }
-    Ok((plain, wanted))
+    Ok(file)
+}
+
+/// Whether this batch file is made of a plain file.
+fn is_packed(rt: HostRuntime, plain: &str, wanted: &str) -> Result<bool, Fail> {
+    match packed(rt, "hs;", plain)? {
+        Ok(batch) => Ok(batch.as_slice() == wanted.as_bytes()),
+        Err(error) => Err(Fail::from(error)),
+    }
 }
 
 #[test]
 fn many_rows_are_packed_as_they_are_read(rt: HostRuntime) -> Result<(), Fail> {
-    let (plain, wanted) = long_files(rt, 20_000)?;
-    let batch = packed(rt, "hs;", &plain)?.expect(&rt, "a batch");
-    assert!(rt; str::from_utf8(&batch) == Ok(wanted.as_str()));
-    let schema = Schema::parse(rt.alloc(), "c text, d bigint")?;
-    let read = read_batch(rt.alloc(), &schema, &batch).expect(&rt, "rows");
-    assert_eq!(rt; read.rows.len(), 20_000);
+    let plain = long_file(rt.alloc(), "D;other;C\n", true)?;
+    let wanted = long_file(rt.alloc(), "batch,0,1,20000\n", false)?;
+    assert!(rt; is_packed(rt, &plain, &wanted)? && rows_read(rt, &wanted)? == 20_000);
     Ok(())
 }

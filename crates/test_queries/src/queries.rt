@@ -32,20 +32,6 @@ fn tell_headers(query: &Query, told: &mut String) -> Result<(), AllocError> {
     Ok(())
 }
 
-/// Tells the columns of GROUP BY and their kinds.
-fn tell_keys(alloc: Global, query: &Query, told: &mut String) -> Result<(), AllocError> {
-    let (keys, kinds) = (query.keys(), query.key_kinds());
-    let part = format!(in alloc; " / {keys:?} {kinds:?}")?;
-    told.push_str(&part)
-}
-
-/// Tells the functions of the aggregates.
-fn tell_kinds(alloc: Global, query: &Query, told: &mut String) -> Result<(), AllocError> {
-    let kinds = query.agg_kinds();
-    let part = format!(in alloc; " / {kinds:?}")?;
-    told.push_str(&part)
-}
-
 /// Tells where the items are found.
 fn tell_sources(alloc: Global, query: &Query, told: &mut String) -> Result<(), AllocError> {
     for source in query.sources() {
@@ -59,11 +45,18 @@ fn tell_sources(alloc: Global, query: &Query, told: &mut String) -> Result<(), A
     Ok(())
 }
 
-/// Tells whether there are WHERE and HAVING, and how many distinct aggregates.
+/// Tells whether there are WHERE and HAVING, and how many distinct aggregates; then the columns of GROUP BY and their kinds, and the
+/// functions of the aggregates.
 fn tell_clauses(alloc: Global, query: &Query, told: &mut String) -> Result<(), AllocError> {
-    let (condition, having) = (query.condition().is_some(), query.having().is_some());
-    let calls = query.aggregates().len();
-    let part = format!(in alloc; " / {condition} {having} {calls}")?;
+    let part = format!(in alloc;
+        " / {} {} {} / {:?} {:?} / {:?}",
+        query.condition().is_some(),
+        query.having().is_some(),
+        query.aggregates().len(),
+        query.keys(),
+        query.key_kinds(),
+        query.agg_kinds()
+    )?;
     told.push_str(&part)
 }
 
@@ -83,8 +76,6 @@ fn tell_parts(alloc: Global, query: &Query, told: &mut String) -> Result<(), All
     told.push_str(" / ")?;
     tell_headers(query, told)?;
     tell_clauses(alloc, query, told)?;
-    tell_keys(alloc, query, told)?;
-    tell_kinds(alloc, query, told)?;
     tell_sources(alloc, query, told)
 }
 

@@ -1,6 +1,6 @@
 use hex::{decode, encode};
 use packed_rows::{
-    Schema, Value, ValueKind, compare, pack_key, pack_row, pack_value, read_value, same,
+    RowError, Schema, Value, ValueKind, compare, pack_key, pack_row, pack_value, read_value, same,
     unpack_into, unpack_key, unpack_row,
 };
 use std::alloc::Global;
@@ -136,20 +136,24 @@ c bigint|0180000000000000 => BadPacked
 c bigint,d text|02 => BadPacked
 c bigint,d text|0161620002 => BadPacked";
 
-/// The values of a row of these bytes.
-fn values(rt: HostRuntime, schema: &Schema, bytes: &[u8]) -> Result<String, Fail> {
-    match unpack_row(rt.alloc(), schema, bytes) {
-        Ok(row) => Ok(format!(in rt.alloc(); "{row:?}")?),
-        Err(error) => Ok(format!(in rt.alloc(); "{error:?}")?),
-    }
+/// The values of a row of some columns and these bytes, or why there are none.
+fn values(alloc: Global, columns: &str, bytes: &[u8]) -> Result<String, Fail> {
+    let schema = Schema::parse(alloc, columns)?;
+    let told = match unpack_row(alloc, &schema, bytes) {
+        Ok(row) => format!(in alloc; "{row:?}"),
+        Err(error) => format!(in alloc; "{error:?}"),
+    };
+    drop(schema);
+    Ok(told?)
 }
 
-/// The values of a row of some columns and bytes, or why there are none.
+/// The same of bytes that a text tells.
 fn unpacked(rt: HostRuntime, case: &str) -> Result<String, Fail> {
     let (columns, text) = halves(case, "|")?;
     let bytes = decode(rt.alloc(), text)?;
-    let schema = Schema::parse(rt.alloc(), columns)?;
-    values(rt, &schema, &bytes)
+    let told = values(rt.alloc(), columns, &bytes);
+    drop(bytes);
+    told
 }
 
 #[test]
@@ -210,60 +214,46 @@ fn keys_are_packed_and_unpacked(rt: HostRuntime) -> Result<(), Fail> {
     Ok(())
 }
 
-/// Bytes, and the key of a text and a number whose packing they are.
-const KEYS: [(&[u8], &str); 5] = [
-    (b"\x02\x02", "[Null, Null]"),
-    (b"\x02\x01", "BadPacked"),
+/// Bytes, and the key of a text and a number whose packing they are, or no values.
+const KEYS: [(&[u8], &[Value<'static>]); 5] = [
+    (b"\x02\x02", &[Value::Null, Value::Null]),
+    (b"\x02\x01", &[]),
     (
         b"\x01ab\x00\x01\x80\x00\x00\x00\x00\x00\x00\x00",
-        "[Text(\"ab\"), Bigint(0)]",
+        &[Value::Text("ab"), Value::Bigint(0)],
     ),
-    (b"\x02\x02\x02", "BadPacked"),
-    (b"\x01\x00\x02", "[Text(\"\"), Null]"),
+    (b"\x02\x02\x02", &[]),
+    (b"\x01\x00\x02", &[Value::Text(""), Value::Null]),
 ];
 
-/// The key of these bytes, or why there is none.
-fn unpacked_key(rt: HostRuntime, bytes: &[u8]) -> Result<String, Fail> {
-    match unpack_key(rt.alloc(), &[ValueKind::Text, ValueKind::Bigint], bytes) {
-        Ok(key) => Ok(format!(in rt.alloc(); "{key:?}")?),
-        Err(error) => Ok(format!(in rt.alloc(); "{error:?}")?),
+/// Whether the values are found that are wanted, or none are wanted and the bytes are no packing.
+fn are_wanted(unpacked: Result<(), RowError>, found: &[Value<'_>], wanted: &[Value<'_>]) -> bool {
+    match unpacked {
+        Ok(()) => same(found, wanted),
+        Err(error) => error == RowError::BadPacked && wanted.is_empty(),
     }
+}
+
+/// Whether bytes are unpacked to the values that are wanted.
+fn is_key(alloc: Global, bytes: &[u8], wanted: &[Value<'_>]) -> bool {
+    match unpack_key(alloc, &[ValueKind::Text, ValueKind::Bigint], bytes) {
+        Ok(key) => are_wanted(Ok(()), &key, wanted),
+        Err(error) => are_wanted(Err(error), &[], wanted),
+    }
+}
+
+/// The same into a vector that serves for many keys.
+fn is_key_in(found: &mut Vec<Value<'static>>, bytes: &'static [u8], wanted: &[Value<'_>]) -> bool {
+    let unpacked = unpack_into(&[ValueKind::Text, ValueKind::Bigint], bytes, found);
+    are_wanted(unpacked, found, wanted)
 }
 
 #[test]
-fn keys_are_unpacked(rt: HostRuntime) -> Result<(), Fail> {
-    for (bytes, want) in KEYS {
-        expect(unpacked_key(rt, bytes), want)?;
-    }
-    Ok(())
-}
-
-/// What a vector holds that serves for a key, or why it holds none.
-fn unpacked_into(
-    rt: HostRuntime,
-    bytes: &'static [u8],
-    found: &mut Vec<Value<'static>>,
-) -> Result<String, Fail> {
-    match unpack_into(&[ValueKind::Text, ValueKind::Bigint], bytes, found) {
-        Ok(()) => Ok(format!(in rt.alloc(); "{found:?}")?),
-        Err(error) => Ok(format!(in rt.alloc(); "{error:?}")?),
-    }
-}
-
-/// Unpacks all these keys into one vector.
-fn unpack_all(rt: HostRuntime, found: &mut Vec<Value<'static>>) -> Result<(), Fail> {
-    for (bytes, want) in KEYS {
-        expect(unpacked_into(rt, bytes, found), want)?;
-    }
-    Ok(())
-}
-
-#[test]
-fn one_vector_serves_for_many_keys(rt: HostRuntime) -> Result<(), Fail> {
+fn keys_are_unpacked(rt: HostRuntime) {
     let mut found = Vec::new(rt.alloc());
-    let unpacked = unpack_all(rt, &mut found);
-    drop(found);
-    unpacked
+    for (bytes, wanted) in KEYS {
+        assert!(rt; is_key(rt.alloc(), bytes, wanted) && is_key_in(&mut found, bytes, wanted));
+    }
 }
 
 /// Values of all kinds, from the least on.
