@@ -2,11 +2,9 @@
 ghost use Rattle.std.specs.Prelude.{◌≤◌, length};
 
 use context_tree::{Kind, Tree, TreeError};
-use group_table::{Fnv1a, GroupTable, KeyHash};
+use group_table::{GroupTable, KeyHash};
 use std::alloc::{AllocError, Global};
 use std::marker::Model;
-use std::test::Fail;
-use test_cases::Answered;
 
 /// How many bytes a state has, and a state.
 pub(crate) const WIDTH: u32 = 8;
@@ -31,23 +29,42 @@ impl<H: KeyHash + Drop> Model for Groups<H> {
     ghost invariant = { λ g. IsTableIn H.hash_of g.table g.tree × (g.table.width ≡ 8) };
 }
 
+/// Makes a child of the root, and takes a chunk of it.
+fn take_beside(tree: &mut Tree) -> Result<(), TreeError> {
+    let root = tree.root();
+    let other = tree.create(root, Kind::AllocSet)?;
+    tree.alloc(other, b"a chunk")?;
+    Ok(())
+}
+
 impl<H: KeyHash + Drop> Groups<H> {
+    /// Makes a table of no group in a tree.
+    fn over(alloc: Global, mut tree: Tree, hash: H) -> Result<Groups<H>, TreeError> {
+        let root = tree.root();
+        match GroupTable::new(alloc, &mut tree, root, WIDTH, hash) {
+            Ok(table) => Ok(Groups { tree, table }),
+            Err(error) => {
+                drop(tree);
+                Err(error)
+            }
+        }
+    }
+
     /// Makes a table of no group.
     pub(crate) fn new(alloc: Global, hash: H) -> Result<Groups<H>, TreeError> {
-        let mut tree = Tree::new(alloc);
-        let root = tree.root();
-        let table = GroupTable::new(alloc, &mut tree, root, WIDTH, hash)?;
-        Ok(Groups { tree, table })
+        Groups::over(alloc, Tree::new(alloc), hash)
     }
 
     /// The same beside another child of the root, which has a chunk.
     pub(crate) fn beside_a_chunk(alloc: Global, hash: H) -> Result<Groups<H>, TreeError> {
         let mut tree = Tree::new(alloc);
-        let root = tree.root();
-        let other = tree.create(root, Kind::AllocSet)?;
-        tree.alloc(other, b"a chunk")?;
-        let table = GroupTable::new(alloc, &mut tree, root, WIDTH, hash)?;
-        Ok(Groups { tree, table })
+        match take_beside(&mut tree) {
+            Ok(()) => Groups::over(alloc, tree, hash),
+            Err(error) => {
+                drop(tree);
+                Err(error)
+            }
+        }
     }
 
     pub(crate) fn len(&self) -> usize {
@@ -116,21 +133,6 @@ impl<H: KeyHash + Drop> Groups<H> {
             None => false,
         }
     }
-}
-
-/// What is told of a new table by the usual hash function.
-pub(crate) fn of_groups<F: FnOnce(&mut Groups<Fnv1a>, &mut Answered) -> Result<(), AllocError>>(
-    rt: HostRuntime,
-    tell: F,
-) -> Result<String, TreeError>
-    requires { F.IsAlwaysCallable tell }
-{
-    let mut groups = Groups::new(rt.alloc(), Fnv1a)?;
-    let mut told = Answered::new(rt.alloc());
-    let outcome = tell(&mut groups, &mut told);
-    drop(groups);
-    outcome?;
-    Ok(told.into_text())
 }
 
 /// The key and the state of a number.

@@ -18,7 +18,7 @@ mod passes;
 #[cfg(test)]
 mod seed;
 #[cfg(test)]
-mod seeded_tables;
+mod seeded_hashes;
 #[cfg(test)]
 mod tables;
 mod towns;

@@ -42,15 +42,36 @@ fn by_seed(
     Ok((run, work, disk))
 }
 
-/// Whether the groups of rows, what these took and the pages on the disk are the same as with the usual seed.
+/// Whether the groups of rows, what these took and the pages on the disk are the same as others.
+fn is_as(
+    rt: HostRuntime,
+    query: &Query,
+    rows: &PackedRows,
+    seed: Seed,
+    usual: &Run,
+    usual_work: Work,
+    usual_disk: &mut MemDisk,
+) -> Result<bool, Fail>
+    requires rows { (those : List Row) × ArePackings (meaning query.now).kinds rows.now those }
+    requires few { length rows.now ≤ most_rows }
+{
+    let (run, work, mut disk) = by_seed(rt, query, rows, seed)?;
+    let same = usual.same_groups(&run) && usual_work == work && same_pages(usual_disk, &mut disk);
+    drop(disk);
+    drop(run);
+    Ok(same)
+}
+
+/// Whether they are the same as with the usual seed.
 fn is_as_usual(rt: HostRuntime, query: &Query, rows: &PackedRows, seed: Seed) -> Result<bool, Fail>
     requires rows { (those : List Row) × ArePackings (meaning query.now).kinds rows.now those }
     requires few { length rows.now ≤ most_rows }
 {
-    let (usual, usual_work, mut usual_disk) = by_seed(rt, query, rows, DEFAULT_SEED)?;
-    let (run, work, mut disk) = by_seed(rt, query, rows, seed)?;
-    let same = usual.same_groups(&run) && usual_work == work;
-    Ok(same && same_pages(&mut usual_disk, &mut disk))
+    let (usual, work, mut disk) = by_seed(rt, query, rows, DEFAULT_SEED)?;
+    let same = is_as(rt, query, rows, seed, &usual, work, &mut disk);
+    drop(disk);
+    drop(usual);
+    same
 }
 
 /// The same of a row of each of 2,000 towns.

@@ -1,11 +1,12 @@
 //! A table by itself.
 
-use crate::groups::{Groups, WIDTH, has_numbers, key, of_groups, put_numbers, state};
+use crate::groups::{Groups, WIDTH, has_numbers, key, put_numbers, state};
+use crate::seeded_hashes::{OF_PYTHON, RISING};
 use context_tree::{ContextId, Kind, Tree, TreeError};
-use group_table::{Fnv1a, GroupTable, KeyHash};
+use group_table::{Fnv1a, GroupTable, KeyHash, SipHash};
 use std::alloc::{AllocError, Global};
-use std::test::Fail;
-use test_cases::{Answered, expect_told};
+use std::test::*;
+use test_cases::{Answered, expect_told, expect_told_lines};
 
 /// A hash function by which all keys are alike.
 #[derive(Drop)]
@@ -56,14 +57,6 @@ fn tell_one_group(groups: &mut Groups<Fnv1a>, told: &mut Answered) -> Result<(),
     tell_room(groups, told)
 }
 
-#[test]
-fn one_group_is_put_and_given_up(rt: HostRuntime) -> Result<(), Fail> {
-    expect_told(
-        of_groups(rt, tell_one_group),
-        "false true true Some(32768) 1 true true Some(16384) 0 false false true ",
-    )
-}
-
 /// Puts the groups of numbers, and tells whether each is a new one and is found.
 fn tell_put<H: KeyHash + Drop>(
     groups: &mut Groups<H>,
@@ -87,32 +80,25 @@ fn tell_numbers<H: KeyHash + Drop>(
     tell_put(groups, count, told)
 }
 
-/// What is told of groups of numbers that were found, and found again behind a clearing.
-pub(crate) const FOUND: &str = "true true true false true true ";
+/// All that was told, without the space behind it.
+fn text_of(told: Answered) -> String {
+    let mut text = told.into_text();
+    text.pop();
+    text
+}
 
 /// What is told of groups of numbers in a table by a hash function.
-pub(crate) fn of_numbers<H: KeyHash + Drop>(
-    rt: HostRuntime,
+fn told_of_numbers<H: KeyHash + Drop>(
+    alloc: Global,
     hash: H,
     count: u32,
 ) -> Result<String, TreeError> {
-    let mut groups = Groups::new(rt.alloc(), hash)?;
-    let mut told = Answered::new(rt.alloc());
+    let mut groups = Groups::new(alloc, hash)?;
+    let mut told = Answered::new(alloc);
     let outcome = tell_numbers(&mut groups, count, &mut told);
     drop(groups);
     outcome?;
-    Ok(told.into_text())
-}
-
-#[test]
-fn many_groups_are_found(rt: HostRuntime) -> Result<(), Fail> {
-    expect_told(of_numbers(rt, Fnv1a, 2000), FOUND)
-}
-
-#[test]
-fn groups_of_one_hash_are_found(rt: HostRuntime) -> Result<(), Fail> {
-    expect_told(of_numbers(rt, Alike { hash: 0 }, 300), FOUND)?;
-    expect_told(of_numbers(rt, Alike { hash: u32::MAX }, 300), FOUND)
+    Ok(text_of(told))
 }
 
 /// Tells whether keys that begin alike are new ones, the empty one among them, which is put twice.
@@ -139,14 +125,6 @@ fn tell_alike(groups: &mut Groups<Fnv1a>, told: &mut Answered) -> Result<(), All
     tell_alike_found(groups, told)
 }
 
-#[test]
-fn equal_bytes_alone_are_one_key(rt: HostRuntime) -> Result<(), Fail> {
-    expect_told(
-        of_groups(rt, tell_alike),
-        "true true true false true true true true false false ",
-    )
-}
-
 /// Tells a state that is written over: whether there is one, and whether the new one is found by its key and at its place.
 fn tell_changed(groups: &mut Groups<Fnv1a>, told: &mut Answered) -> Result<(), AllocError> {
     told.tell(groups.write(&key(77), b"changed!"))?;
@@ -161,14 +139,6 @@ fn tell_written(groups: &mut Groups<Fnv1a>, told: &mut Answered) -> Result<(), A
     told.tell(groups.write(&key(77), &state(77)))?;
     told.tell(has_numbers(groups, 200))?;
     told.tell(groups.write(&key(200), b"changed!"))
-}
-
-#[test]
-fn a_state_is_written(rt: HostRuntime) -> Result<(), Fail> {
-    expect_told(
-        of_groups(rt, tell_written),
-        "true true true true true true false ",
-    )
 }
 
 /// The least limit within which one more group with a key keeps.
@@ -224,11 +194,6 @@ fn tell_rooms(groups: &mut Groups<Fnv1a>, told: &mut Answered) -> Result<(), All
     told.tell(first_untold(groups, 200)?)
 }
 
-#[test]
-fn room_is_what_is_held_on_the_way(rt: HostRuntime) -> Result<(), Fail> {
-    expect_told(of_groups(rt, tell_rooms), "None None ")
-}
-
 /// Tells what one more group needs where there are those of so many numbers, and what is held then.
 fn tell_need(
     groups: &mut Groups<Fnv1a>,
@@ -249,33 +214,6 @@ fn tell_needs(groups: &mut Groups<Fnv1a>, told: &mut Answered) -> Result<(), All
     tell_need(groups, 192, told)?;
     tell_need(groups, 384, told)?;
     tell_need(groups, 512, told)
-}
-
-#[test]
-fn a_group_needs_what_is_counted(rt: HostRuntime) -> Result<(), Fail> {
-    expect_told(
-        of_groups(rt, tell_needs),
-        "true Some(32768) Some(0) true Some(32768) Some(32768) true Some(49160) Some(32768) \
-         true Some(81936) Some(49160) true Some(73736) Some(65544) ",
-    )
-}
-
-/// What is held with the groups of 2,000 numbers.
-fn held_by_many(made: Result<Groups<Fnv1a>, TreeError>) -> Result<Option<u128>, TreeError> {
-    let mut groups = made?;
-    let put = put_numbers(&mut groups, 2000);
-    let held = groups.held();
-    drop(groups);
-    Ok(if put? { held } else { None })
-}
-
-/// No array that was doubled stays held, whatever else is held below the parent: here a block of 8,192 bytes.
-#[test]
-fn old_arrays_are_given_up_beside_a_chunk(rt: HostRuntime) {
-    let alone = held_by_many(Groups::new(rt.alloc(), Fnv1a));
-    assert!(rt; alone == Ok(Some(196616)));
-    let beside = held_by_many(Groups::beside_a_chunk(rt.alloc(), Fnv1a));
-    assert!(rt; beside == Ok(Some(204808)));
 }
 
 /// Puts the group of a number, again if memory is refused for it: whether it is a new one, and the others were those from before
@@ -304,11 +242,6 @@ fn tell_put_again(groups: &mut Groups<Fnv1a>, told: &mut Answered) -> Result<(),
     told.tell(has_numbers(groups, 200))
 }
 
-#[test]
-fn a_refused_group_changes_none(rt: HostRuntime) -> Result<(), Fail> {
-    expect_told(of_groups(rt, tell_put_again), "true true ")
-}
-
 /// The stamps of the contexts that there are beside a root with a stamp: looked for in the slots that three can have.
 fn stamps_behind(tree: &Tree, first: u64) -> u32 {
     let mut number: u32 = 0;
@@ -329,30 +262,109 @@ fn refusal(alloc: Global, tree: &mut Tree) -> Option<TreeError> {
     GroupTable::new(alloc, tree, root, WIDTH, Fnv1a).err()
 }
 
-/// Why no table is made in a tree whose root has a stamp, and how many contexts there are below it then.
-fn made(alloc: Global, first: u64) -> (Option<TreeError>, u32) {
+/// What is told of a tree whose root has a stamp: why no table is made there, if none is, and how many contexts there are below the root
+/// then.
+fn told_of_stamps(alloc: Global, first: u64) -> Result<String, TreeError> {
     let mut tree = Tree::with_stamp(alloc, first);
     let refused = refusal(alloc, &mut tree);
-    (refused, stamps_behind(&tree, first))
-}
-
-#[test]
-fn a_table_takes_three_stamps(rt: HostRuntime) {
-    assert!(rt; made(rt.alloc(), u64::MAX - 2) == (Some(TreeError::StampsSpent), 0));
-    assert!(rt; made(rt.alloc(), u64::MAX - 3) == (None, 3));
+    let contexts = stamps_behind(&tree, first);
+    drop(tree);
+    Ok(format!(in alloc; "{refused:?} {contexts}")?)
 }
 
 /// The stamp of the context that is made next behind a table.
-fn next_stamp(alloc: Global) -> Result<u64, TreeError> {
+fn told_of_next_stamp(alloc: Global) -> Result<String, TreeError> {
     let mut tree = Tree::new(alloc);
-    let root = tree.root();
-    let table = GroupTable::new(alloc, &mut tree, root, WIDTH, Fnv1a)?;
-    let next = tree.create(root, Kind::Bump)?;
-    drop(table);
-    Ok(next.stamp)
+    let refused = refusal(alloc, &mut tree);
+    let next = tree.create(tree.root(), Kind::Bump);
+    drop(tree);
+    Ok(format!(in alloc; "{refused:?} {}", next?.stamp)?)
+}
+
+/// Tells what is held with the groups of 2,000 numbers.
+fn tell_held_by_many(groups: &mut Groups<Fnv1a>, told: &mut Answered) -> Result<(), AllocError> {
+    told.tell(put_numbers(groups, 2000)?)?;
+    tell_held(groups, told)
+}
+
+/// Tells what a case names of a table.
+fn tell_case(
+    groups: &mut Groups<Fnv1a>,
+    case: &str,
+    told: &mut Answered,
+) -> Result<(), AllocError> {
+    match case {
+        "one group" => tell_one_group(groups, told),
+        "keys that begin alike" => tell_alike(groups, told),
+        "a written state" => tell_written(groups, told),
+        "rooms" => tell_rooms(groups, told),
+        "needs" => tell_needs(groups, told),
+        "refused groups" => tell_put_again(groups, told),
+        "what is held" => tell_held_by_many(groups, told),
+        _ => tell_numbers(groups, 2000, told),
+    }
+}
+
+/// What is told of a new table by the usual hash function.
+fn told_of_table(
+    alloc: Global,
+    made: Result<Groups<Fnv1a>, TreeError>,
+    case: &str,
+) -> Result<String, TreeError> {
+    let mut groups = made?;
+    let mut told = Answered::new(alloc);
+    let outcome = tell_case(&mut groups, case, &mut told);
+    drop(groups);
+    outcome?;
+    Ok(text_of(told))
+}
+
+/// What is told of a case: of groups of one hash, the least or the greatest; by a hash function with a seed; or by the usual one. And what
+/// is told of stamps.
+fn told(alloc: Global, case: &str) -> Result<String, TreeError> {
+    match case {
+        "least hash" => told_of_numbers(alloc, Alike { hash: 0 }, 300),
+        "greatest hash" => told_of_numbers(alloc, Alike { hash: u32::MAX }, 300),
+        "rising seed" => told_of_numbers(alloc, SipHash::new(RISING), 2000),
+        "seed of Python" => told_of_numbers(alloc, SipHash::new(OF_PYTHON), 2000),
+        "no three stamps" => told_of_stamps(alloc, u64::MAX - 2),
+        "three stamps" => told_of_stamps(alloc, u64::MAX - 3),
+        "no fourth stamp" => told_of_next_stamp(alloc),
+        "what is held beside a chunk" => {
+            told_of_table(alloc, Groups::beside_a_chunk(alloc, Fnv1a), "what is held")
+        }
+        _ => told_of_table(alloc, Groups::new(alloc, Fnv1a), case),
+    }
+}
+
+/// One group is put and given up. Groups are found, and found again behind a clearing, also those of one hash and by any seed. Equal
+/// bytes alone are one key. A state is written. Room is what is held on the way, and a group needs what is counted. No array that was
+/// doubled stays held, whatever else is held below the parent: here a block of 8,192 bytes. A table takes three stamps, and no fourth.
+const TOLD: &str = "\
+one group => false true true Some(32768) 1 true true Some(16384) 0 false false true
+many groups => true true true false true true
+least hash => true true true false true true
+greatest hash => true true true false true true
+rising seed => true true true false true true
+seed of Python => true true true false true true
+keys that begin alike => true true true false true true true true false false
+a written state => true true true true true true false
+rooms => None None
+needs => true Some(32768) Some(0) true Some(32768) Some(32768) true Some(49160) Some(32768) true Some(81936) Some(49160) \
+    true Some(73736) Some(65544)
+what is held => true Some(196616) 2000
+what is held beside a chunk => true Some(204808) 2000
+three stamps => None 3
+no three stamps => Some(StampsSpent) 0
+no fourth stamp => None 4
+";
+
+#[test]
+fn groups_are_put_and_found(rt: HostRuntime) -> Result<(), Fail> {
+    expect_told_lines(rt, TOLD, told)
 }
 
 #[test]
-fn a_table_takes_no_fourth_stamp(rt: HostRuntime) {
-    assert!(rt; next_stamp(rt.alloc()).ok() == Some(4));
+fn a_refused_group_changes_none(rt: HostRuntime) -> Result<(), Fail> {
+    expect_told(told(rt.alloc(), "refused groups"), "true true")
 }

@@ -34,11 +34,11 @@ pub fn lines(rt: HostRuntime, towns: u32, mark: &str) -> Result<String, Fail> {
     let mut lines = String::new(rt.alloc());
     for town in 0..towns {
         let line = if towns > 10_000 {
-            format!(in rt.alloc(); "k{town:05},{town}{mark}")?
+            format!(in rt.alloc(); "k{town:05},{town}{mark}")
         } else {
-            format!(in rt.alloc(); "k{town:04},{town}{mark}")?
+            format!(in rt.alloc(); "k{town:04},{town}{mark}")
         };
-        lines.push_str(&line)?;
+        lines.push_str(&line?)?;
     }
     Ok(lines)
 }

@@ -1,18 +1,15 @@
-//! Tables by a hash function that has a seed.
+//! The hash function that has a seed.
 
-use crate::tables::{FOUND, of_numbers};
 use group_table::{KeyHash, Seed, SipHash};
-use std::test::Fail;
-use test_cases::expect_told;
 
 /// The seed whose bytes are 0, 1, 2 and so on, as in the function's published vectors.
-const RISING: Seed = Seed {
+pub(crate) const RISING: Seed = Seed {
     low: 0x0706050403020100,
     high: 0x0f0e0d0c0b0a0908,
 };
 
 /// The secret that CPython makes of `PYTHONHASHSEED=42`.
-const OF_PYTHON: Seed = Seed {
+pub(crate) const OF_PYTHON: Seed = Seed {
     low: 15875276455895994543,
     high: 13339868392117103041,
 };
@@ -44,10 +41,4 @@ fn hashes_are_those_of_another_program(rt: HostRuntime) {
     ];
     let told = keys.map(|key| SipHash::new(OF_PYTHON).key_hash(key));
     assert!(rt; told == [1452430622, 1301710370, 1968120336, 3402341386]);
-}
-
-#[test]
-fn groups_are_the_same_with_each_seed(rt: HostRuntime) -> Result<(), Fail> {
-    expect_told(of_numbers(rt, SipHash::new(RISING), 2000), FOUND)?;
-    expect_told(of_numbers(rt, SipHash::new(OF_PYTHON), 2000), FOUND)
 }
