@@ -1,16 +1,15 @@
 //! Why the records of a batch are refused.
 
 use crate::field::FieldFault;
-use crate::foreign::{is_header, known_by_front, other_separator};
+use crate::foreign::{is_header, is_header_line, known_by_front, other_separator};
 use crate::lines::{count_records, first_line, line_of, open_quote, record_at};
-use crate::quoted::Quoted;
+use crate::said::Said;
 use batch_reader::BatchError;
 use csv::ByteRecord;
 use grouping_model::limits::{LAST_NUMBER, LAST_ORIGIN, MAX_ROWS};
 use packed_rows::Schema;
 use script_io::{read_digits, read_row_count};
 use std::alloc::{AllocError, Global};
-use std::fmt;
 
 /// The records of a batch: its head is the first of a text.
 #[derive(Clone, Copy)]
@@ -59,15 +58,13 @@ impl HeadPart {
             HeadPart::Rows => "ROWS",
         }
     }
-}
 
-/// What it must be.
-impl fmt::Display for HeadPart {
-    fn fmt<W: fmt::Write>(&self, f: &mut fmt::Formatter<W>) -> fmt::Result {
+    /// Says what it must be.
+    fn say_wanted(self, said: &mut Said) {
         match self {
-            HeadPart::Origin => write!(f, "0 to {LAST_ORIGIN}"),
-            HeadPart::Number => write!(f, "1 to {LAST_NUMBER}"),
-            HeadPart::Rows => f.write_str("1 to 9 digits"),
+            HeadPart::Origin => said.number("0 to ", u64::from(LAST_ORIGIN)),
+            HeadPart::Number => said.number("1 to ", u64::from(LAST_NUMBER)),
+            HeadPart::Rows => said.push_str("1 to 9 digits"),
         }
     }
 }
@@ -126,15 +123,6 @@ impl<'b> BatchText<'b> {
         })
     }
 
-    /// What stands before what is said of a head: its line, where that isn't told already.
-    fn head_line(&self, alloc: Global, record: &ByteRecord) -> Result<String, AllocError> {
-        if !self.is_file {
-            return Ok(String::new(alloc));
-        }
-        let line = self.line_of(record);
-        format!(in alloc; "line {line}: ")
-    }
-
     /// The part of a head that is not what it must be.
     fn bad_part<'h>(&self, record: &'h ByteRecord) -> Option<(HeadPart, &'h [u8])> {
         if self.is_file && record.get(0) != Some(b"batch".as_slice()) {
@@ -143,80 +131,62 @@ impl<'b> BatchText<'b> {
         self.head(record)?.bad_part()
     }
 
-    /// Says of a batch whose head is refused which part of it that is.
-    fn say_head(&self, alloc: Global, record: &ByteRecord) -> Result<Option<String>, AllocError> {
-        let Some((part, field)) = self.bad_part(record) else {
-            return Ok(None);
-        };
-        let line = self.head_line(alloc, record)?;
-        let (name, shown, space) = (part.name(), Quoted(field), space_of(field));
-        let said = format!(in alloc; "{line}{name} is {shown}; it must be {part}{space}");
-        drop(line);
-        Ok(Some(said?))
+    /// Says of a part of a head what it must be.
+    fn say_part(&self, said: &mut Said, record: &ByteRecord, part: HeadPart, field: &[u8]) {
+        // In a script the line of the head is told already.
+        if self.is_file {
+            let line = self.line_of(record);
+            said.number("line ", line);
+            said.push_str(": ");
+        }
+        said.push_str(part.name());
+        said.quoted(" is ", field);
+        said.push_str("; it must be ");
+        part.say_wanted(said);
+        said.push_str(space_of(field));
     }
 
     /// Says of a file that its first line is not a head of a batch.
-    fn say_front(&self, alloc: Global, schema: &Schema) -> Result<String, AllocError> {
+    fn say_front(&self, said: &mut Said, schema: &Schema) {
         let line = first_line(self.text);
         if line.is_empty() {
-            return format!(in alloc;
-                "the file is empty; its first line must be batch,ORIGIN,NUMBER,ROWS"
-            );
+            said.push_str("the file is empty; its first line must be batch,ORIGIN,NUMBER,ROWS");
+            return;
         }
-        let shown = Quoted(line);
-        let mut said = format!(in alloc;
-            "the first line is {shown}; it must be batch,ORIGIN,NUMBER,ROWS"
-        )?;
-        if let Some(hint) = self.front_hint(alloc, schema, line)? {
-            said.push_str("; ")?;
-            said.push_str(hint)?;
-        }
-        Ok(said)
+        said.quoted("the first line is ", line);
+        said.push_str("; it must be batch,ORIGIN,NUMBER,ROWS");
+        said.push_aside(self.front_hint(schema, line));
     }
 
     /// What the front of a file tells of it.
-    fn front_hint(
-        &self,
-        alloc: Global,
-        schema: &Schema,
-        line: &[u8],
-    ) -> Result<Option<&'static str>, AllocError> {
+    fn front_hint(&self, schema: &Schema, line: &[u8]) -> Option<&'static str> {
         if let Some(known) = known_by_front(self.text) {
-            return Ok(Some(known));
+            return Some(known);
         }
-        let mut fields = Vec::new(alloc);
-        for field in line.split(|byte| *byte == b',') {
-            fields.push(field)?;
+        if is_header_line(schema, line) {
+            return Some("the line is a header, which a batch does not have");
         }
-        if is_header(schema, &fields) {
-            return Ok(Some("the line is a header, which a batch does not have"));
-        }
-        Ok(other_separator(line))
+        other_separator(line)
     }
 
     /// Says why the head is refused.
-    fn say_bad_head(
-        &self,
-        alloc: Global,
-        schema: &Schema,
-        head: Option<&ByteRecord>,
-    ) -> Result<String, AllocError> {
+    fn say_head(&self, said: &mut Said, schema: &Schema, head: Option<&ByteRecord>) {
         if let Some(record) = head {
-            if let Some(said) = self.say_head(alloc, record)? {
-                return Ok(said);
+            if let Some((part, field)) = self.bad_part(record) {
+                self.say_part(said, record, part, field);
+                return;
             }
         }
-        self.say_front(alloc, schema)
+        self.say_front(said, schema);
     }
 
     /// Adds that a quote is left open, if one is.
-    fn add_open_quote(&self, said: &mut String) -> Result<(), AllocError> {
-        // In a script other commands stand behind the rows.
-        let whole = if self.is_file { Some(self.text) } else { None };
-        if let Some(line) = whole.and_then(open_quote) {
-            write!(said, "; the quote of line {line} is never closed")?;
+    fn add_open_quote(&self, said: &mut Said) {
+        if let Some(line) = open_quote(self.text) {
+            let line = self.line.saturating_add(line.saturating_sub(1));
+            said.number("; the quote of line ", line);
+            said.push_str(" is never closed");
         }
-        Ok(())
     }
 
     /// How many rows the head tells.
@@ -231,104 +201,106 @@ impl<'b> BatchText<'b> {
     }
 
     /// Says how many rows are told, and how many there are.
-    fn say_count(&self, alloc: Global, head: Option<&ByteRecord>) -> Result<String, AllocError> {
+    fn say_count(
+        &self,
+        alloc: Global,
+        said: &mut Said,
+        head: Option<&ByteRecord>,
+    ) -> Result<(), AllocError> {
         let found = count_records(alloc, self.text)?.saturating_sub(1);
         let told = self.told(head);
-        let mut said = format!(in alloc; "rows declared: {told}, found: {found}")?;
-        if let Some(line) = open_quote(self.text) {
-            let line = self.line.saturating_add(line.saturating_sub(1));
-            write!(said, "; the quote of line {line} is never closed")?;
-        }
-        Ok(said)
+        said.number("rows declared: ", u64::from(told));
+        said.number(", found: ", found);
+        self.add_open_quote(said);
+        Ok(())
     }
 
     /// Says that too many rows are told.
-    fn say_too_many(&self, alloc: Global, head: Option<&ByteRecord>) -> Result<String, AllocError> {
+    fn say_too_many(&self, said: &mut Said, head: Option<&ByteRecord>) {
         let told = self.told(head);
-        format!(in alloc; "rows declared: {told}; a batch has at most {MAX_ROWS}")
+        said.number("rows declared: ", u64::from(told));
+        said.number("; a batch has at most ", u64::from(MAX_ROWS));
     }
 
     /// Says how many fields a record has, and which are wanted.
-    fn say_width(
-        &self,
-        alloc: Global,
-        schema: &Schema,
-        record: &ByteRecord,
-    ) -> Result<String, AllocError> {
-        let line = self.line_of(record);
-        let found = record.len();
-        let wanted = schema.width();
-        let columns = schema.print()?;
-        let mut said = format!(in alloc;
-            "line {line}: fields found: {found}, expected: {wanted} ({columns})"
-        )?;
-        if let Some(only) = record.get(0) {
-            if found == 1 && wanted > 1 {
-                if let Some(hint) = other_separator(only) {
-                    said.push_str("; ")?;
-                    said.push_str(hint)?;
-                }
-            }
+    fn say_width(&self, said: &mut Said, schema: &Schema, record: &ByteRecord) {
+        let (line, found, wanted) = (self.line_of(record), record.len(), schema.width());
+        said.number("line ", line);
+        said.count(": fields found: ", found);
+        said.count(", expected: ", wanted);
+        said.push_str(" (");
+        said.push_made(schema.print());
+        said.push(')');
+        if found == 1 && wanted > 1 {
+            said.push_aside(other_separator(record.get(0).unwrap_or_default()));
         }
-        self.add_open_quote(&mut said)?;
-        Ok(said)
     }
 
     /// Says why a field is not a value of its column.
-    fn say_field(
-        &self,
-        alloc: Global,
-        schema: &Schema,
-        record: &ByteRecord,
-        column: usize,
-    ) -> Result<String, AllocError> {
+    fn say_field(&self, said: &mut Said, schema: &Schema, record: &ByteRecord, column: usize) {
         let line = self.line_of(record);
         let field = record.get(column).unwrap_or_default();
         if column >= schema.width() {
-            return format!(in alloc; "line {line}: {}", Quoted(field));
+            said.number("line ", line);
+            said.quoted(": ", field);
+            return;
         }
-        let kind = schema.kind(column);
-        let fault = FieldFault::of(field, kind);
-        let (name, kind, shown) = (schema.name(column), kind.as_str(), Quoted(field));
-        let mut said = format!(in alloc; "line {line}, column {name} {kind}: {shown}: {fault}")?;
-        if self.is_names(alloc, schema, record)? {
-            said.push_str("; the line is a header, which a batch does not have")?;
+        let (name, kind) = (schema.name(column), schema.kind(column));
+        let (fault, kind) = (FieldFault::of(field, kind), kind.as_str());
+        said.number("line ", line);
+        said.text(", column ", name);
+        said.text(" ", kind);
+        said.quoted(": ", field);
+        write!(said, ": {fault}");
+        if is_header(schema, record) {
+            said.push_str("; the line is a header, which a batch does not have");
         }
-        self.add_open_quote(&mut said)?;
-        Ok(said)
-    }
-
-    /// Whether a record has the names of the columns.
-    fn is_names(
-        &self,
-        alloc: Global,
-        schema: &Schema,
-        record: &ByteRecord,
-    ) -> Result<bool, AllocError> {
-        let mut fields = Vec::new(alloc);
-        for place in 0..record.len() {
-            fields.push(record.get(place).unwrap_or_default())?;
-        }
-        Ok(is_header(schema, &fields))
     }
 
     /// Says why a row is refused: for a field, or for how many it has.
     fn say_row(
         &self,
         alloc: Global,
+        said: &mut Said,
         schema: &Schema,
         row: usize,
         column: Option<usize>,
-    ) -> Result<Option<String>, AllocError> {
+    ) -> Result<(), AllocError> {
         let Some(record) = record_at(alloc, self.text, row.saturating_add(1))? else {
-            return Ok(None);
+            return Ok(());
         };
-        let said = match column {
-            Some(column) => self.say_field(alloc, schema, &record, column),
-            None => self.say_width(alloc, schema, &record),
-        };
+        match column {
+            Some(column) => self.say_field(said, schema, &record, column),
+            None => self.say_width(said, schema, &record),
+        }
         drop(record);
-        Ok(Some(said?))
+        // In a script other commands stand behind the rows.
+        if self.is_file {
+            self.add_open_quote(said);
+        }
+        Ok(())
+    }
+
+    /// Says why the records are not a batch of a schema, if a fault is found.
+    fn say_fault(
+        &self,
+        alloc: Global,
+        said: &mut Said,
+        schema: &Schema,
+        head: Option<&ByteRecord>,
+        why: BatchError,
+    ) -> Result<(), AllocError> {
+        match why {
+            BatchError::NoMemory => {}
+            BatchError::BadBatchHead => self.say_head(said, schema, head),
+            BatchError::TooManyRows => self.say_too_many(said, head),
+            BatchError::RowCount => return self.say_count(alloc, said, head),
+            BatchError::WrongWidth { row } => return self.say_row(alloc, said, schema, row, None),
+            BatchError::BadField { row, column } => {
+                return self.say_row(alloc, said, schema, row, Some(column));
+            }
+        }
+        Ok(())
     }
 
     /// Says why the records are not a batch of a schema. It says nothing if it finds no fault.
@@ -352,16 +324,8 @@ impl<'b> BatchText<'b> {
         head: Option<&ByteRecord>,
         why: BatchError,
     ) -> Result<Option<String>, AllocError> {
-        let said = match why {
-            BatchError::NoMemory => return Ok(None),
-            BatchError::BadBatchHead => self.say_bad_head(alloc, schema, head)?,
-            BatchError::TooManyRows => self.say_too_many(alloc, head)?,
-            BatchError::RowCount => self.say_count(alloc, head)?,
-            BatchError::WrongWidth { row } => return self.say_row(alloc, schema, row, None),
-            BatchError::BadField { row, column } => {
-                return self.say_row(alloc, schema, row, Some(column));
-            }
-        };
-        Ok(Some(said))
+        let mut said = Said::new(alloc);
+        self.say_fault(alloc, &mut said, schema, head, why)?;
+        said.end_if_any()
     }
 }

@@ -1,8 +1,8 @@
 //! Kinds that don't fit, and what asks for a truth value.
 
+use crate::said::Said;
 use agg_protocol::{AggKind, Argument};
 use packed_rows::ValueKind;
-use std::fmt;
 
 /// What asks for a truth value.
 #[derive(Clone, Copy)]
@@ -52,24 +52,26 @@ fn taken(kind: AggKind) -> &'static str {
     }
 }
 
-impl fmt::Display for Clash {
-    fn fmt<W: fmt::Write>(&self, f: &mut fmt::Formatter<W>) -> fmt::Result {
+impl Clash {
+    /// Says it.
+    pub(crate) fn say(self, said: &mut Said) {
         match self {
             Clash::Compared(left, right) => {
                 let (left, right) = (left.as_str(), right.as_str());
-                write!(
-                    f,
-                    "a {left} is compared with a {right}: both sides must be of one kind"
-                )
+                said.text("a ", left);
+                said.text(" is compared with a ", right);
+                said.push_str(": both sides must be of one kind");
             }
             Clash::Asked(asker, kind) => {
                 let (words, kind) = (asker.words(), kind.as_str());
-                write!(f, "{words} takes a boolean, not a {kind}")
+                said.push_str(words);
+                said.text(" takes a boolean, not a ", kind);
             }
             Clash::Argument(function, kind) => {
-                let (name, kind) = (function.name(), kind.as_str());
-                let taken = taken(*function);
-                write!(f, "{name} takes {taken}, not a {kind}")
+                let (name, taken, kind) = (function.name(), taken(function), kind.as_str());
+                said.push_str(name);
+                said.text(" takes ", taken);
+                said.text(", not a ", kind);
             }
         }
     }

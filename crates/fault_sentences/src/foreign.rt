@@ -1,5 +1,7 @@
 //! What an unexpected file is.
 
+use crate::said::Said;
+use csv::ByteRecord;
 use packed_rows::Schema;
 use std::alloc::{AllocError, Global};
 use std::str;
@@ -69,37 +71,58 @@ pub(crate) fn other_separator(line: &[u8]) -> Option<&'static str> {
     None
 }
 
-/// Whether fields are the names of a schema's columns.
-pub(crate) fn is_header(schema: &Schema, fields: &[&[u8]]) -> bool {
-    let width = schema.width();
-    if fields.len() != width {
-        return false;
-    }
-    for (column, field) in fields.iter().enumerate() {
-        if column >= width || !field.eq_ignore_ascii_case(schema.name(column).as_bytes()) {
+/// Whether a field is the name of a column.
+fn is_name(schema: &Schema, column: usize, field: &[u8]) -> bool {
+    column < schema.width() && field.eq_ignore_ascii_case(schema.name(column).as_bytes())
+}
+
+/// Whether a record is the names of a schema's columns.
+pub(crate) fn is_header(schema: &Schema, record: &ByteRecord) -> bool {
+    for column in 0..record.len() {
+        if !is_name(schema, column, record.get(column).unwrap_or_default()) {
             return false;
         }
     }
-    true
+    record.len() == schema.width()
+}
+
+/// Whether a line is the names of a schema's columns, between commas.
+pub(crate) fn is_header_line(schema: &Schema, line: &[u8]) -> bool {
+    let mut column = 0usize;
+    for field in line.split(|byte| *byte == b',') {
+        if !is_name(schema, column, field) {
+            return false;
+        }
+        column = column.saturating_add(1);
+    }
+    column == schema.width()
+}
+
+/// What a file is that is not a summary file, where that is known.
+fn known(file: &[u8]) -> Option<&'static str> {
+    if file.starts_with(b"batch,") {
+        return Some("it is a batch file: feed it first, as agg_tool feed OUT IN BATCH");
+    }
+    if file.starts_with(SUMMARY) {
+        return Some("it is a summary file of another version");
+    }
+    match known_by_front(file) {
+        Some(known) => Some(known),
+        None if str::from_utf8(file.get(..file.len().min(64)).unwrap_or(file)).is_ok() => {
+            Some("it is a text file")
+        }
+        None => None,
+    }
 }
 
 /// Why bytes are not a summary file, by their first bytes: there are none, or they are of a batch file or another format.
 pub fn no_summary(alloc: Global, file: &[u8]) -> Result<String, AllocError> {
-    let mut said = String::new(alloc);
+    let mut said = Said::new(alloc);
     if file.is_empty() {
-        said.push_str("the file is empty; a summary begins with AGGSUM01 or AGGSUM02")?;
-        return Ok(said);
+        said.push_str("the file is empty; a summary begins with AGGSUM01 or AGGSUM02");
+    } else {
+        said.push_str("it does not begin with AGGSUM01 or AGGSUM02, as a summary does");
+        said.push_aside(known(file));
     }
-    said.push_str("it does not begin with AGGSUM01 or AGGSUM02, as a summary does")?;
-    if file.starts_with(b"batch,") {
-        said.push_str("; it is a batch file: feed it first, as agg_tool feed OUT IN BATCH")?;
-    } else if file.starts_with(SUMMARY) {
-        said.push_str("; it is a summary file of another version")?;
-    } else if let Some(known) = known_by_front(file) {
-        said.push_str("; ")?;
-        said.push_str(known)?;
-    } else if str::from_utf8(file.get(..file.len().min(64)).unwrap_or(file)).is_ok() {
-        said.push_str("; it is a text file")?;
-    }
-    Ok(said)
+    said.end()
 }

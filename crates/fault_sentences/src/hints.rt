@@ -1,32 +1,32 @@
 //! What a query cannot have, and what to use instead.
 
+use crate::said::Said;
 use agg_protocol::{AggKind, Argument};
 use packed_rows::ValueKind;
-use std::fmt;
 
 /// What is said of a word or a name.
 #[derive(Clone, Copy)]
 pub(crate) enum Hint {
     /// A sentence.
-    Said(&'static str),
+    Sentence(&'static str),
     /// Which functions there are, or which take values of a kind.
     Functions(Option<ValueKind>),
 }
 
-impl fmt::Display for Hint {
-    fn fmt<W: fmt::Write>(&self, f: &mut fmt::Formatter<W>) -> fmt::Result {
-        match *self {
-            Hint::Said(said) => write!(f, "{said}"),
-            Hint::Functions(of) => {
-                match of {
-                    None => write!(f, "the functions are ")?,
-                    Some(kind) => {
-                        let kind = kind.as_str();
-                        write!(f, "the functions of {kind}s are ")?;
-                    }
-                }
-                write_names(f, of)
+impl Hint {
+    /// Says it.
+    pub(crate) fn say(self, said: &mut Said) {
+        match self {
+            Hint::Sentence(sentence) => said.push_str(sentence),
+            Hint::Functions(None) => said.push_str("the functions are "),
+            Hint::Functions(Some(kind)) => {
+                let kind = kind.as_str();
+                said.text("the functions of ", kind);
+                said.push_str("s are ");
             }
+        }
+        if let Hint::Functions(of) = self {
+            say_names(said, of);
         }
     }
 }
@@ -40,20 +40,19 @@ fn takes(function: AggKind, of: Option<ValueKind>) -> bool {
     }
 }
 
-/// Writes the names of the functions that take values, of any kind or of this one.
-fn write_names<W: fmt::Write>(f: &mut fmt::Formatter<W>, of: Option<ValueKind>) -> fmt::Result {
+/// Says the names of the functions that take values, of any kind or of this one.
+fn say_names(said: &mut Said, of: Option<ValueKind>) {
     let functions = AggKind::ALL.iter().copied();
     let mut left = functions.filter(|function| takes(*function, of)).count();
     let mut before = "";
     for function in AggKind::ALL {
         if takes(function, of) {
-            let name = function.name();
-            write!(f, "{before}{name}")?;
+            said.push_str(before);
+            said.push_str(function.name());
             left = left.saturating_sub(1);
             before = if left == 1 { " and " } else { ", " };
         }
     }
-    Ok(())
 }
 
 /// Words and signs that a query cannot have, and the hint on each.
@@ -158,7 +157,7 @@ pub(crate) fn of_word(word: &str) -> Option<&'static str> {
 /// What is said of a name that is no function's.
 pub(crate) fn of_function(name: &str) -> Hint {
     match said_of(&FUNCTIONS, name) {
-        Some(said) => Hint::Said(said),
+        Some(said) => Hint::Sentence(said),
         None if name.eq_ignore_ascii_case("bool") => Hint::Functions(Some(ValueKind::Boolean)),
         None => Hint::Functions(None),
     }

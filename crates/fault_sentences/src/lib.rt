@@ -1,7 +1,6 @@
 //! Sentences on faults, for people: one line that quotes the faulty bytes, and says what was expected.
 #![tactic(auto)]
 
-mod asides;
 mod batch;
 mod clash;
 mod disagreement;
@@ -15,6 +14,7 @@ mod places;
 mod query;
 mod quoted;
 mod reason;
+mod said;
 mod schema;
 mod script;
 mod syntax;

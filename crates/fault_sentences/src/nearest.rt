@@ -1,5 +1,6 @@
 //! Names that are near to another.
 
+use crate::said::Said;
 use packed_rows::Schema;
 use std::alloc::{AllocError, Global};
 use strsim::levenshtein;
@@ -55,4 +56,12 @@ pub(crate) fn nearest_column<'s>(
         nearest.look_at(alloc, schema.name(column))?;
     }
     Ok(nearest.found)
+}
+
+/// Says which name is near to a wrong one, if one is.
+pub(crate) fn say_near(said: &mut Said, near: Option<&str>) {
+    if let Some(name) = near {
+        said.text(" (did you mean ", name);
+        said.push_str("?)");
+    }
 }

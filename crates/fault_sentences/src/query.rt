@@ -1,11 +1,10 @@
 //! Why a text is not a query over a schema.
 
-use crate::asides::{Aside, Near};
 use crate::hints::of_word;
-use crate::nearest::nearest_column;
+use crate::nearest::{nearest_column, say_near};
 use crate::places::tokens_before;
-use crate::quoted::Quoted;
 use crate::reason::Reason;
+use crate::said::Said;
 use crate::syntax::{say_large, say_syntax};
 use crate::tour::{Mention, Role, Tour};
 use group_parser::{ParseError, count_begun, read};
@@ -17,13 +16,11 @@ use packed_rows::Schema;
 use query_checks::{is_same_call, label};
 use query_tokens::Token;
 use std::alloc::{AllocError, Global};
-use std::fmt;
 
 /// A query that was read from a text, and that a check refused.
 #[derive(Drop)]
 struct Refused<'t> {
     alloc: Global,
-    text: &'t str,
     schema: &'t Schema,
     query: &'t RawQuery,
     tour: Tour<'t>,
@@ -38,25 +35,20 @@ fn are_same(one: &Item<String>, other: &Item<String>) -> bool {
     }
 }
 
-/// An item as it is written, but for what its FILTER asks.
-#[derive(Clone, Copy)]
-struct Spelled<'q>(&'q Item<String>);
-
-impl fmt::Display for Spelled<'_> {
-    fn fmt<W: fmt::Write>(&self, f: &mut fmt::Formatter<W>) -> fmt::Result {
-        match self.0 {
-            Item::Column(name) => f.write_str(name.as_str()),
-            Item::Call(call) => {
-                let function = call.kind.name();
-                let argument = match &call.column {
-                    Some(name) => name.as_str(),
-                    None => "*",
-                };
-                write!(f, "{function}({argument})")?;
-                if call.filter.is_some() {
-                    f.write_str(" FILTER (WHERE ..)")?;
-                }
-                Ok(())
+/// Says an item as it is written, but for what its FILTER asks.
+fn say_item(said: &mut Said, item: &Item<String>) {
+    match item {
+        Item::Column(name) => said.push_str(name.as_str()),
+        Item::Call(call) => {
+            said.push_str(call.kind.name());
+            said.push('(');
+            said.push_str(match &call.column {
+                Some(name) => name.as_str(),
+                None => "*",
+            });
+            said.push(')');
+            if call.filter.is_some() {
+                said.push_str(" FILTER (WHERE ..)");
             }
         }
     }
@@ -135,139 +127,128 @@ fn count_names(names: &[String]) -> usize {
     count
 }
 
-impl<'t> Refused<'t> {
-    /// What is said of a place.
-    fn at(&self, place: usize, said: String) -> Result<Reason, AllocError> {
-        Reason::at(self.alloc, self.text, place, said)
+/// Says of what a term of ORDER BY names that it is not an item, if it is none.
+fn say_target(said: &mut Said, query: &RawQuery, target: &OrderBy) {
+    let many = query.items.len();
+    match target {
+        OrderBy::Name(name) if count_named(query, name.as_str()) == 0 => {
+            said.quote(name.as_bytes());
+            said.push_str(" names no item: a term of ORDER BY is the name or the place of an item");
+        }
+        OrderBy::Place(number) if *number < 1 || *number as u64 > many as u64 => {
+            write!(said, "there is no item {number}");
+            said.count(": the items are 1 to ", many);
+        }
+        _ => {}
     }
+}
 
-    /// Says which column there is not, which is near to it, and which there are.
-    fn say_no_column(&self) -> Result<Option<Reason>, AllocError> {
+/// Says of what a term of ORDER BY names that it is items that aren't the same, if so.
+fn say_unlike(said: &mut Said, query: &RawQuery, target: &OrderBy) {
+    let OrderBy::Name(name) = target else {
+        return;
+    };
+    if !are_alike(query, name.as_str()) {
+        let count = count_named(query, name.as_str());
+        said.quote(name.as_bytes());
+        said.count(" names ", count);
+        said.push_str(" different items: rename one with AS, or write its place");
+    }
+}
+
+/// Says of a name which item it names, and what serves where the name means nothing.
+fn say_unseen(said: &mut Said, item: &Item<String>, advice: Advice) {
+    let (before, behind) = advice.words();
+    said.push_str(" names an item, ");
+    said.push_str(before);
+    say_item(said, item);
+    said.push_str(behind);
+}
+
+impl<'t> Refused<'t> {
+    /// Says which column there is not, which is near to it, and which there are: where it is named.
+    fn say_no_column(&self, said: &mut Said) -> Option<usize> {
         for mention in &self.tour.mentions {
             if self.schema.place(mention.name).is_none() {
-                return Ok(Some(self.say_name(mention)?));
+                self.say_name(said, mention);
+                return Some(mention.at);
             }
         }
-        self.say_no_item()
+        self.say_no_item(said)
     }
 
-    /// The item that has a name, as it is written, and what stands before and behind it where the name means nothing.
-    fn unseen(&self, mention: &Mention<'_>) -> Option<(Spelled<'_>, Advice)> {
+    /// The item that has a name, and what is said of it where the name means nothing.
+    fn unseen(&self, mention: &Mention<'_>) -> Option<(&'t Item<String>, Advice)> {
         for item in &self.query.items {
             if has_name(item, mention.name) {
                 let advice = Advice::on(mention.role, &item.0)?;
-                return Some((Spelled(&item.0), advice));
+                return Some((&item.0, advice));
             }
         }
         None
     }
 
-    /// What stands behind a name that is no column's.
-    fn say_help(&self, mention: &Mention<'_>) -> Result<String, AllocError> {
-        let near = nearest_column(self.alloc, mention.name, self.schema)?;
-        let hint = match (near, of_word(mention.name), mention.role) {
+    /// Says what a name may stand for that is no column's.
+    fn say_help(&self, said: &mut Said, mention: &Mention<'_>) {
+        let near = said.found(nearest_column(self.alloc, mention.name, self.schema));
+        say_near(said, near);
+        said.push_aside(match (near, of_word(mention.name), mention.role) {
             (None, None, Role::Condition) => Some("write texts in single quotes"),
             (None, hint, _) => hint,
             (Some(_), _, _) => None,
-        };
-        let (near, hint) = (Near(near), Aside(hint));
-        format!(in self.alloc; "{near}{hint}")
+        });
     }
 
     /// Says of a name that it is no column's.
-    fn say_name(&self, mention: &Mention<'_>) -> Result<Reason, AllocError> {
-        let name = Quoted(mention.name.as_bytes());
-        if let Some((item, advice)) = self.unseen(mention) {
-            let (before, behind) = advice.words();
-            let said = format!(in self.alloc; "{name} names an item, {before}{item}{behind}")?;
-            return self.at(mention.at, said);
-        }
-        let columns = self.schema.print()?;
-        let help = self.say_help(mention)?;
-        let said = format!(in self.alloc;
-            "{name} is not a column{help}; the columns are {columns}"
-        );
-        drop(help);
-        drop(columns);
-        self.at(mention.at, said?)
-    }
-
-    /// Says of what a term of ORDER BY names that it is not an item, if it is none.
-    fn say_target(&self, target: &OrderBy) -> Result<Option<String>, AllocError> {
-        let many = self.query.items.len();
-        match target {
-            OrderBy::Name(name) if count_named(self.query, name.as_str()) == 0 => {
-                let shown = Quoted(name.as_bytes());
-                let said = format!(in self.alloc;
-                    "{shown} names no item: a term of ORDER BY is the name or the place of an item"
-                )?;
-                Ok(Some(said))
+    fn say_name(&self, said: &mut Said, mention: &Mention<'_>) {
+        said.quote(mention.name.as_bytes());
+        match self.unseen(mention) {
+            Some((item, advice)) => say_unseen(said, item, advice),
+            None => {
+                said.push_str(" is not a column");
+                self.say_help(said, mention);
+                said.push_str("; the columns are ");
+                said.push_made(self.schema.print());
             }
-            OrderBy::Place(number) if *number < 1 || *number as u64 > many as u64 => {
-                let said = format!(in self.alloc;
-                    "there is no item {number}: the items are 1 to {many}"
-                )?;
-                Ok(Some(said))
-            }
-            _ => Ok(None),
         }
     }
 
-    /// Says which term of ORDER BY names no item.
-    fn say_no_item(&self) -> Result<Option<Reason>, AllocError> {
+    /// Says which term of ORDER BY names no item: where it stands.
+    fn say_no_item(&self, said: &mut Said) -> Option<usize> {
         for (term, place) in self.query.order.iter().zip(self.tour.terms.iter()) {
-            if let Some(said) = self.say_target(&term.target)? {
-                return Ok(Some(self.at(*place, said)?));
+            say_target(said, self.query, &term.target);
+            if !said.is_silent() {
+                return Some(*place);
             }
         }
-        Ok(None)
+        None
     }
 
-    /// Says of what a term of ORDER BY names that it is items that aren't the same, if so.
-    fn say_unlike(&self, target: &OrderBy) -> Result<Option<String>, AllocError> {
-        let OrderBy::Name(name) = target else {
-            return Ok(None);
-        };
-        if are_alike(self.query, name.as_str()) {
-            return Ok(None);
-        }
-        let count = count_named(self.query, name.as_str());
-        let shown = Quoted(name.as_bytes());
-        let said = format!(in self.alloc;
-            "{shown} names {count} different items: rename one with AS, or write its place"
-        )?;
-        Ok(Some(said))
-    }
-
-    /// Says which term of ORDER BY names items that aren't the same.
-    fn say_ambiguous(&self) -> Result<Option<Reason>, AllocError> {
+    /// Says which term of ORDER BY names items that aren't the same: where it stands.
+    fn say_ambiguous(&self, said: &mut Said) -> Option<usize> {
         for (term, place) in self.query.order.iter().zip(self.tour.terms.iter()) {
-            if let Some(said) = self.say_unlike(&term.target)? {
-                return Ok(Some(self.at(*place, said)?));
+            say_unlike(said, self.query, &term.target);
+            if !said.is_silent() {
+                return Some(*place);
             }
         }
-        Ok(None)
+        None
     }
 
-    /// Says which aggregate stands in WHERE or a FILTER.
-    fn say_aggregate(&self) -> Result<Option<Reason>, AllocError> {
-        let Some((function, at)) = self.tour.misplaced else {
-            return Ok(None);
-        };
+    /// Says which aggregate stands in WHERE or a FILTER: where.
+    fn say_aggregate(&self, said: &mut Said) -> Option<usize> {
+        let (function, at) = self.tour.misplaced?;
         let name = function.name();
-        let said = format!(in self.alloc;
-            "the aggregate {name} is not allowed in WHERE or FILTER: move it to HAVING"
-        )?;
-        Ok(Some(self.at(at, said)?))
+        said.text("the aggregate ", name);
+        said.push_str(" is not allowed in WHERE or FILTER: move it to HAVING");
+        Some(at)
     }
 
-    /// Says which kinds don't fit.
-    fn say_clash(&self) -> Result<Option<Reason>, AllocError> {
-        let Some((clash, at)) = self.tour.clash else {
-            return Ok(None);
-        };
-        let said = format!(in self.alloc; "{clash}")?;
-        Ok(Some(self.at(at, said)?))
+    /// Says which kinds don't fit: where that is.
+    fn say_clash(&self, said: &mut Said) -> Option<usize> {
+        let (clash, at) = self.tour.clash?;
+        clash.say(said);
+        Some(at)
     }
 
     /// Whether a name is a column of GROUP BY.
@@ -275,18 +256,16 @@ impl<'t> Refused<'t> {
         self.query.keys.iter().any(|key| key.as_str() == name)
     }
 
-    /// Says which column is not in GROUP BY.
-    fn say_not_grouped(&self) -> Result<Option<Reason>, AllocError> {
+    /// Says which column is not in GROUP BY: where it is named.
+    fn say_not_grouped(&self, said: &mut Said) -> Option<usize> {
         for mention in &self.tour.mentions {
             if matches!(mention.role, Role::Outside | Role::Having) && !self.is_key(mention.name) {
-                let shown = Quoted(mention.name.as_bytes());
-                let said = format!(in self.alloc;
-                    "column {shown} must appear in GROUP BY or be used in a call"
-                )?;
-                return Ok(Some(self.at(mention.at, said)?));
+                said.quoted("column ", mention.name.as_bytes());
+                said.push_str(" must appear in GROUP BY or be used in a call");
+                return Some(mention.at);
             }
         }
-        Ok(None)
+        None
     }
 
     /// How many different calls stand among the items and in HAVING.
@@ -306,101 +285,137 @@ impl<'t> Refused<'t> {
     }
 
     /// Says of what there is too much, how much, and how much there may be.
-    fn say_too_many(&self) -> Result<Reason, AllocError> {
-        let alloc = self.alloc;
+    fn say_too_many(&self, said: &mut Said) {
         let items = self.query.items.len();
         let (keys, calls) = (count_names(&self.query.keys), self.count_calls());
-        let said = if items > MAX_ITEMS {
-            format!(in alloc; "{items} items; the limit is {MAX_ITEMS}")?
+        if items > MAX_ITEMS {
+            said.count("", items);
+            said.count(" items; the limit is ", MAX_ITEMS);
         } else if keys > MAX_KEYS {
-            format!(in alloc; "{keys} columns in GROUP BY; the limit is {MAX_KEYS}")?
+            said.count("", keys);
+            said.count(" columns in GROUP BY; the limit is ", MAX_KEYS);
         } else if calls > MAX_CALLS {
-            format!(in alloc; "{calls} different calls; the limit is {MAX_CALLS}")?
+            said.count("", calls);
+            said.count(" different calls; the limit is ", MAX_CALLS);
         } else {
-            format!(in alloc; "the canonical text is longer than {MAX_QUERY_LEN} bytes")?
-        };
-        Ok(Reason::whole(alloc, said))
+            said.count("the canonical text is longer than ", MAX_QUERY_LEN);
+            said.push_str(" bytes");
+        }
     }
 
-    /// Says which condition is too deep.
-    fn say_too_deep(&self) -> Result<Reason, AllocError> {
+    /// Says which condition is too deep: where that is.
+    fn say_too_deep(&self, said: &mut Said) -> usize {
         let (depth, at) = self.tour.deepest;
-        let said = format!(in self.alloc;
-            "a condition is {depth} levels deep; the limit is {DEEPEST_CONDITION}: split a long chain into pairs, as (a OR b) OR (c OR d)"
-        )?;
-        self.at(at, said)
+        said.count("a condition is ", depth);
+        said.number(" levels deep; the limit is ", DEEPEST_CONDITION);
+        said.push_str(": split a long chain into pairs, as (a OR b) OR (c OR d)");
+        at
     }
 
-    /// Says why a check of the query does not pass.
-    fn say_check(&self, why: QueryError) -> Result<Option<Reason>, AllocError> {
+    /// Says why a check of the query does not pass: where, if a place is known.
+    fn say_check(&self, said: &mut Said, why: QueryError) -> Option<usize> {
         match why {
-            QueryError::NoMemory => Ok(None),
-            QueryError::NoSuchColumn => self.say_no_column(),
-            QueryError::NotGrouped => self.say_not_grouped(),
-            QueryError::TypeMismatch => self.say_clash(),
-            QueryError::AggregateHere => self.say_aggregate(),
-            QueryError::TooMany => Ok(Some(self.say_too_many()?)),
-            QueryError::TooDeep => Ok(Some(self.say_too_deep()?)),
-            QueryError::AmbiguousOrder => self.say_ambiguous(),
+            QueryError::NoMemory => None,
+            QueryError::NoSuchColumn => self.say_no_column(said),
+            QueryError::NotGrouped => self.say_not_grouped(said),
+            QueryError::TypeMismatch => self.say_clash(said),
+            QueryError::AggregateHere => self.say_aggregate(said),
+            QueryError::TooMany => {
+                self.say_too_many(said);
+                None
+            }
+            QueryError::TooDeep => Some(self.say_too_deep(said)),
+            QueryError::AmbiguousOrder => self.say_ambiguous(said),
         }
     }
 }
 
 /// Says at which of a text's tokens too many parentheses are open.
-fn say_open(alloc: Global, text: &str, tokens: &[Token]) -> Result<Reason, AllocError> {
-    let at = match tokens.get(count_begun(alloc, tokens)?) {
+fn say_open(
+    alloc: Global,
+    said: &mut Said,
+    text: &str,
+    tokens: &[Token],
+) -> Result<usize, AllocError> {
+    let begun = count_begun(alloc, tokens)?;
+    said.count("more than ", MAX_OPEN);
+    said.push_str(" parentheses are open here");
+    Ok(match tokens.get(begun) {
         Some(token) => token.at,
         None => text.len(),
-    };
-    let said = format!(in alloc; "more than {MAX_OPEN} parentheses are open here")?;
-    Reason::at(alloc, text, at, said)
+    })
 }
 
 /// Says why a check refuses a query that was read from a text of these tokens.
 fn say_checked(
     alloc: Global,
+    said: &mut Said,
     schema: &Schema,
-    text: &str,
     tokens: &[Token],
     query: &RawQuery,
     why: QueryError,
-) -> Result<Option<Reason>, AllocError> {
+) -> Result<Option<usize>, AllocError> {
     let refused = Refused {
         alloc,
-        text,
         schema,
         query,
         tour: Tour::of(alloc, schema, tokens, query)?,
     };
-    let reason = refused.say_check(why);
+    let place = refused.say_check(said, why);
     drop(refused);
-    reason
+    Ok(place)
 }
 
 /// Says why a text that has these tokens is refused, though each of them may stand where it does.
 fn say_refused(
     alloc: Global,
+    said: &mut Said,
     schema: &Schema,
     text: &str,
     tokens: &[Token],
     why: QueryError,
-) -> Result<Option<Reason>, AllocError> {
+) -> Result<Option<usize>, AllocError> {
     match read(alloc, text) {
         Ok(query) => {
-            let reason = say_checked(alloc, schema, text, tokens, &query, why);
+            let place = say_checked(alloc, said, schema, tokens, &query, why);
             drop(query);
-            reason
+            place
         }
-        Err(ParseError::Query(QueryError::TooDeep)) => Ok(Some(say_open(alloc, text, tokens)?)),
+        Err(ParseError::Query(QueryError::TooDeep)) => {
+            Ok(Some(say_open(alloc, said, text, tokens)?))
+        }
         Err(ParseError::Query(QueryError::NoMemory)) => Err(AllocError),
         Err(_) => Ok(None),
     }
 }
 
-/// Says that a text is too long.
-fn say_long(alloc: Global, text: &str) -> Result<String, AllocError> {
+/// Says why a text is not a query over a schema: where, if a place is known.
+fn say_text(
+    alloc: Global,
+    said: &mut Said,
+    schema: &Schema,
+    text: &str,
+    why: ParseError,
+) -> Result<Option<usize>, AllocError> {
     let len = text.len();
-    format!(in alloc; "the query has {len} bytes; the limit is {MAX_QUERY_LEN}")
+    if len > MAX_QUERY_LEN {
+        said.count("the query has ", len);
+        said.count(" bytes; the limit is ", MAX_QUERY_LEN);
+        return Ok(None);
+    }
+    match why {
+        ParseError::Syntax { at } => {
+            say_syntax(alloc, said, text, at)?;
+            Ok(Some(at))
+        }
+        ParseError::NumberTooLarge => say_large(alloc, said, text),
+        ParseError::Query(why) => {
+            let tokens = tokens_before(alloc, text, len)?;
+            let place = say_refused(alloc, said, schema, text, &tokens, why);
+            drop(tokens);
+            place
+        }
+    }
 }
 
 /// Says why a text is not a query over a schema: where, what was found, and what was expected. It says nothing if it finds no fault.
@@ -410,17 +425,7 @@ pub fn say_query(
     text: &str,
     why: ParseError,
 ) -> Result<Option<Reason>, AllocError> {
-    if text.len() > MAX_QUERY_LEN {
-        return Ok(Some(Reason::whole(alloc, say_long(alloc, text)?)));
-    }
-    match why {
-        ParseError::Syntax { at } => Ok(Some(say_syntax(alloc, text, at)?)),
-        ParseError::NumberTooLarge => say_large(alloc, text),
-        ParseError::Query(why) => {
-            let tokens = tokens_before(alloc, text, text.len())?;
-            let reason = say_refused(alloc, schema, text, &tokens, why);
-            drop(tokens);
-            reason
-        }
-    }
+    let mut said = Said::new(alloc);
+    let place = say_text(alloc, &mut said, schema, text, why)?;
+    Reason::of_any(alloc, said, text, place)
 }

@@ -1,6 +1,7 @@
 //! Reasons: sentences on faults.
 
 use crate::picture::picture;
+use crate::said::Said;
 use std::alloc::{AllocError, Global};
 
 /// The sentence on a fault, and the text with a caret under the place.
@@ -13,17 +14,32 @@ pub struct Reason {
 }
 
 impl Reason {
-    /// A reason with a place in a text.
-    pub(crate) fn at(
+    /// The reason that a sentence tells, with the place in a text, if that is known.
+    pub(crate) fn of(
         alloc: Global,
+        said: Said,
         text: &str,
-        place: usize,
-        said: String,
+        place: Option<usize>,
     ) -> Result<Reason, AllocError> {
-        Ok(Reason {
-            said,
-            picture: picture(alloc, text, place)?,
-        })
+        let said = said.end()?;
+        let picture = match place {
+            Some(place) => picture(alloc, text, place)?,
+            None => String::new(alloc),
+        };
+        Ok(Reason { said, picture })
+    }
+
+    /// The same, if anything is said.
+    pub(crate) fn of_any(
+        alloc: Global,
+        said: Said,
+        text: &str,
+        place: Option<usize>,
+    ) -> Result<Option<Reason>, AllocError> {
+        if said.is_silent() {
+            return Ok(None);
+        }
+        Ok(Some(Reason::of(alloc, said, text, place)?))
     }
 
     /// A reason without a place.

@@ -1,8 +1,9 @@
 //! Why a text is not a schema.
 
 use crate::places::{Lexed, Sign, piece_at, sign_of};
-use crate::quoted::Quoted;
 use crate::reason::Reason;
+use crate::said::Said;
+use crate::syntax::say_found;
 use grouping_model::limits::{MAX_COLUMNS, MAX_QUERY_LEN};
 use packed_rows::ValueKind;
 use query_tokens::{Symbol, Token, is_reserved};
@@ -88,105 +89,120 @@ struct Columns<'t> {
 }
 
 impl<'t> Columns<'t> {
-    /// What is wrong with a name.
-    fn name_fault(&self, alloc: Global, name: &str) -> Result<Option<String>, AllocError> {
+    /// Says what is wrong with a name, if something is.
+    fn say_name(&self, said: &mut Said, name: &str) {
         let column = self.names.len().saturating_add(1);
-        let shown = Quoted(name.as_bytes());
+        let shown = name.as_bytes();
         if self.names.len() >= MAX_COLUMNS {
-            return Ok(Some(format!(in alloc;
-                "column {column}, {shown}: a schema has at most {MAX_COLUMNS} columns"
-            )?));
+            said.count("column ", column);
+            said.quoted(", ", shown);
+            said.count(": a schema has at most ", MAX_COLUMNS);
+            said.push_str(" columns");
+        } else if is_reserved(name) {
+            said.count("column ", column);
+            said.quoted(": ", shown);
+            said.push_str(" is a reserved word: choose another name");
+        } else if self.names.iter().any(|other| *other == name) {
+            said.count("column ", column);
+            said.quoted(": an earlier column is named ", shown);
+            said.push_str(", too");
         }
-        if is_reserved(name) {
-            return Ok(Some(format!(in alloc;
-                "column {column}: {shown} is a reserved word: choose another name"
-            )?));
-        }
-        if self.names.iter().any(|other| *other == name) {
-            return Ok(Some(format!(in alloc;
-                "column {column}: an earlier column is named {shown}, too"
-            )?));
-        }
-        Ok(None)
     }
 
-    /// What is wrong with a kind.
-    fn kind_fault(&self, alloc: Global, word: &str) -> Result<Option<String>, AllocError> {
+    /// Says what is wrong with a kind, if something is.
+    fn say_kind(&self, said: &mut Said, word: &str) {
         if ValueKind::named(word).is_some() {
-            return Ok(None);
+            return;
         }
         let column = self.names.len();
         let name = self.names.last().copied().unwrap_or("");
-        let shown = Quoted(word.as_bytes());
-        let mut said = format!(in alloc;
-            "column {column}, {name}: {shown} is not a kind: {KINDS}"
-        )?;
-        if let Some(hint) = kind_for(word) {
-            write!(said, "; {hint}")?;
-        }
-        Ok(Some(said))
+        let shown = word.as_bytes();
+        said.count("column ", column);
+        said.text(", ", name);
+        said.quoted(": ", shown);
+        said.text(" is not a kind: ", KINDS);
+        said.push_aside(kind_for(word));
     }
 
     /// Goes past a token, or says what is wrong with it.
-    fn step(
-        &mut self,
-        alloc: Global,
-        text: &str,
-        token: &'t Token,
-    ) -> Result<Option<String>, AllocError> {
-        let fault = match (self.next, sign_of(token)) {
+    fn step(&mut self, said: &mut Said, text: &str, token: &'t Token) -> Result<(), AllocError> {
+        match (self.next, sign_of(token)) {
             (Next::Name, Sign::Name(name)) => {
-                let fault = self.name_fault(alloc, name)?;
+                self.say_name(said, name);
                 self.names.push(name)?;
                 self.next = Next::Kind;
-                fault
             }
             (Next::Kind, Sign::Name(word)) => {
-                let fault = self.kind_fault(alloc, word)?;
+                self.say_kind(said, word);
                 self.next = Next::Comma;
-                fault
             }
-            (Next::Comma, Sign::Symbol(Symbol::Comma)) => {
-                self.next = Next::Name;
-                None
+            (Next::Comma, Sign::Symbol(Symbol::Comma)) => self.next = Next::Name,
+            (next, _) => say_unexpected(said, text, token.at, next),
+        }
+        Ok(())
+    }
+
+    /// Goes past tokens up to the first that is wrong, and says what is: where it stands, if there is one.
+    fn pass(
+        &mut self,
+        said: &mut Said,
+        text: &str,
+        tokens: &'t [Token],
+    ) -> Result<Option<usize>, AllocError> {
+        for token in tokens {
+            self.step(said, text, token)?;
+            if !said.is_silent() {
+                return Ok(Some(token.at));
             }
-            (next, _) => Some(found_wanted(alloc, text, token.at, next)?),
-        };
-        Ok(fault)
+        }
+        Ok(None)
     }
 }
 
-/// What was found at a place, and what was expected.
-fn found_wanted(alloc: Global, text: &str, at: usize, next: Next) -> Result<String, AllocError> {
+/// Says what was found at a place, and what was expected.
+fn say_unexpected(said: &mut Said, text: &str, at: usize, next: Next) {
     let wanted = next.wanted();
-    let piece = piece_at(text, at);
-    if piece.is_empty() {
-        return format!(in alloc; "found the end, expected {wanted}");
-    }
-    let found = Quoted(piece.as_bytes());
-    format!(in alloc; "found {found}, expected {wanted}")
+    say_found(said, piece_at(text, at));
+    said.text(", expected ", wanted);
 }
 
-/// Says why a text is not a schema: which column fails, and why.
-pub fn say_schema(alloc: Global, text: &str) -> Result<Reason, AllocError> {
-    let len = text.len();
-    if len > MAX_QUERY_LEN {
-        let said = format!(in alloc;
-            "the text of {len} bytes is not a schema of 1 to {MAX_COLUMNS} columns"
-        )?;
-        return Ok(Reason::whole(alloc, said));
-    }
-    let lexed = Lexed::of(alloc, text)?;
+/// Says which column of a text fails, and why: where that is.
+fn say_lexed(
+    alloc: Global,
+    said: &mut Said,
+    text: &str,
+    lexed: &Lexed,
+) -> Result<usize, AllocError> {
     let mut columns = Columns {
         names: Vec::new(alloc),
         next: Next::Name,
     };
-    for token in lexed.tokens.iter() {
-        if let Some(said) = columns.step(alloc, text, token)? {
-            return Reason::at(alloc, text, token.at, said);
-        }
+    if let Some(at) = columns.pass(said, text, &lexed.tokens)? {
+        return Ok(at);
     }
     let at = lexed.fault.or(lexed.large).unwrap_or(text.len());
-    let said = found_wanted(alloc, text, at, columns.next)?;
-    Reason::at(alloc, text, at, said)
+    say_unexpected(said, text, at, columns.next);
+    Ok(at)
+}
+
+/// Says why a text is not a schema: where, if not as a whole.
+fn say_text(alloc: Global, said: &mut Said, text: &str) -> Result<Option<usize>, AllocError> {
+    let len = text.len();
+    if len > MAX_QUERY_LEN {
+        said.count("the text of ", len);
+        said.count(" bytes is not a schema of 1 to ", MAX_COLUMNS);
+        said.push_str(" columns");
+        return Ok(None);
+    }
+    let lexed = Lexed::of(alloc, text)?;
+    let place = say_lexed(alloc, said, text, &lexed);
+    drop(lexed);
+    Ok(Some(place?))
+}
+
+/// Says why a text is not a schema: which column fails, and why.
+pub fn say_schema(alloc: Global, text: &str) -> Result<Reason, AllocError> {
+    let mut said = Said::new(alloc);
+    let place = say_text(alloc, &mut said, text)?;
+    Reason::of(alloc, said, text, place)
 }

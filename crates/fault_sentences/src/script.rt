@@ -1,13 +1,13 @@
 //! Why a command of a script is refused.
 
-use crate::asides::{Aside, Near};
 use crate::batch::BatchText;
 use crate::foreign::known_by_front;
 use crate::lines::ends_line;
-use crate::nearest::Nearest;
+use crate::nearest::{Nearest, say_near};
 use crate::query::say_query;
 use crate::quoted::Quoted;
 use crate::reason::Reason;
+use crate::said::Said;
 use crate::schema::say_schema;
 use batch_reader::BatchError;
 use csv::ByteRecord;
@@ -18,7 +18,7 @@ use script_commands::{Command, Request, next_command};
 use script_io::{Records, read_limit, read_row_count};
 use std::alloc::{AllocError, Global};
 use std::collections::BTreeMap;
-use std::{fmt, str};
+use std::str;
 
 /// What a command has behind its word.
 #[derive(Clone, Copy)]
@@ -124,18 +124,11 @@ impl Part {
     }
 }
 
-/// The words of all commands.
-#[derive(Clone, Copy)]
-struct AllWords;
-
-impl fmt::Display for AllWords {
-    fn fmt<W: fmt::Write>(&self, f: &mut fmt::Formatter<W>) -> fmt::Result {
-        for (place, form) in FORMS.iter().enumerate() {
-            let joint = if place == 0 { "" } else { ", " };
-            let word = form.word;
-            write!(f, "{joint}{word}")?;
-        }
-        Ok(())
+/// Says the words of all commands.
+fn say_words(said: &mut Said) {
+    for (place, form) in FORMS.iter().enumerate() {
+        said.push_str(if place == 0 { "" } else { ", " });
+        said.push_str(form.word);
     }
 }
 
@@ -149,41 +142,58 @@ fn nearest_word(alloc: Global, word: &[u8]) -> Result<Option<&'static str>, Allo
 }
 
 /// Says that a word is no command's, and which is near to it.
-fn say_word(alloc: Global, word: &[u8]) -> Result<String, AllocError> {
-    let near = Near(nearest_word(alloc, word)?);
-    let (shown, words, known) = (Quoted(word), AllWords, Aside(known_by_front(word)));
-    format!(in alloc; "{shown} is not a command{near}; the commands are {words}{known}")
+fn say_word(alloc: Global, said: &mut Said, word: &[u8]) {
+    said.quote(word);
+    said.push_str(" is not a command");
+    let near = said.found(nearest_word(alloc, word));
+    say_near(said, near);
+    said.push_str("; the commands are ");
+    say_words(said);
+    said.push_aside(known_by_front(word));
 }
 
-/// Says why a record is not a command, or none at its place.
-fn say_command(
-    alloc: Global,
-    record: &ByteRecord,
-    has_columns: bool,
-) -> Result<String, AllocError> {
-    let word = record.get(0).unwrap_or_default();
-    let Some(form) = form_of(word) else {
-        return say_word(alloc, word);
-    };
+/// Says what is wrong with the fields of a record behind its word, if something is.
+fn say_fields(said: &mut Said, form: &Form, record: &ByteRecord) {
     let (found, wanted) = (record.len(), form.parts.len().saturating_add(1));
     if found != wanted {
         let form = form.form;
-        return format!(in alloc; "fields found: {found}, expected: {wanted} ({form})");
+        said.count("fields found: ", found);
+        said.count(", expected: ", wanted);
+        said.text(" (", form);
+        said.push_str(")");
+        return;
     }
     for (place, part) in form.parts.iter().enumerate() {
         let field = record.get(place.saturating_add(1)).unwrap_or_default();
         if let Some(fault) = part.fault(field) {
-            let shown = Quoted(field);
-            return format!(in alloc; "{shown} {fault}");
+            said.quote(field);
+            said.text(" ", fault);
+            return;
         }
     }
-    let said = match form.word {
+}
+
+/// Why a command of a word has no place here.
+fn misplaced(word: &str, has_columns: bool) -> &'static str {
+    match word {
         "columns" => "the columns were given before",
         "query" if has_columns => "the query was given before",
         "query" => "give the columns before the query",
         _ => "give the columns and the query before the replicas",
+    }
+}
+
+/// Says why a record is not a command, or none at its place.
+fn say_fault(alloc: Global, said: &mut Said, record: &ByteRecord, has_columns: bool) {
+    let word = record.get(0).unwrap_or_default();
+    let Some(form) = form_of(word) else {
+        say_word(alloc, said, word);
+        return;
     };
-    String::from_str(alloc, said)
+    say_fields(said, form, record);
+    if said.is_silent() {
+        said.push_str(misplaced(form.word, has_columns));
+    }
 }
 
 /// The words of commands that give columns, or make a replica.
@@ -300,32 +310,39 @@ impl ScriptPlace {
     }
 
     /// Says of which name of a merge there is no replica: of one, of both, or of one of both.
-    fn say_no_side(&self, alloc: Global, into: &[u8], from: &[u8]) -> Result<String, AllocError> {
-        let (one, other) = (Quoted(into), Quoted(from));
+    fn say_no_side(&self, said: &mut Said, into: &[u8], from: &[u8]) {
         match (self.is_missing(into), self.is_missing(from)) {
             (true, true) if into != from => {
-                format!(in alloc; "there is no replica {one}, and no replica {other}")
+                said.quoted("there is no replica ", into);
+                said.quoted(", and no replica ", from);
             }
-            (true, _) => format!(in alloc; "there is no replica {one}"),
-            (false, true) => format!(in alloc; "there is no replica {other}"),
-            (false, false) => format!(in alloc; "there is no replica {one}, or no replica {other}"),
+            (true, _) => said.quoted("there is no replica ", into),
+            (false, true) => said.quoted("there is no replica ", from),
+            (false, false) => {
+                said.quoted("there is no replica ", into);
+                said.quoted(", or no replica ", from);
+            }
         }
     }
 
     /// Says of which name of a command here there is no replica, or nothing saved.
     pub fn say_no_name(&self, alloc: Global, record: &ByteRecord) -> Result<String, AllocError> {
+        let mut said = Said::new(alloc);
         let name = record.get(1).unwrap_or_default();
         let other = record.get(2).unwrap_or_default();
         match record.get(0).unwrap_or_default() {
-            b"load" => format!(in alloc; "nothing is saved under {}", Quoted(other)),
-            b"merge" => self.say_no_side(alloc, name, other),
-            _ => format!(in alloc; "there is no replica {}", Quoted(name)),
+            b"load" => said.quoted("nothing is saved under ", other),
+            b"merge" => self.say_no_side(&mut said, name, other),
+            _ => said.quoted("there is no replica ", name),
         }
+        said.end()
     }
 
     /// Says why a record is not a command, or not allowed here.
     pub fn say_command(&self, alloc: Global, record: &ByteRecord) -> Result<String, AllocError> {
-        say_command(alloc, record, self.schema.is_some())
+        let mut said = Said::new(alloc);
+        say_fault(alloc, &mut said, record, self.schema.is_some());
+        said.end()
     }
 
     /// Says why the text of a command here is not a query.

@@ -2,29 +2,31 @@
 
 use crate::hints::{ARGUMENT, CALL_TERM, FRACTION, Hint, KEY_PLACE, of_function, of_star, of_word};
 use crate::places::{Lexed, Sign, piece_at, sign_of, tokens_before};
-use crate::quoted::Quoted;
-use crate::reason::Reason;
-use crate::wanted::wanted;
+use crate::said::Said;
+use crate::wanted::say_wanted;
 use group_parser::{begins, goes_on};
 use grouping_model::limits::MAX_NAME_LEN;
 use having_filter::Comparison;
 use query_tokens::{Symbol, Token, is_reserved};
 use std::alloc::{AllocError, Global};
 
-/// What is wrong with a piece that is not a token, if that is known.
-fn say_broken(alloc: Global, piece: &str) -> Result<Option<String>, AllocError> {
+/// Says what is wrong with a piece that is not a token, if that is known.
+fn say_broken(said: &mut Said, piece: &str) {
     let len = piece.len();
-    let said = match piece.chars().next() {
-        Some('\'') => "the text that begins here has no closing quote, or contains the character 0",
-        Some('-') if len > 1 && piece != "--" => "a letter follows digits directly",
-        Some('0'..='9') => "a letter follows digits directly",
-        Some('a'..='z' | 'A'..='Z' | '_') => {
-            let said = format!(in alloc; "the name has {len} bytes; the limit is {MAX_NAME_LEN}")?;
-            return Ok(Some(said));
+    match piece.chars().next() {
+        Some('\'') => said.push_str(
+            "the text that begins here has no closing quote, or contains the character 0",
+        ),
+        Some('-') if len > 1 && piece != "--" => {
+            said.push_str("a letter follows digits directly");
         }
-        _ => return Ok(None),
-    };
-    Ok(Some(String::from_str(alloc, said)?))
+        Some('0'..='9') => said.push_str("a letter follows digits directly"),
+        Some('a'..='z' | 'A'..='Z' | '_') => {
+            said.count("the name has ", len);
+            said.count(" bytes; the limit is ", MAX_NAME_LEN);
+        }
+        _ => {}
+    }
 }
 
 /// What serves in the place of a parenthesis behind a front that ends with this token.
@@ -34,7 +36,7 @@ fn hint_of_parenthesis(
     last: &Token,
 ) -> Result<Option<Hint>, AllocError> {
     if goes_on(alloc, front, "ASC")? {
-        return Ok(Some(Hint::Said(CALL_TERM)));
+        return Ok(Some(Hint::Sentence(CALL_TERM)));
     }
     let Sign::Name(name) = sign_of(last) else {
         return Ok(None);
@@ -43,7 +45,7 @@ fn hint_of_parenthesis(
     if !is_reserved(name) && goes_on(alloc, before, "count(x")? {
         return Ok(Some(of_function(name)));
     }
-    Ok(of_word(name).map(Hint::Said))
+    Ok(of_word(name).map(Hint::Sentence))
 }
 
 /// Whether tokens end with the name of a function, a parenthesis and the name of a column.
@@ -67,13 +69,13 @@ fn hint_of_place(
 ) -> Result<Option<Hint>, AllocError> {
     let is_number = piece.bytes().all(|byte| byte.is_ascii_digit()) && !piece.is_empty();
     if is_number && goes_on(alloc, front, "x HAVING TRUE")? {
-        return Ok(Some(Hint::Said(KEY_PLACE)));
+        return Ok(Some(Hint::Sentence(KEY_PLACE)));
     }
     if piece == "." && matches!(tokens.last().map(sign_of), Some(Sign::Integer)) {
-        return Ok(Some(Hint::Said(FRACTION)));
+        return Ok(Some(Hint::Sentence(FRACTION)));
     }
     if ends_with_argument(tokens) && of_word(piece).is_none() && piece != "(" {
-        return Ok(Some(Hint::Said(ARGUMENT)));
+        return Ok(Some(Hint::Sentence(ARGUMENT)));
     }
     Ok(None)
 }
@@ -90,7 +92,7 @@ fn hint_behind(
     }
     if piece == "*" {
         let is_item = goes_on(alloc, front, "count(x) AS")?;
-        return Ok(Some(Hint::Said(of_star(is_item))));
+        return Ok(Some(Hint::Sentence(of_star(is_item))));
     }
     let said = match (of_word(piece), sign_of(last)) {
         (None, Sign::Name(name)) => of_word(name),
@@ -99,7 +101,7 @@ fn hint_behind(
         }
         (said, _) => said,
     };
-    Ok(said.map(Hint::Said))
+    Ok(said.map(Hint::Sentence))
 }
 
 /// What serves in the place of a piece behind a front.
@@ -110,56 +112,66 @@ fn hint_for(alloc: Global, front: &str, piece: &str) -> Result<Option<Hint>, All
     }
     match tokens.last() {
         Some(last) => hint_behind(alloc, front, last, piece),
-        None => Ok(of_word(piece).map(Hint::Said)),
+        None => Ok(of_word(piece).map(Hint::Sentence)),
     }
 }
 
-/// What a piece is in a sentence.
-fn shown(alloc: Global, piece: &str) -> Result<String, AllocError> {
+/// Says what was found: a piece of a text, or its end.
+pub(crate) fn say_found(said: &mut Said, piece: &str) {
     if piece.is_empty() {
-        return String::from_str(alloc, "the end");
+        said.push_str("found the end");
+    } else {
+        said.quoted("found ", piece.as_bytes());
     }
-    format!(in alloc; "{}", Quoted(piece.as_bytes()))
 }
 
 /// Says what was found at a place of a text, and what was expected.
-fn say_unexpected(alloc: Global, text: &str, at: usize) -> Result<String, AllocError> {
+fn say_unexpected(alloc: Global, said: &mut Said, text: &str, at: usize) -> Result<(), AllocError> {
     let piece = piece_at(text, at);
     let front = text.get(..at).unwrap_or(text);
-    let found = shown(alloc, piece)?;
-    let mut said = format!(in alloc; "byte {at}: found {found}")?;
+    said.count("byte ", at);
+    said.push_str(": ");
+    say_found(said, piece);
     if begins(alloc, front)? {
-        let words = wanted(alloc, front)?;
-        write!(said, ", expected {words}")?;
+        said.push_str(", expected ");
+        say_wanted(alloc, said, front)?;
     } else {
         // A token before it can't stand where it does, but what is not a token at all is told first.
-        said.push_str(", which is not the start of a token")?;
+        said.push_str(", which is not the start of a token");
     }
     if let Some(hint) = hint_for(alloc, front, piece)? {
-        write!(said, "; {hint}")?;
+        said.push_str("; ");
+        hint.say(said);
     }
-    Ok(said)
+    Ok(())
 }
 
 /// Says what was found at a place where no query goes on so, and what was expected.
-pub(crate) fn say_syntax(alloc: Global, text: &str, at: usize) -> Result<Reason, AllocError> {
+pub(crate) fn say_syntax(
+    alloc: Global,
+    said: &mut Said,
+    text: &str,
+    at: usize,
+) -> Result<(), AllocError> {
     if Lexed::of(alloc, text)?.fault == Some(at) {
-        if let Some(said) = say_broken(alloc, piece_at(text, at))? {
-            return Reason::at(alloc, text, at, said);
-        }
+        say_broken(said, piece_at(text, at));
     }
-    let said = say_unexpected(alloc, text, at)?;
-    Reason::at(alloc, text, at, said)
+    if said.is_silent() {
+        say_unexpected(alloc, said, text, at)?;
+    }
+    Ok(())
 }
 
-/// Says which integer is out of range.
-pub(crate) fn say_large(alloc: Global, text: &str) -> Result<Option<Reason>, AllocError> {
-    let Some(at) = Lexed::of(alloc, text)?.large else {
-        return Ok(None);
-    };
-    let shown = Quoted(piece_at(text, at).as_bytes());
-    let said = format!(in alloc;
-        "{shown} is out of range (-9223372036854775808 to 9223372036854775807)"
-    )?;
-    Ok(Some(Reason::at(alloc, text, at, said)?))
+/// Says which integer is out of range: where it stands.
+pub(crate) fn say_large(
+    alloc: Global,
+    said: &mut Said,
+    text: &str,
+) -> Result<Option<usize>, AllocError> {
+    let large = Lexed::of(alloc, text)?.large;
+    if let Some(at) = large {
+        said.quote(piece_at(text, at).as_bytes());
+        said.push_str(" is out of range (-9223372036854775808 to 9223372036854775807)");
+    }
+    Ok(large)
 }

@@ -61,6 +61,8 @@ pub(crate) struct Tour<'q> {
     pub(crate) clash: Option<(Clash, usize)>,
     /// How deep the deepest condition is, and where it is.
     pub(crate) deepest: (usize, usize),
+    /// Whether memory was wanting on the way.
+    is_cut: bool,
 }
 
 /// Whether a token is a symbol.
@@ -97,6 +99,7 @@ impl<'q> Tour<'q> {
             misplaced: None,
             clash: None,
             deepest: (0, 0),
+            is_cut: false,
         }
     }
 
@@ -108,12 +111,16 @@ impl<'q> Tour<'q> {
         query: &'q RawQuery,
     ) -> Result<Tour<'q>, AllocError> {
         let mut tour = Tour::new(alloc, schema, tokens);
-        tour.items(&query.items)?;
-        tour.clause(&query.condition, Asker::Where, Role::Condition)?;
-        tour.keys(&query.keys)?;
-        tour.clause(&query.having, Asker::Having, Role::Having)?;
-        tour.order(query.order.len())?;
-        Ok(tour)
+        tour.items(&query.items);
+        tour.clause(&query.condition, Asker::Where, Role::Condition);
+        tour.keys(&query.keys);
+        tour.clause(&query.having, Asker::Having, Role::Having);
+        tour.order(query.order.len());
+        if tour.is_cut {
+            Err(AllocError)
+        } else {
+            Ok(tour)
+        }
     }
 
     /// Where the next token stands in the text.
@@ -182,81 +189,76 @@ impl<'q> Tour<'q> {
     }
 
     /// Goes past the name of a column: its kind.
-    fn column(&mut self, name: &'q str, role: Role) -> Result<Option<ValueKind>, AllocError> {
+    fn column(&mut self, name: &'q str, role: Role) -> Option<ValueKind> {
         let at = self.at();
-        self.mentions.push(Mention { name, at, role })?;
+        if self.mentions.push(Mention { name, at, role }).is_err() {
+            self.is_cut = true;
+        }
         self.pass(1);
-        Ok(self.kind_of(name))
+        self.kind_of(name)
     }
 
     /// Goes past what stands in a call's parentheses.
-    fn argument(&mut self, call: &'q AggCall<String>) -> Result<(), AllocError> {
+    fn argument(&mut self, call: &'q AggCall<String>) {
         let Some(name) = &call.column else {
             self.pass(1);
-            return Ok(());
+            return;
         };
         let at = self.at();
-        let found = self.column(name.as_str(), Role::Argument)?;
+        let found = self.column(name.as_str(), Role::Argument);
         if let (Argument::ValuesOf(wanted), Some(kind)) = (call.kind.argument(), found) {
             if wanted != kind {
                 self.clashes(Clash::Argument(call.kind, kind), at);
             }
         }
-        Ok(())
     }
 
     /// Goes through a call: its kind.
     #[cycle(tour)]
-    fn call(
-        &mut self,
-        call: &'q AggCall<String>,
-        role: Role,
-    ) -> Result<Option<ValueKind>, AllocError> {
+    fn call(&mut self, call: &'q AggCall<String>, role: Role) -> Option<ValueKind> {
         let at = self.at();
         if role != Role::Condition {
-            self.calls.push(call)?;
+            if self.calls.push(call).is_err() {
+                self.is_cut = true;
+            }
         } else if self.misplaced.is_none() {
             self.misplaced = Some((call.kind, at));
         }
         self.pass(2);
-        self.argument(call)?;
+        self.argument(call);
         if let Some(filter) = &call.filter {
             // Behind `) FILTER (WHERE`.
             self.pass(4);
-            let operand = self.condition(filter, Role::Condition)?;
+            let operand = self.condition(filter, Role::Condition);
             self.asks(Asker::Filter, operand);
         }
-        Ok(Some(call.kind.result()))
+        Some(call.kind.result())
     }
 
     /// Goes through a condition, from its first token or parenthesis on.
     #[cycle(tour)]
-    fn condition(
-        &mut self,
-        condition: &'q Cond<String>,
-        role: Role,
-    ) -> Result<Operand, AllocError> {
+    fn condition(&mut self, condition: &'q Cond<String>, role: Role) -> Operand {
         let at = self.at();
         let (depth, tip) = match condition {
-            Cond::Not(operand) => self.not(operand, role)?,
+            Cond::Not(operand) => self.not(operand, role),
             Cond::And(left, right) => {
-                let left = self.condition(left, role)?;
+                let left = self.condition(left, role);
                 self.joins(Asker::And, left);
-                let right = self.condition(right, role)?;
+                let right = self.condition(right, role);
                 self.asks(Asker::And, right);
                 above(left, right)
             }
             Cond::Or(left, right) => {
-                let left = self.condition(left, role)?;
+                let left = self.condition(left, role);
                 self.joins(Asker::Or, left);
-                let right = self.condition(right, role)?;
+                let right = self.condition(right, role);
                 self.asks(Asker::Or, right);
                 above(left, right)
             }
             Cond::Compare(_, left, right) => {
-                let left = self.condition(left, role)?;
+                let left = self.condition(left, role);
                 let sign = self.operator();
-                let right = self.condition(right, role)?;
+                let right = self.condition(right, role);
                 self.compares(left, right, sign);
                 above(left, right)
             }
@@ -264,31 +266,31 @@ impl<'q> Tour<'q> {
                 test,
                 negated,
                 operand,
-            } => self.tested(*test, *negated, operand, role)?,
+            } => self.tested(*test, *negated, operand, role),
             _ => return self.lone(condition, role),
         };
         self.sound(depth, tip);
         let kind = Some(ValueKind::Boolean);
-        Ok(Operand {
+        Operand {
             kind,
             depth,
             at,
             tip,
-        })
+        }
     }
 
     /// Goes through a column, a call or a literal.
     #[cycle(tour)]
-    fn lone(&mut self, leaf: &'q Cond<String>, role: Role) -> Result<Operand, AllocError> {
+    fn lone(&mut self, leaf: &'q Cond<String>, role: Role) -> Operand {
         let at = self.at();
-        let kind = self.leaf(leaf, role)?;
+        let kind = self.leaf(leaf, role);
         self.sound(1, at);
-        Ok(Operand {
+        Operand {
             kind,
             depth: 1,
             at,
             tip: at,
-        })
+        }
     }
 
     /// Keeps how deep a condition is.
@@ -300,11 +302,7 @@ impl<'q> Tour<'q> {
 
     /// Goes through a column, a call or a literal: its kind.
     #[cycle(tour)]
-    fn leaf(
-        &mut self,
-        leaf: &'q Cond<String>,
-        role: Role,
-    ) -> Result<Option<ValueKind>, AllocError> {
+    fn leaf(&mut self, leaf: &'q Cond<String>, role: Role) -> Option<ValueKind> {
         self.pass_all(Symbol::Open);
         let kind = match leaf {
             Cond::Column(name) => return self.column(name.as_str(), role),
@@ -315,17 +313,17 @@ impl<'q> Tour<'q> {
             _ => Some(ValueKind::Boolean),
         };
         self.pass(1);
-        Ok(kind)
+        kind
     }
 
     /// Goes through a NOT: how deep it is, and where.
     #[cycle(tour)]
-    fn not(&mut self, operand: &'q Cond<String>, role: Role) -> Result<(usize, usize), AllocError> {
+    fn not(&mut self, operand: &'q Cond<String>, role: Role) -> (usize, usize) {
         self.pass_all(Symbol::Open);
         self.pass(1);
-        let operand = self.condition(operand, role)?;
+        let operand = self.condition(operand, role);
         self.asks(Asker::Not, operand);
-        Ok((operand.depth.saturating_add(1), operand.tip))
+        (operand.depth.saturating_add(1), operand.tip)
     }
 
     /// Passes an operator of two operands, behind the left one: where it stands.
@@ -359,8 +357,8 @@ impl<'q> Tour<'q> {
         negated: bool,
         operand: &'q Cond<String>,
         role: Role,
-    ) -> Result<(usize, usize), AllocError> {
-        let operand = self.condition(operand, role)?;
+    ) -> (usize, usize) {
+        let operand = self.condition(operand, role);
         if test != IsTest::IsNull {
             self.asks(Asker::Is, operand);
         }
@@ -368,41 +366,34 @@ impl<'q> Tour<'q> {
         self.pass(if negated { 2 } else { 1 });
         let at = self.at();
         self.pass(1);
-        Ok((operand.depth.saturating_add(1), at))
+        (operand.depth.saturating_add(1), at)
     }
 
     /// Goes through the items, behind SELECT.
-    fn items(&mut self, items: &'q [(Item<String>, Option<String>)]) -> Result<(), AllocError> {
+    fn items(&mut self, items: &'q [(Item<String>, Option<String>)]) {
         self.pass(1);
         for (place, (item, _)) in items.iter().enumerate() {
             if place > 0 {
                 self.pass_comma();
             }
             let _kind = match item {
-                Item::Column(name) => self.column(name.as_str(), Role::Outside)?,
-                Item::Call(call) => self.call(call, Role::Outside)?,
+                Item::Column(name) => self.column(name.as_str(), Role::Outside),
+                Item::Call(call) => self.call(call, Role::Outside),
             };
         }
-        Ok(())
     }
 
     /// Goes through WHERE or HAVING, if it is there.
-    fn clause(
-        &mut self,
-        clause: &'q Option<Cond<String>>,
-        asker: Asker,
-        role: Role,
-    ) -> Result<(), AllocError> {
+    fn clause(&mut self, clause: &'q Option<Cond<String>>, asker: Asker, role: Role) {
         if let Some(condition) = clause {
             self.pass_word(asker.words());
-            let operand = self.condition(condition, role)?;
+            let operand = self.condition(condition, role);
             self.asks(asker, operand);
         }
-        Ok(())
     }
 
     /// Goes through GROUP BY, if it is there.
-    fn keys(&mut self, keys: &'q [String]) -> Result<(), AllocError> {
+    fn keys(&mut self, keys: &'q [String]) {
         for (place, key) in keys.iter().enumerate() {
             if place > 0 {
                 self.pass_comma();
@@ -410,13 +401,12 @@ impl<'q> Tour<'q> {
                 self.pass_word("group");
                 self.pass(1);
             }
-            let _kind = self.column(key.as_str(), Role::Key)?;
+            let _kind = self.column(key.as_str(), Role::Key);
         }
-        Ok(())
     }
 
     /// Goes through so many terms of ORDER BY.
-    fn order(&mut self, many: usize) -> Result<(), AllocError> {
+    fn order(&mut self, many: usize) {
         for place in 0..many {
             if place > 0 {
                 self.pass_comma();
@@ -425,8 +415,9 @@ impl<'q> Tour<'q> {
                 self.pass(1);
             }
             let at = self.at();
-            self.terms.push(at)?;
+            if self.terms.push(at).is_err() {
+                self.is_cut = true;
+            }
         }
-        Ok(())
     }
 }

@@ -1,5 +1,6 @@
 //! What may stand next in a query: what the parser goes on with.
 
+use crate::said::Said;
 use group_parser::goes_on;
 use std::alloc::{AllocError, Global};
 
@@ -48,17 +49,15 @@ const OTHERS: [(&str, &str); 27] = [
     (";", "a semicolon"),
 ];
 
-/// The words of what may stand next, with an `or` before the last.
-fn said_of(alloc: Global, words: &[&str]) -> Result<String, AllocError> {
-    let mut said = String::new(alloc);
+/// Says words, with an `or` before the last.
+fn say_words(said: &mut Said, words: &[&str]) {
     for (place, word) in words.iter().enumerate() {
         if place > 0 {
             let is_last = place.saturating_add(1) == words.len();
-            said.push_str(if is_last { " or " } else { ", " })?;
+            said.push_str(if is_last { " or " } else { ", " });
         }
-        said.push_str(word)?;
+        said.push_str(*word);
     }
-    Ok(said)
 }
 
 /// What the name is that may stand next, or nothing.
@@ -71,9 +70,8 @@ fn name_wanted(alloc: Global, front: &str) -> Result<&'static str, AllocError> {
     Ok("")
 }
 
-/// What may stand behind a front, in words.
-pub(crate) fn wanted(alloc: Global, front: &str) -> Result<String, AllocError> {
-    let mut found = Vec::new(alloc);
+/// Finds the words of all that may stand behind a front.
+fn find_words(alloc: Global, front: &str, found: &mut Vec<&'static str>) -> Result<(), AllocError> {
     let name = name_wanted(alloc, front)?;
     if !name.is_empty() {
         found.push(name)?;
@@ -86,5 +84,14 @@ pub(crate) fn wanted(alloc: Global, front: &str) -> Result<String, AllocError> {
     if found.is_empty() || goes_on(alloc, front, ";")? {
         found.push("the end")?;
     }
-    said_of(alloc, &found)
+    Ok(())
+}
+
+/// Says what may stand behind a front.
+pub(crate) fn say_wanted(alloc: Global, said: &mut Said, front: &str) -> Result<(), AllocError> {
+    let mut words = Vec::new(alloc);
+    let found = find_words(alloc, front, &mut words);
+    say_words(said, &words);
+    drop(words);
+    found
 }
