@@ -9,19 +9,20 @@ use replies::{Format, Refusal, table};
 use std::test::*;
 use test_cases::Room;
 
-/// Delivers the batch of a site to its replica.
-fn delivered(
+/// Delivers the batch of a site to its replica, by an executor.
+fn delivered_by(
     rt: HostRuntime,
     site: &Site,
     limit: u64,
     room: &mut Room<'_>,
     replica: &mut Replica,
+    executor: &mut Executor,
 ) -> Result<Met, Refusal> {
     let batch = site.next_batch(rt.alloc(), replica.query())?;
     let means = Means::new(limit, Fnv1a)?;
-    let (mut disk, mut executor) = (MemDisk::new(rt.alloc()), Executor::new());
+    let mut disk = MemDisk::new(rt.alloc());
     room.enter()?;
-    let first = replica.deliver(batch, &means, &mut disk, &mut executor);
+    let first = replica.deliver(batch, &means, &mut disk, executor);
     room.leave();
     let Err(RefusedBatch { batch, why }) = first else {
         let holds = site.delivered.is(rt.alloc(), replica)?;
@@ -33,14 +34,25 @@ fn delivered(
     if !site.own.is(rt.alloc(), replica)? {
         return Ok(Met::Changed);
     }
-    if replica
-        .deliver(batch, &means, &mut disk, &mut executor)
-        .is_err()
-    {
+    if replica.deliver(batch, &means, &mut disk, executor).is_err() {
         return Ok(Met::RefusedAgain);
     }
     let holds = site.delivered.is(rt.alloc(), replica)?;
     Ok(met_if(holds, Met::Refusal, Met::OtherAnswer))
+}
+
+/// Delivers the batch of a site to its replica.
+fn delivered(
+    rt: HostRuntime,
+    site: &Site,
+    limit: u64,
+    room: &mut Room<'_>,
+    replica: &mut Replica,
+) -> Result<Met, Refusal> {
+    let mut executor = Executor::new();
+    let met = delivered_by(rt, site, limit, room, replica, &mut executor);
+    let _work = executor.into_work();
+    met
 }
 
 /// A batch is delivered, which is folded with two that came early.
@@ -56,19 +68,20 @@ pub(crate) fn deliver(
     met
 }
 
-/// Merges a replica into that of a site.
-fn merged(
+/// Merges a replica into that of a site, by an executor.
+fn merged_by(
     rt: HostRuntime,
     site: &Site,
     limit: u64,
     room: &mut Room<'_>,
     replica: &mut Replica,
     other: &Replica,
+    executor: &mut Executor,
 ) -> Result<Met, Refusal> {
     let means = Means::new(limit, Fnv1a)?;
-    let (mut disk, mut executor) = (MemDisk::new(rt.alloc()), Executor::new());
+    let mut disk = MemDisk::new(rt.alloc());
     room.enter()?;
-    let first = replica.merge(other, &means, &mut disk, &mut executor);
+    let first = replica.merge(other, &means, &mut disk, executor);
     room.leave();
     let Err(why) = first else {
         let holds = site.merged.is(rt.alloc(), replica)? && site.other.is(rt.alloc(), other)?;
@@ -80,14 +93,26 @@ fn merged(
     if !site.own.is(rt.alloc(), replica)? || !site.other.is(rt.alloc(), other)? {
         return Ok(Met::Changed);
     }
-    if replica
-        .merge(other, &means, &mut disk, &mut executor)
-        .is_err()
-    {
+    if replica.merge(other, &means, &mut disk, executor).is_err() {
         return Ok(Met::RefusedAgain);
     }
     let holds = site.merged.is(rt.alloc(), replica)? && site.other.is(rt.alloc(), other)?;
     Ok(met_if(holds, Met::Refusal, Met::OtherAnswer))
+}
+
+/// Merges a replica into that of a site.
+fn merged(
+    rt: HostRuntime,
+    site: &Site,
+    limit: u64,
+    room: &mut Room<'_>,
+    replica: &mut Replica,
+    other: &Replica,
+) -> Result<Met, Refusal> {
+    let mut executor = Executor::new();
+    let met = merged_by(rt, site, limit, room, replica, other, &mut executor);
+    let _work = executor.into_work();
+    met
 }
 
 /// Merges the other replica of a site into one.

@@ -175,7 +175,9 @@ fn knows(
     let means = Means::usual(Fnv1a);
     let mut disk = MemDisk::new(alloc);
     hoard.leave(0)?;
-    let again = replica.deliver(batch, &means, &mut disk, &mut Executor::new());
+    let mut executor = Executor::new();
+    let again = replica.deliver(batch, &means, &mut disk, &mut executor);
+    let _work = executor.into_work();
     let is_known = matches!(&again, Ok(Delivered::Known));
     drop(again);
     hoard.give_back();

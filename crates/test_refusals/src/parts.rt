@@ -175,11 +175,14 @@ fn joined(
     requires other { IsPartOf query.now other.now }
 {
     let means = Means::new(limit, Fnv1a)?;
-    let (mut disk, mut executor) = (MemDisk::new(rt.alloc()), Executor::new());
+    let mut disk = MemDisk::new(rt.alloc());
     room.enter()?;
+    let mut executor = Executor::new();
     let first = own.join(other, query, &means, &mut disk, &mut executor);
     room.leave();
-    match own.join(other, query, &means, &mut disk, &mut executor) {
+    let again = own.join(other, query, &means, &mut disk, &mut executor);
+    let _work = executor.into_work();
+    match again {
         Ok(wanted) => Ok(united(first, &wanted)),
         Err(_) => Ok(Met::RefusedAgain),
     }

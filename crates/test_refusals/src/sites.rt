@@ -70,6 +70,23 @@ fn batch_file(alloc: Global, place: Place, count: u32, rows: &str) -> Result<Vec
     Ok(text.into_bytes())
 }
 
+/// Feeds batches of the same rows to a replica, by an executor.
+fn feed_by(
+    alloc: Global,
+    replica: &mut Replica,
+    places: &[Place],
+    count: u32,
+    rows: &str,
+    executor: &mut Executor,
+) -> Result<(), Refusal> {
+    let (means, mut disk) = (Means::usual(Fnv1a), MemDisk::new(alloc));
+    for place in places {
+        let file = batch_file(alloc, *place, count, rows)?;
+        feed(alloc, replica, &file, &means, &mut disk, executor)?;
+    }
+    Ok(())
+}
+
 /// Feeds batches of the same rows to a replica.
 fn feed_all(
     alloc: Global,
@@ -78,16 +95,10 @@ fn feed_all(
     count: u32,
     rows: &str,
 ) -> Result<(), Refusal> {
-    let (means, mut disk, mut executor) = (
-        Means::usual(Fnv1a),
-        MemDisk::new(alloc),
-        Executor::new(),
-    );
-    for place in places {
-        let file = batch_file(alloc, *place, count, rows)?;
-        feed(alloc, replica, &file, &means, &mut disk, &mut executor)?;
-    }
-    Ok(())
+    let mut executor = Executor::new();
+    let fed = feed_by(alloc, replica, places, count, rows, &mut executor);
+    let _work = executor.into_work();
+    fed
 }
 
 /// What a replica is that is fed batches of some places, and then of others.
