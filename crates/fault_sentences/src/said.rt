@@ -1,5 +1,7 @@
 //! Sentences in the making.
 
+ghost use Rattle.std.specs.Prelude.{◌≡◌, false, string_bytes, IfOk, OnOk};
+
 use crate::quoted::Quoted;
 use std::alloc::{AllocError, Global};
 use std::fmt::Display;
@@ -106,8 +108,11 @@ impl Said {
         }
     }
 
-    /// The sentence.
-    pub(crate) fn end(self) -> Result<String, AllocError> {
+    /// The sentence. One that lacks a piece is never given out.
+    pub(crate) fn end(self) -> Result<String, AllocError>
+        ensures whole { OnOk result (self.is_refused ≡ false) }
+        ensures said { IfOk result (λ sentence. string_bytes sentence ≡ string_bytes self.text) }
+    {
         let Said { text, is_refused } = self;
         if is_refused {
             Err(AllocError)
