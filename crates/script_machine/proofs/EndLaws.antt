@@ -22,7 +22,7 @@ use Rattle.replies.specs.declared.error.RunError.TheVariants as stop
 use Rattle.script_machine.proofs.Words.{AreWritten, Command, DiskFrame, ExecutesAllBut, Works, WorksThrough, empty, exact_wording}
 use Rattle.script_machine.proofs.Words.{run_error}
 use Rattle.script_machine.specs.Exact.{IsExactOutput, WritesExactly}
-use Rattle.script_machine.proofs.RunLaws.{output_lengths, ran_all, ran_start, right_of_exact, writes_all, writes_front}
+use Rattle.script_machine.proofs.RunLaws.{output_lengths, ran_all, ran_start, right_of_exact, stops_short, writes_all, writes_front}
 use Rattle.script_machine.specs.Headline.{IsRightOutput, Streams, WritesRight, commands_in}
 use Rattle.script_machine.specs.Output.{Ends, KeepsUnread, StopsAt, WritesAll, disk_over, tells_read_fault, tells_write_fault}
 use Rattle.script_machine.specs.Running.{RunsOver}
@@ -68,8 +68,8 @@ module _ {D : Type 0} (g : Ghosts D) (seed : Seed) (before after : D) (streams :
   ends_of (Err stop.WriteFault) works disk = (
     (
       short,
-      writes_front g seed works.0 (commands_in script) before after _ (StopsShort streams.old streams.new) (λ replies wrote. wrote)
-          works.1,
+      writes_front g seed works.0 (commands_in script) before after _ (StopsShort streams.old streams.new)
+          (stops_short streams.old streams.new) works.1,
     ),
     tt,
   )

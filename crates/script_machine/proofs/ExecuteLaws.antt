@@ -9,7 +9,7 @@ use Rattle.hash_agg.specs.Counting.{AreCounted}
 use Rattle.hash_agg.specs.Ran.{Refused, faults_of}
 use Rattle.hash_agg.specs.declared.work.Work.{Work}
 use Rattle.origin_prefix.specs.Errors.{join_reason}
-use Rattle.origin_prefix.specs.Parts.{aggregations_on}
+use Rattle.origin_prefix.specs.Parts.{BatchTells, aggregations_on}
 use Rattle.origin_prefix.specs.declared.error.JoinError.{JoinError}
 use Rattle.origin_prefix.specs.declared.error.JoinError.TheVariants as join
 use Rattle.origin_prefix.specs.declared.error.RefusedBatch.{RefusedBatch}
@@ -17,7 +17,7 @@ use Rattle.replica_merge.specs.DeliveryLaws.{delivery_agreed, delivery_refused}
 use Rattle.replica_merge.specs.Replicas.{DeliversAt}
 use Rattle.replica_merge.specs.Results.{DeliversBatch}
 use Rattle.replies.specs.BatchLaws.{fed_of, read_is_fed}
-use Rattle.replies.specs.FeedLaws.{taken_read, refused_not_of_batch, refused_disagrees, refused_other}
+use Rattle.replies.specs.FeedLaws.{taken_read, refused_not_of_batch, refused_other}
 use Rattle.replies.specs.RefusalLaws.{batch_never_disagrees, batch_tells, batch_undamaged, join_reasons, no_fault_in, reason_faults}
 use Rattle.replies.specs.Refusals.{join_refusal, merge_refusal, refusal_reason, refused_batch}
 use Rattle.replica_merge.specs.declared.error.MergeError.{MergeError}
@@ -32,8 +32,8 @@ use Rattle.script_commands.specs.Commands as ask
 use Rattle.script_commands.specs.Commands.{Request}
 use Rattle.tape_disks.specs.DiskLaws.{leaves_none}
 use Rattle.tape_disks.specs.declared.disk.TapeDisk.{Ghosts}
-use Rattle.script_machine.proofs.FeedLaws.{feed_alike, feed_apart, feed_worked}
-use Rattle.script_machine.proofs.StoreLaws.{disagrees_or, feed_disagrees, feed_refused, feed_tells, feed_took, same_updated}
+use Rattle.script_machine.proofs.FeedLaws.{feed_alike, feed_apart, feed_fails, feed_worked}
+use Rattle.script_machine.proofs.StoreLaws.{disagrees_or, feed_disagrees, feed_refused, feed_took, same_updated}
 use Rattle.script_machine.proofs.Words.{BatchError, DiskFrame, Executes, Held, IsNoBatch, IsOfBatch, IsRead, IsStore, Record}
 use Rattle.script_machine.proofs.Words.{Steps, Store, TellsDisagreement, Updates, WorksAtLimit, batch_refusal, is_tape_fault, kinds}
 use Rattle.script_machine.proofs.Words.{meaning, no_work, part_of, replica_at, setting_at}
@@ -62,6 +62,12 @@ pub unread_works : (old : Store) (name origin number : List ℕ) (told : ℕ) (o
 unread_works old name origin number told owned why.NoSuchName writes = refl
 unread_works old name origin number told owned (why.Batch error) writes = refl
 unread_works old name origin number told owned refusal writes = tt
+
+-- a feed that is no batch tells no disagreement, and no failure of the disk
+unread_tells : (old : Store) (name origin number : List ℕ) (told : ℕ) (owned : List Record) (error : BatchError)
+    → TellsDisagreement old (ask.Feed name origin number told) owned (says.Refused (batch_refusal error))
+unread_tells old name origin number told owned reading.NoMemory = tt
+unread_tells old name origin number told owned error = tt
 
 -- of a batch that was read and refused nothing more is told
 untaken_works : (old : Store) (name origin number : List ℕ) (told : ℕ) (owned : List Record) (of : ℕ) (error : JoinError)
@@ -103,8 +109,7 @@ module _ {D : Type 0} (g : Ghosts D) (old new : Store) (name origin number : Lis
         there)
         (batch_never_disagrees error) (λ right same. batch_undamaged error (ap refusal_reason same))
         (no_batch held origin number told owned error fault);
-    tells = feed_tells old name origin number told owned (batch_refusal error) (λ of at same. absurd (batch_never_disagrees error of at
-        same));
+    tells = unread_tells old name origin number told owned error;
     disk = subst (λ n. DiskFrame g n before before) (sym (batch_tells error)) (leaves_none g before);
     limit = λ right. unread_works old name origin number told owned (batch_refusal error) (g.writes before);
   }
@@ -151,12 +156,7 @@ module _ {D : Type 0} (g : Ghosts D) (old new : Store) (name origin number : Lis
         → Executes g (ask.Feed name origin number told) owned old before (says.Refused (refused_batch refused)) new after
     feed_untaken refused d disk undamaged = record {
       answers = steps (disagrees_or (refused_batch refused));
-      tells = feed_tells old name origin number told owned (refused_batch refused) (λ of at same. (
-        held,
-        there,
-        feed_apart held origin number told owned batch of at read (refused_disagrees (g.honest before) held batch later refused d of at
-            same),
-      ));
+      tells = untaken refused.batch.origin refused.why (ap (λ (b : Batch). b.origin) d.refused.back) d.refused.tells;
       disk = subst (λ n. DiskFrame g n before after) (ap (λ r. faults_of (Refused r)) (sym reasons) ∙ reason_faults (refused_batch refused))
           disk;
       limit = λ right. untaken_works old name origin number told owned refused.batch.origin refused.why (g.writes before)
@@ -171,6 +171,17 @@ module _ {D : Type 0} (g : Ghosts D) (old new : Store) (name origin number : Lis
 
         request : Request
         request = ask.Feed name origin number told
+
+        untaken : (of : ℕ) (error : JoinError) → of ≡ batch.origin
+            → BatchTells error (part_of held.parts batch.origin) batch.number batch.rows
+            → TellsDisagreement old request owned (says.Refused (join_refusal of error))
+        untaken of (join.OriginDisagrees at) same tells =
+            (held, there, feed_apart held origin number told owned batch of at read (same, tells.0, tells.1))
+        untaken of (join.Spill spill.NoMemory) same tells = tt
+        untaken of (join.Spill spill.TapeFault) same tells =
+            (held, there, feed_fails held origin number told owned batch spill.TapeFault read tells)
+        untaken of (join.Spill spill.TapeDamaged) same tells =
+            (held, there, feed_fails held origin number told owned batch spill.TapeDamaged read tells)
 
         steps : ((of : ℕ) × (at : Option ℕ) × (refused_batch refused ≡ why.OriginDisagrees of at))
             ⊎ ((of : ℕ) (at : Option ℕ) → refused_batch refused ≢ why.OriginDisagrees of at)

@@ -3,13 +3,15 @@ use Rattle.std.specs.Prelude.{◌≡◌, ◌≤◌, ℕ, List, length, Option, S
 use Rattle.std.proofs.Common.{subst, sym}
 use Rattle.std.proofs.lemmas.Result.{IfOk-at_ok}
 use Rattle.script_machine.proofs.Words.{Row, MAX_ROWS, Column, kinds, ReadsRows, packings, BatchError, meaning, Held, part_of, Record}
-use Rattle.script_machine.proofs.Words.{IsRead, setting_at, no_work, FeedAlike, FeedApart, FeedWorked}
+use Rattle.script_machine.proofs.Words.{IsRead, setting_at, no_work, FeedAlike, FeedApart, FeedFails, FeedWorked}
 use Rattle.batch_reader.specs.Head.{ReadsOrigin, ReadsBatchNumber}
 use Rattle.batch_reader.specs.declared.batch.Batch.{Batch}
 use Rattle.hash_agg.specs.Counting.{AreCounted}
 use Rattle.hash_agg.specs.declared.work.Work.{Work}
-use Rattle.origin_prefix.specs.Parts.{Disagrees, aggregations_on}
+use Rattle.origin_prefix.specs.Parts.{BatchTells, Disagrees, aggregations_on}
+use Rattle.origin_prefix.specs.declared.error.JoinError.TheVariants.{Spill}
 use Rattle.replies.specs.BatchLaws.{fed_of, read_is_fed}
+use Rattle.spill_partitions.specs.declared.error.SpillError.{SpillError}
 
 -- what reading records tells, by columns that are a replica's, is that the batch was read of them
 pub read_of_feed : (asked columns : List Column) (origin number : List ℕ) (told : ℕ) (owned : List Record)
@@ -72,4 +74,14 @@ feed_alike held origin number told owned read is agreed = record {
   fed = fed_of read is.rows;
   is_batch = read_is_fed (kinds held.query.columns) origin number told owned read is;
   alike = λ apart. agreed (subst (λ packed. Disagrees (part_of held.parts read.origin) read.number packed) (sym is.packed) apart);
+}
+
+-- what it is refused for, as what was read is
+pub feed_fails : (held : Held) (origin number : List ℕ) (told : ℕ) (owned : List Record) (read : Batch) (error : SpillError)
+    → IsRead (kinds held.query.columns) origin number told owned read
+    → BatchTells (Spill error) (part_of held.parts read.origin) read.number read.rows → FeedFails held origin number told owned error
+feed_fails held origin number told owned read error is tells = record {
+  fed = fed_of read is.rows;
+  is_batch = read_is_fed (kinds held.query.columns) origin number told owned read is;
+  untaken = subst (λ packed. BatchTells (Spill error) (part_of held.parts read.origin) read.number packed) is.packed tells;
 }

@@ -12,19 +12,22 @@ use Rattle.script_machine.proofs.Words.{DiskFrame, World, Record, Command, reque
 use Rattle.script_machine.proofs.Words.{AllMayRead, AreExact, Exactly, Refused, Run, Step, Along, MayReply, exact_wording}
 use Rattle.script_machine.proofs.Words.{IsReply, Agrees, AgreesAt, As_always, For_fault, For_memory, Rightly, start, after}
 use Rattle.script_machine.proofs.Words.{is_refused, is_fault, line}
-use Rattle.script_machine.proofs.Words.{refusal_name, said_text, is_refusal, faults_in, Store, empty, Represents, FitsWorld}
-use Rattle.script_machine.proofs.Words.{Answers, Steps, Executes, Executed, ExecutesAllBut, AreWritten, said_texts}
+use Rattle.script_machine.proofs.Words.{refusal_name, said_text, is_refusal, is_tape_fault, faults_in, Store, empty, Represents, FitsWorld}
+use Rattle.script_machine.proofs.Words.{Answers, Steps, Executes, Executed, ExecutesAllBut, AreWritten, IsSaid, StopsInLast, said_texts}
 use Rattle.key_hashes.specs.declared.sip_hash.Seed.{Seed}
 use Rattle.tape_disks.specs.declared.disk.TapeDisk.{Ghosts}
 use Rattle.script_io.specs.Output.{StopsShort}
 use Rattle.script_io.specs.OutputLaws.{short-first, short-second}
 use Rattle.script_commands.specs.Commands.{Request}
 use Rattle.script_machine.specs.Headline.{AreRight}
+use Rattle.script_machine.specs.Machine as machine
 use Rattle.script_machine.specs.Machine.{Reply, Replies}
 use Rattle.script_machine.specs.Text.{joined, reply_text, replies_text}
 use Rattle.script_machine.specs.Output.{Disk, IsOutput, WritesAll, WritesFront, disk_over}
 use Rattle.replies.specs.declared.refusal.Refusal.TheVariants.{NoMemory}
+use Rattle.replies.specs.Refusals.{tells_fault}
 use Rattle.replies.specs.declared.reply.Reply as code
+use Rattle.replies.specs.declared.reply.Reply.TheVariants as says
 
 -- ---- steps all along
 
@@ -111,6 +114,22 @@ honest_steps : (was is : Bool) (request : Request) (owned : List Record) (store 
     → Steps is request owned store reply next → Steps was request owned store reply next
 honest_steps was is request owned store next reply same steps = subst (λ h. Steps h request owned store reply next) same steps
 
+-- a reply is a refusal, and tells a failure of the tape disk, where that of the machine does
+same_kind : (said : Reply) (reply : code.Reply) → IsSaid said reply
+    → (is_refusal reply ≡ is_refused said) × (is_tape_fault reply ≡ is_fault said)
+same_kind (machine.Has_columns columns) (says.Columns count) is = (refl, refl)
+same_kind (machine.Has_query query) (says.Query text) is = (refl, refl)
+same_kind (machine.Has_limit bytes) (says.Limit limit) is = (refl, refl)
+same_kind (machine.Created name) (says.Created made) is = (refl, refl)
+same_kind (machine.Took name fed delivered) (says.Delivered told) is = (refl, refl)
+same_kind (machine.Merged into from) says.Merged is = (refl, refl)
+same_kind (machine.Saved saved query known) (says.Saved count) is = (refl, refl)
+same_kind (machine.Loaded name known) says.Loaded is = (refl, refl)
+same_kind (machine.Listed list) (says.Listed lines) is = (refl, refl)
+same_kind (machine.Answered query known) (says.Answer rows table) is = (refl, refl)
+same_kind (machine.Refused why) (says.Refused told) is = (refl, ap tells_fault is)
+same_kind said reply is = absurd is
+
 -- what the machine does meanwhile: its replies, and what is told of them by those of the code
 pub record Comes (honest : Bool) (state : State) (commands : List Command) (answers : List code.Reply) (old : Store) : Type 0 where
   pub replies : List Reply
@@ -133,9 +152,9 @@ one_comes honest state c cs answer answers old next is rest = record {
   replies = is.said ∷ rest.replies;
   runs = (is.may, rest.runs);
   faults = sum_by-cons (λ r. if is_fault r then 1 else 0) is.said rest.replies
-      ∙ (λ i. (if sym is.faulted i then 1 else 0) + rest.faults i) ∙ sym (sum_by-cons faults_in answer answers);
+      ∙ (λ i. (if sym (same_kind is.said answer is.is).1 i then 1 else 0) + rest.faults i) ∙ sym (sum_by-cons faults_in answer answers);
   refused = sum_by-cons (λ r. if is_refused r then 1 else 0) is.said rest.replies
-      ∙ (λ i. (if sym is.refused i then 1 else 0) + rest.refused i)
+      ∙ (λ i. (if sym (same_kind is.said answer is.is).0 i then 1 else 0) + rest.refused i)
       ∙ sym (sum_by-cons (λ r. if is_refusal r then 1 else 0) answer answers);
   reads = (is.reads, rest.reads);
   right = λ so world fits agrees. (
@@ -196,6 +215,18 @@ executed_none g store disk = (refl, refl)
 
 -- ---- a run of commands
 
+-- the texts of replies and of one more
+one_text_more : (replies : List code.Reply) (reply : code.Reply) → said_texts (replies ++ reply ∷ []) ≡ said_texts replies ++ said_text reply
+one_text_more replies reply = flat_map-append said_text replies (reply ∷ [])
+    ∙ ap (λ l. said_texts replies ++ l) (append-nil (said_text reply))
+
+-- what stops in the last reply stops short of all
+pub stops_short : (old new : Option (List ℕ)) (replies : List code.Reply) → StopsInLast old new replies
+    → StopsShort old new (said_texts replies)
+stops_short old new replies wrote = subst (λ all. StopsShort old new (said_texts all)) (sym wrote.all)
+    (subst (StopsShort old new) (sym (one_text_more wrote.whole wrote.last))
+    (short-second old wrote.mid new (said_texts wrote.whole) (said_text wrote.last) wrote.writes wrote.stops))
+
 -- all commands but those that are left were executed, and their replies are written
 pub record RunSoFar {D : Type 0} (g : Ghosts D) (seed : Seed) (commands left : List Command) (before disk : D) (store : Store) (refused : ℕ)
     (old new : Option (List ℕ)) : Type 0 where
@@ -246,7 +277,7 @@ module _ {D : Type 0} {g : Ghosts D} {seed : Seed} {commands left : List Command
   each_more = executed_more g (empty seed) store next before disk last ran.done ran.answers c reply ran.each step
 
   texts_more : said_texts (ran.answers ++ reply ∷ []) ≡ said_texts ran.answers ++ said_text reply
-  texts_more = flat_map-append said_text ran.answers (reply ∷ []) ∙ ap (λ l. said_texts ran.answers ++ l) (append-nil (said_text reply))
+  texts_more = one_text_more ran.answers reply
 
   -- it goes on
   pub ran_more : (new : Option (List ℕ)) (more : ℕ) → Appends mid new (said_text reply) → more ≡ refused
@@ -265,15 +296,14 @@ module _ {D : Type 0} {g : Ghosts D} {seed : Seed} {commands left : List Command
 
   -- it stops within a reply
   pub ran_front : (new : Option (List ℕ)) → StopsShort mid new (said_text reply)
-      → ExecutesAllBut g seed left commands before last (λ replies. StopsShort old new (said_texts replies))
+      → ExecutesAllBut g seed left commands before last (StopsInLast old new)
   ran_front new wrote = record {
     done = ran.done ++ c ∷ [];
     all = ran.all ∙ sym (append_assoc ran.done (c ∷ []) left);
     replies = ran.answers ++ reply ∷ [];
     new = next;
     each = each_more;
-    writes = subst (StopsShort old new) (sym texts_more) (short-second old mid new (said_texts ran.answers)
-        (said_text reply) ran.writes wrote);
+    writes = record { whole = ran.answers; last = reply; all = refl; mid = mid; writes = ran.writes; stops = wrote };
   }
 
 -- what two calls leave of a disk, one after the other

@@ -16,7 +16,7 @@ use Rattle.script_machine.proofs.Words.{World, IsWorld, Knowledge, nothing, lear
 use Rattle.script_machine.proofs.Words.{meaning, Accepts, known_list, reply_of, Held, told, Fits, SameQuery, MergeTells, Record, Fed}
 use Rattle.script_machine.proofs.Words.{IsBatch, IsNoBatch, IsNoQuery, Takes, IsOfBatch, IsOtherBatch, State, Exactly}
 use Rattle.script_machine.proofs.Words.{limit_reply, replica_reply, IsReply, FeedAgrees, uses_tapes, with_replica, line, known_text}
-use Rattle.script_machine.proofs.Words.{answer_text, said_text, FeedApart, IsHeldAt, TellsDisagreement, Store, IsStore, IsFileOf, AreSaved}
+use Rattle.script_machine.proofs.Words.{answer_text, said_text, IsHeldAt, TellsDisagreement, Store, IsStore, IsFileOf, AreSaved}
 use Rattle.script_machine.proofs.Words.{IsFitting, Represents, FitsWorld, Answers, Steps, JoinRefused, JoinsNames, Updates, Files}
 use Rattle.script_machine.proofs.Words.{replica_at, saved_at, knowledge_of, limit_out_of_range, columns_refusal, merge_refusal, Refusal}
 use Rattle.script_machine.proofs.Words.{Becomes, KeepsAll, Rightly, TakesFed, For_memory, For_fault, As_always}
@@ -374,18 +374,13 @@ pub disagrees_or : (refusal : Refusal) → ((of : ℕ) × (at : Option ℕ) × (
 disagrees_or (why.OriginDisagrees of at) = inl (of, at, refl)
 disagrees_or refusal = inr (λ of at e. cc)
 
--- what a refusal tells of disagreement
-pub feed_tells : (store : Store) (name origin number : List ℕ) (told : ℕ) (owned : List Record) (refusal : Refusal)
-    → ((of : ℕ) (at : Option ℕ) → refusal ≡ why.OriginDisagrees of at
-    → IsHeldAt store name (λ held. FeedApart held origin number told owned of at))
-    → TellsDisagreement store (ask.Feed name origin number told) owned (says.Refused refusal)
-feed_tells store name origin number told owned (why.OriginDisagrees of at) apart = apart of at refl
-feed_tells store name origin number told owned refusal apart = tt
-
+-- what a refusal of a merge tells
 pub merge_tells : (store : Store) (into from : List ℕ) (owned : List Record) (refusal : Refusal)
     → IsHeldAt store into (λ own. IsHeldAt store from (λ theirs. IsApart own theirs refusal))
     → TellsDisagreement store (ask.Merge into from) owned (says.Refused refusal)
 merge_tells store into from owned (why.OriginDisagrees of at) apart = apart
+merge_tells store into from owned why.TapeFault apart = apart
+merge_tells store into from owned why.TapeDamaged apart = apart
 merge_tells store into from owned refusal apart = tt
 
 -- ---- merging
@@ -504,8 +499,7 @@ module _ {honest : Bool} where
           may = As_always (may state r);
           strict = λ right world f agrees. may state r;
           represents = still state old new s r;
-          refused = refl;
-          faulted = refl;
+          is = refl;
           fits = λ right world f agrees. still_fits world old new s f;
           reads = λ world. refl;
           text = λ right world f agrees. refl;
@@ -524,8 +518,7 @@ module _ {honest : Bool} where
           may = For_damage (record { dishonest = false_from_ne_true honest never; aggregates = uses; refused = refl });
           strict = λ right. absurd (never right);
           represents = still state old new s r;
-          refused = refl;
-          faulted = refl;
+          is = refl;
           fits = λ right. absurd (never right);
           reads = λ world. refl;
           text = λ right. absurd (never right);
@@ -603,8 +596,7 @@ module _ {honest : Bool} where
               may = As_always (Rightly reply);
               strict = λ right world f agrees. Rightly reply;
               represents = record { columns = refl; query = r.query; replicas = r.replicas; saved = r.saved; limit = r.limit };
-              refused = refl;
-              faulted = refl;
+              is = tt;
               fits = λ right world f agrees. record { of_columns = agrees.0 reply.0; fit = f.fit; files = f.files };
               reads = λ world. ap (λ n. said_text (says.Columns n)) counted;
               text = λ right world f agrees. ap (λ n. said_text (says.Columns n)) counted;
@@ -651,8 +643,7 @@ module _ {honest : Bool} where
           strict = λ right world f agrees. rightly (query_says state store text columns None (machine.Has_query query) r told
               (none_there store.query none) (inl (record { what = query; is_so = is; says = refl })));
           represents = record { columns = r.columns; query = refl; replicas = r.replicas; saved = r.saved; limit = r.limit };
-          refused = refl;
-          faulted = refl;
+          is = tt;
           fits = λ right world f agrees. record { of_columns = f.of_columns; fit = f.fit; files = f.files };
           reads = λ world. ap (λ bytes. line (codes "query ") bytes) spelled;
           text = λ right world f agrees. ap (λ bytes. line (codes "query ") bytes) spelled;
@@ -672,8 +663,7 @@ module _ {honest : Bool} where
           may = As_always (rightly reply);
           strict = λ right world f agrees. rightly reply;
           represents = record { columns = r.columns; query = r.query; replicas = r.replicas; saved = r.saved; limit = refl };
-          refused = refl;
-          faulted = refl;
+          is = tt;
           fits = λ right world f agrees. record { of_columns = f.of_columns; fit = f.fit; files = f.files };
           reads = λ world. refl;
           text = λ right world f agrees. refl;
@@ -726,8 +716,7 @@ module _ {honest : Bool} where
               ∙ ap (λ known. replica_reply (Some query) known name.now) (r.replicas name.now
               ∙ ap (option_map knowledge_of) (none_there (replica_at old name.now) none))));
           represents = represents_updated state old new name.now (record { query = query; parts = [] }) nothing r u refl;
-          refused = refl;
-          faulted = refl;
+          is = tt;
           fits = λ right world f agrees. fits_updated world old new name.now (record { query = query; parts = [] }) u
               (fits_nothing query world) f;
           reads = λ world. refl;
@@ -768,8 +757,7 @@ module _ {honest : Bool} where
               absurd (other.never world (subst (λ o. IfSome o (Fits world)) there (f.fit name))
               (fed_of_world world state old name origin number told_rows owned held is there r agrees.1 other.fed other.is_batch));
           represents = still state old new s r;
-          refused = refl;
-          faulted = refl;
+          is = refl;
           fits = λ right world f agrees. still_fits world old new s f;
           reads = λ world. refl;
           text = λ right world f agrees. refl;
@@ -849,8 +837,7 @@ module _ {honest : Bool} where
           represents = represents_updated state old new name later _ r u
               (ap (λ known. learn (unwrap_or known nothing) (takes.fed.origin, takes.fed.number)) (known_there state old name held r there)
               ∙ sym takes.learns);
-          refused = refl;
-          faulted = refl;
+          is = refl;
           fits = λ right world f agrees. fits_updated world old new name later u
               (takes.fits right world (columns_of_world world old name held is there f)
               (subst (λ o. IfSome o (Fits world)) there (f.fit name)) (fed_of_world world state old name origin number told_rows owned
@@ -877,8 +864,7 @@ module _ {honest : Bool} where
           may = As_always (rightly (sym (ap known_reply (known_there state store name held r there))));
           strict = λ right world f agrees. rightly (sym (ap known_reply (known_there state store name held r there)));
           represents = r;
-          refused = refl;
-          faulted = refl;
+          is = tt;
           fits = λ right world f agrees. f;
           reads = λ world. shown;
           text = λ right world f agrees. shown;
@@ -910,8 +896,7 @@ module _ {honest : Bool} where
           strict = λ right world f agrees. rightly (sym (ap (λ q. answer_reply q (state.replicas name)) (r.query ∙ asks.0)
               ∙ ap (λ known. answer_reply (Some held.query) known) (known_there state store name held r there)));
           represents = r;
-          refused = refl;
-          faulted = refl;
+          is = tt;
           fits = λ right world f agrees. f;
           reads = (
             prints.given,
@@ -986,8 +971,7 @@ module _ {honest : Bool} where
                   absurd (never world (subst (λ o. IfSome o (Fits world)) one (f.fit into))
                   (subst (λ o. IfSome o (Fits world)) two (f.fit from)));
               represents = r;
-              refused = refl;
-              faulted = refl;
+              is = refl;
               fits = λ right world f agrees. f;
               reads = λ world. refl;
               text = λ right world f agrees. refl;
@@ -1014,8 +998,7 @@ module _ {honest : Bool} where
               represents = represents_updated state old new into later _ r u
                   ((λ i. union (unwrap_or (known_there state old into own r one i) nothing)
                   (unwrap_or (known_there state old from theirs r two i) nothing)) ∙ sym learns);
-              refused = refl;
-              faulted = refl;
+              is = tt;
               fits = λ right world f agrees. fits_updated world old new into later u
                   (fits right world (columns_of_world world old into own is one f) (subst (λ o. IfSome o (Fits world)) one (f.fit into))
                   (subst (λ o. IfSome o (Fits world)) two (f.fit from))) f;
@@ -1071,8 +1054,7 @@ module _ {honest : Bool} where
                     (sym different) (r.saved other));
                 limit = r.limit ∙ sym u.limit;
               };
-              refused = refl;
-              faulted = refl;
+              is = tt;
               fits = λ right world f agrees. record {
                 of_columns = subst (λ cs. IfSome cs (λ (columns : List Column). IsWorld (kinds columns) world)) (sym u.columns)
                     f.of_columns;
@@ -1122,8 +1104,7 @@ module _ {honest : Bool} where
             may = As_always (rightly reply);
             strict = λ right world f agrees. rightly reply;
             represents = represents_updated state old new name later _ r u (sym are.tells ∙ ap knowledge_of (sym (is are.held are.is)));
-            refused = refl;
-            faulted = refl;
+            is = tt;
             fits = λ right world f agrees.
                 let file = subst (λ o. IfSome o (IsFitting world)) there (f.files saved) in
                 fits_updated world old new name later u (subst (Fits world) (sym (is file.held file.is)) file.fits) f;

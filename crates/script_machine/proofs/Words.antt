@@ -20,10 +20,10 @@ pub use Rattle.script_io.specs.Records.{Record}
 pub use Rattle.tape_disks.specs.Disk.{DiskFrame}
 pub use Rattle.script_machine.specs.Agreement.{AreAmong, ColumnsOf, FeedsAmong, FeedsOf, IsOfColumns, KnowTheSame, OneBatchEach}
 pub use Rattle.script_machine.specs.Agreement.{PrintTheSame, after_all, world_of}
-pub use Rattle.script_machine.specs.Disagreements.{FeedAlike, FeedApart, IsHeldAt, TellsDisagreement}
+pub use Rattle.script_machine.specs.Disagreements.{FeedAlike, FeedApart, FeedFails, IsHeldAt, TellsDisagreement}
 pub use Rattle.hash_agg.specs.Counting.{no_work}
 unfoldable pub use Rattle.script_machine.specs.Executing.{Executed}
-pub use Rattle.script_machine.specs.Executing.{AreWritten, Executes, ExecutesAllBut, Works, WorksThrough, said_texts}
+pub use Rattle.script_machine.specs.Executing.{AreWritten, Executes, ExecutesAllBut, StopsInLast, Works, WorksThrough, said_texts}
 pub use Rattle.script_machine.specs.Joining.{JoinRefused, JoinsNamed, JoinsNames}
 pub use Rattle.script_machine.specs.Limits.{FeedWorked, WorksAtLimit, setting_at}
 pub use Rattle.script_machine.specs.AnyDisk.{MayReply, Run, As_always, For_damage, For_disagreement, is_fault, is_refused}
@@ -34,6 +34,6 @@ pub use Rattle.script_machine.specs.Machine.{Agrees, AgreesAt, AgreesWith, FeedA
 pub use Rattle.script_machine.specs.Machine.{As, As_nothing, For_fault, For_memory, Rightly, after, limit_reply, replica_reply, start}
 pub use Rattle.script_machine.specs.Machine.{uses_tapes, with_replica}
 pub use Rattle.script_machine.specs.Wording.{exact_wording, file_saved}
-pub use Rattle.script_machine.specs.Views.{Answers, AreSaved, Files, FitsWorld, IsFileOf, IsFitting, IsStore}
+pub use Rattle.script_machine.specs.Views.{Answers, AreSaved, Files, FitsWorld, IsFileOf, IsFitting, IsSaid, IsStore}
 pub use Rattle.script_machine.specs.Views.{Becomes, KeepsAll, Loads, Makes, Represents, Saves, Steps, Store, TakesFed, TakesIn, Updates}
 pub use Rattle.script_machine.specs.Views.{empty, knowledge_of, replica_at, saved_at}

@@ -56,6 +56,15 @@ pub record AreWritten (old new : Option (List ℕ)) (refused : ℕ) (replies : L
   pub counts : count_by is_refusal replies ≡ refused
   pub writes : Appends old new (said_texts replies)
 
+-- the replies were written, but for the last one, of which at least the last byte is missing
+pub record StopsInLast (old new : Option (List ℕ)) (replies : List Reply) : Type 0 where
+  pub whole : List Reply
+  pub last : Reply
+  pub all : replies ≡ whole ++ last ∷ []
+  pub mid : Option (List ℕ)
+  pub writes : Appends old mid (said_texts whole)
+  pub stops : StopsShort mid new (said_text last)
+
 -- commands were executed: all of them, where that ended well; up to the one whose reply was not written, where the writer failed; and as
 -- far as memory was there
 abbrev pub Works : {D : Type 0} → Ghosts D → Seed → List Command → (old new : Option (List ℕ)) → (before after : D)
@@ -63,7 +72,7 @@ abbrev pub Works : {D : Type 0} → Ghosts D → Seed → List Command → (old 
 Works g seed commands old new before after (Ok outcome) =
     ExecutesAllBut g seed [] commands before after (AreWritten old new outcome.refused)
 Works g seed commands old new before after (Err WriteFault) = (left : List Command)
-    × ExecutesAllBut g seed left commands before after (λ replies. StopsShort old new (said_texts replies))
+    × ExecutesAllBut g seed left commands before after (StopsInLast old new)
 Works {D = D} g seed commands old new before after (Err NoMemory) = (left : List Command) × (disk : D) × (refused faults : ℕ)
     × DiskFrame g faults disk after × ExecutesAllBut g seed left commands before disk (AreWritten old new refused)
 Works g seed commands old new before after (Err error) = ⊥

@@ -18,7 +18,7 @@ use Rattle.script_io.specs.Records.{Record}
 use Rattle.script_commands.specs.Commands.{Request, Replica, Feed, Answer, Merge, Save, Load}
 use Rattle.replies.specs.Batches.{Fed, IsBatch}
 use Rattle.replies.specs.Printed.{PrintsAnswer}
-use Rattle.replies.specs.Text.{said_text, is_refusal, is_tape_fault}
+use Rattle.replies.specs.Text.{said_text}
 use Rattle.replies.specs.declared.reply.Reply.{Reply}
 use Rattle.replies.specs.declared.reply.Reply.TheVariants as says
 use Rattle.replies.specs.declared.showing.Format.TheVariants.{Csv}
@@ -26,7 +26,7 @@ use Rattle.script_machine.specs.Machine as machine
 use Rattle.script_machine.specs.Machine.{State, IsReply, AgreesAt, after}
 use Rattle.script_machine.specs.Exact.{Exactly}
 use Rattle.script_machine.specs.Wording.{exact_wording}
-use Rattle.script_machine.specs.AnyDisk.{MayReply, MayRead, is_fault, is_refused}
+use Rattle.script_machine.specs.AnyDisk.{MayReply, MayRead}
 use Rattle.script_machine.specs.Text.{reply_text}
 
 -- what the code keeps: the columns and the query, once they were told, the replicas by their names, the summary files by theirs, the
@@ -118,6 +118,21 @@ pub record Files (old new : Store) (name : List ℕ) (bytes : List ℕ) : Type 0
   pub limit : new.limit ≡ old.limit
   pub seed : new.seed ≡ old.seed
 
+-- a reply of the code is one of the machine's: of the same kind, of a batch that became the same, or of the same refusal
+abbrev pub IsSaid : machine.Reply → Reply → Type 0
+IsSaid (machine.Has_columns columns) (says.Columns count) = Unit {0}
+IsSaid (machine.Has_query query) (says.Query text) = Unit {0}
+IsSaid (machine.Has_limit bytes) (says.Limit limit) = Unit {0}
+IsSaid (machine.Created name) (says.Created made) = Unit {0}
+IsSaid (machine.Took name fed delivered) (says.Delivered told) = told ≡ delivered
+IsSaid (machine.Merged into from) says.Merged = Unit {0}
+IsSaid (machine.Saved saved query known) (says.Saved count) = Unit {0}
+IsSaid (machine.Loaded name known) says.Loaded = Unit {0}
+IsSaid (machine.Listed list) (says.Listed lines) = Unit {0}
+IsSaid (machine.Answered query known) (says.Answer rows table) = Unit {0}
+IsSaid (machine.Refused why) (says.Refused told) = told ≡ why
+IsSaid said reply = ⊥
+
 -- a reply of the code to what is asked, over a tape disk that may be honest, is one of the machine's. What is kept then is what is there
 -- then. Over an honest disk the reply is the right one
 pub record Answers (honest : Bool) (state : State) (request : Request) (owned : List Record) (old : Store) (reply : Reply) (new : Store) :
@@ -125,8 +140,7 @@ pub record Answers (honest : Bool) (state : State) (request : Request) (owned : 
   pub said : machine.Reply
   pub may : MayReply honest state request owned said
   pub represents : Represents (after state said) new
-  pub refused : is_refusal reply ≡ is_refused said
-  pub faulted : is_tape_fault reply ≡ is_fault said
+  pub is : IsSaid said reply
   pub reads : MayRead said (said_text reply)
   pub strict : IsTrue honest → (world : World) → FitsWorld world old → AgreesAt world state request owned said
       → IsReply Exactly state request owned said
