@@ -1,7 +1,9 @@
 -- How the command `script` ends, beside all that is stated of a run. All of this is our own.
 use Rattle.std.specs.Prelude.{◌≡◌, ◌⊎◌, ℕ, Bool, false, List, Option, Result, IsTrue, OnOk}
 use Rattle.key_hashes.specs.declared.sip_hash.Seed.{Seed}
+use Rattle.tape_disks.specs.Files.{SystemState}
 use Rattle.tape_disks.specs.declared.disk.TapeDisk.{Ghosts}
+use Rattle.tape_disks.specs.declared.spill_disk.SpillDisk.{SpillDisk}
 use Rattle.script_io.specs.Fused.{FailsAsTold, written}
 use Rattle.script_io.specs.declared.fused.Fused.{Fused}
 use Rattle.replies.specs.Status.{run_ending}
@@ -17,6 +19,7 @@ use Rattle.script_machine.specs.Exact.{WritesExactly}
 use Rattle.script_machine.specs.Headline.{Streams, WritesRight, streams}
 use Rattle.script_machine.specs.Output.{tells_write_fault}
 use Rattle.script_machine.specs.Running.{Runs, RunsOver}
+use Rattle.command_streams.specs.Disks.{command_tapes, is_in_memory}
 use Rattle.command_streams.specs.Stopping.{RepliesRefused}
 
 -- the command ends as a run over a disk does, by this seed, of which all clauses of `run` hold: of what reader and writer were before
@@ -49,14 +52,18 @@ abbrev pub SeededEnds : {D W : Type 0} → Ghosts D → Option (List ℕ) → (W
 SeededEnds g script contents writer writer_now disk disk_now exit =
     ((seed : Seed) × RanScript g seed script contents writer writer_now disk disk_now exit) ⊎ ((exit ≡ Fault) × (writer_now ≡ writer))
 
--- the command ends, whose tapes may lie in memory, where they are honest. Its script ran, or there was no seed for it, or no file for what
--- is spilled, and the reply says so
-abbrev pub ScriptEnds : {W : Type 0} → (in_memory : Bool) → Option (List ℕ) → (W → Option (List ℕ)) → (writer writer_now : Fused W)
-    → ExitKind → Type 0
-ScriptEnds in_memory script contents writer writer_now exit =
-    ((run : Result Outcome RunError) × (exit ≡ run_ending run)
-    × OnOk run (IsTrue in_memory → WritesRight (streams_over contents script writer writer_now)
-    × WritesExactly (streams_over contents script writer writer_now)))
+-- a script ran by some seed, over tapes in memory, where they are honest, or in a file of the system
+abbrev pub RanOverTapes : {W : Type 0} → (F : Type 0) → (in_memory : Bool) → Option (List ℕ) → (W → Option (List ℕ))
+    → (writer writer_now : Fused W) → ExitKind → Type 0
+RanOverTapes F in_memory script contents writer writer_now exit =
+    (seed : Seed) × (disk disk_now : SpillDisk (SystemState F)) × (is_in_memory disk ≡ in_memory)
+    × RanScript command_tapes seed script contents writer writer_now disk disk_now exit
+
+-- the command ends. Its script ran, or there was no seed for it, or no file for what is spilled, and the reply says so
+abbrev pub ScriptEnds : {W : Type 0} → (F : Type 0) → (in_memory : Bool) → Option (List ℕ) → (W → Option (List ℕ))
+    → (writer writer_now : Fused W) → ExitKind → Type 0
+ScriptEnds F in_memory script contents writer writer_now exit =
+    RanOverTapes F in_memory script contents writer writer_now exit
     ⊎ ((exit ≡ Fault) × (writer_now ≡ writer))
     ⊎ ((in_memory ≡ false) × RepliesRefused (said_text (Refused (Run WriteFault))) (written contents writer) (written contents writer_now)
     (Run WriteFault) exit)

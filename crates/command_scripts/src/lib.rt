@@ -223,7 +223,7 @@ pub fn run_script<R: Files + AllocGlobal + RandomSource, I: Read, W: Write, E: W
     reader: &mut I,
     streams: &mut Streams<'_, W, E>,
 ) -> ExitKind
-    ensures ends { ScriptEnds (is_none spill.entry) (I.remaining reader.old) W.contents streams.old.writer.now streams.new.writer.now
+    ensures ends { ScriptEnds R.File (is_none spill.entry) (I.remaining reader.old) W.contents streams.old.writer.now streams.new.writer.now
         result }
     ensures right { is_none spill.entry ≡ true → result ≡ Done →
         WritesRight (streams_over W.contents (I.remaining reader.old) streams.old.writer.now streams.new.writer.now) }

@@ -1,3 +1,4 @@
 pub mod Inputs
 pub mod Stopping
 pub mod Disks
+pub mod DiskLaws

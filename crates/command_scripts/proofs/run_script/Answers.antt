@@ -4,6 +4,7 @@ use Rattle.script_io.specs.Fused.{written}
 use Rattle.replies.specs.Text.{said_text}
 use Rattle.replies.specs.declared.reply.Reply.TheVariants.{Refused}
 use Rattle.command_streams.specs.Stopping.{RepliesRefused}
+use Rattle.command_scripts.proofs.Ends.{script_ends}
 use Rattle.command_scripts.proofs.run_script.Goals as goal
 
 -- what there is is not absent
@@ -17,3 +18,7 @@ returns-in-Err-clause-ends g c = inr (inr (
   subst (λ w. RepliesRefused (said_text (Refused w)) (written g.W.Write.contents c.args.streams.now.writer.now)
       (written g.W.Write.contents c.stop.new.streams.writer.now) w c.stop.result) c.in-Err.ensures.why c.stop.ensures,
 ))
+
+pub returns-clause-ends : goal.returns-clause-ends
+returns-clause-ends g c = script_ends (is_none c.args.spill) _ g.W.Write.contents _ _ c.in-Ok.disk c.run_seeded-exit.new.disk
+    c.run_seeded-exit.result c.in-Ok.ensures.place c.run_seeded-exit.ensures
