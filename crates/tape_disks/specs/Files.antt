@@ -12,6 +12,10 @@ pub record MemState : Type 0 where
   pub bytes : List ℕ
   pub at : ℕ
 
+-- whether a byte is the one at a place of it. Those past its end are 0
+abbrev pub IsByteAt : MemState → ℕ → ℕ → Type 0
+IsByteAt f place byte = get_or f.bytes place 0 ≡ byte
+
 -- a disk in a file, and how often that was written
 pub record FileState (F : Type 0) : Type 0 where
   pub file : F

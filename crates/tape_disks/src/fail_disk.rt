@@ -95,11 +95,18 @@ impl<D: TapeDisk + Drop> TapeDisk for FailDisk<D> {
 
     ghost last = { λ d. D.TapeDisk.last d.inner };
 
-    fn read_at(&mut self, at: u64, bytes: &mut [u8]) -> Result<(), DiskError> {
+    fn read_at(&mut self, at: u64, bytes: &mut [u8]) -> Result<(), DiskError>
+        requires { at + length bytes.old < 2 ^ 63 }
+        ensures call { FailsOnce (IsReadOf D.TapeDisk at bytes.old bytes.new) self.old result self.new }
+        ensures untouched { is_due self.old ≡ true → bytes.new ≡ bytes.old }
+    {
         self.read_or_fail(at, bytes)
     }
 
-    fn write_at(&mut self, at: u64, bytes: &[u8]) -> Result<(), DiskError> {
+    fn write_at(&mut self, at: u64, bytes: &[u8]) -> Result<(), DiskError>
+        requires { at + length bytes.now < 2 ^ 63 }
+        ensures call { FailsOnce (IsWriteOf D.TapeDisk at bytes.now) self.old result self.new }
+    {
         self.write_or_fail(at, bytes)
     }
 }

@@ -1,5 +1,6 @@
 //! A disk that flips bits.
 ghost use Rattle.std.specs.Prelude.{◌≡◌, ◌≢◌, ◌+◌, ◌<◌, ◌^◌, false, length};
+ghost use Rattle.tape_disks.specs.Disk.{IsWriteOf};
 ghost use Rattle.tape_disks.specs.Faulty.{AreFlipped, ReadsFlipped};
 
 use crate::disk::{DiskError, TapeDisk};
@@ -75,11 +76,18 @@ impl<D: TapeDisk + Drop> TapeDisk for FlipDisk<D> {
 
     ghost last = { λ d. D.TapeDisk.last d.inner };
 
-    fn read_at(&mut self, at: u64, bytes: &mut [u8]) -> Result<(), DiskError> {
+    fn read_at(&mut self, at: u64, bytes: &mut [u8]) -> Result<(), DiskError>
+        requires { at + length bytes.old < 2 ^ 63 }
+        ensures { ReadsFlipped D.TapeDisk at bytes.old bytes.new self.old result self.new }
+    {
         self.read_flipped(at, bytes)
     }
 
-    fn write_at(&mut self, at: u64, bytes: &[u8]) -> Result<(), DiskError> {
+    fn write_at(&mut self, at: u64, bytes: &[u8]) -> Result<(), DiskError>
+        requires { at + length bytes.now < 2 ^ 63 }
+        ensures inner { IsWriteOf D.TapeDisk at bytes.now self.old.inner result self.new.inner }
+        ensures same { (self.new.at ≡ self.old.at) × (self.new.mask ≡ self.old.mask) }
+    {
         self.inner.write_at(at, bytes)
     }
 }

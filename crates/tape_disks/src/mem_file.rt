@@ -1,5 +1,7 @@
 //! A file in memory.
-ghost use Rattle.std.specs.Prelude.{◌≡◌, ◌+◌, ◌<◌, ◌≤◌, ◌⊎◌, ℕ, [], true, OnOk, length, get_or};
+ghost use Rattle.std.specs.Prelude.{◌≡◌, ◌+◌, ◌<◌, ◌≤◌, ◌⊎◌, ℕ, [], true, OnOk, OnErr, length, get_or};
+ghost use Rattle.tape_disks.specs.Calls.{AreLast, KeepsBeside, failed};
+ghost use Rattle.tape_disks.specs.Errors.{disk_faults};
 
 use crate::disk::DiskError;
 use crate::seekable_file::SeekableFile;
@@ -38,6 +40,7 @@ impl MemFile {
 fn grow(bytes: &mut Vec<u8>, end: usize) -> Result<(), AllocError>
     ensures same { (place : ℕ) → get_or bytes.new.items place 0 ≡ get_or bytes.old.items place 0 }
     ensures long { OnOk result (end ≤ length bytes.new.items) }
+    ensures unchanged { OnErr result (bytes.new.items ≡ bytes.old.items) }
 {
     if bytes.len() < end {
         bytes.resize(end, 0)?;
@@ -57,13 +60,15 @@ fn write_over(bytes: &mut [u8], at: usize, these: &[u8])
 }
 
 impl SeekableFile for MemFile {
+    ghost use Rattle.tape_disks.specs.Files.{IsByteAt};
+
     ghost failures = { λ _. 0 };
 
     ghost honest = { λ _. true };
 
     ghost stands = { λ f at. f.at ≡ at };
 
-    ghost last = { λ f place byte. get_or f.bytes place 0 ≡ byte };
+    ghost last = { IsByteAt };
 
     fn go_to(&mut self, at: u64) -> Result<(), DiskError> {
         self.at = at as usize;
@@ -80,7 +85,12 @@ impl SeekableFile for MemFile {
         Ok(n)
     }
 
-    fn write_these(&mut self, bytes: &[u8]) -> Result<(), DiskError> {
+    fn write_these(&mut self, bytes: &[u8]) -> Result<(), DiskError>
+        ensures written { OnOk result ((at : ℕ) → self.old.at ≡ at → AreLast (IsByteAt self.new) at bytes.now) }
+        ensures keeps { (at : ℕ) → self.old.at ≡ at → KeepsBeside (IsByteAt self.old) (IsByteAt self.new) at (length bytes.now) }
+        ensures failures { failed disk_faults result ≡ 0 }
+        ensures unchanged { OnErr result (self.new ≡ self.old) }
+    {
         let Some(end) = self.at.checked_add(bytes.len()) else {
             return Err(DiskError::NoMemory);
         };

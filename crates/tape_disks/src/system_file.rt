@@ -11,8 +11,9 @@ use std::io::{Read, Seek, SeekFrom, Write};
 use std::marker::Model;
 
 /// A file of the system, which counts its failures. No contract says what such a file holds, so none is called honest: promises over it
-/// have the premise that it returns what was written to it. Each method makes one call of the file. An interrupted call is a failure.
-/// After 2^128 - 1 failures no more calls are made, and every method returns `NoMemory`.
+/// have the premise that it returns what was written to it. `go_to` and `read_some` make one call of the file, and fail if that is
+/// interrupted. `write_these` writes until all bytes are taken, and repeats a write that is interrupted. After 2^128 - 1 failures no more
+/// calls are made, and every method returns `NoMemory`.
 #[derive(Drop)]
 pub struct SystemFile<F: Read + Write + Seek + Drop> {
     file: F,
