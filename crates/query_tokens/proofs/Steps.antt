@@ -3,6 +3,7 @@ use Rattle.std.proofs.Common.{◌≡◌, ℕ, zero, suc, subst, ◌+◌, ◌-◌
 use Rattle.std.proofs.Common.{drop, Result, Ok, Err, refl}
 use Rattle.std.proofs.Common.{sym, ap, ◌∙◌, append_assoc, arith}
 use Rattle.std.proofs.lemmas.List.{length-drop}
+use Rattle.std.specs.Prelude.{◌≢◌}
 use Rattle.query_tokens.specs.declared.fault.Fault.{Fault}
 use Rattle.query_tokens.specs.declared.fault.TokenError.{TokenError}
 use Rattle.query_tokens.specs.declared.fault.TokenError.TheVariants as errors
@@ -132,3 +133,19 @@ begins_further most count size rest w after total low some within solid h so_far
 pub begins_all : (most count size : ℕ) (rest : List ℕ) (total : Bool) → count ≡ most → Begins most count size rest total → total ≡ true
 begins_all most count size rest total all so_far =
     sym so_far ∙ ap (λ n. begins_with n 0 (size - length rest) rest) (omega (arith, all)) ∙ begins_none (size - length rest) rest
+
+begins_no_word : (tokens at : ℕ) (rest : List ℕ) (f : Fault) → 0 < length rest → is_space (get_or rest 0 0) ≡ false
+    → word_at at rest ≡ Err f → begins_with (suc tokens) 0 at rest ≡ false
+unfolding begins_with
+begins_no_word tokens at [] f some solid h = absurd (omega (arith, some))
+begins_no_word tokens at (b ∷ bs) f some solid h = rw (solid, h) refl
+
+-- where a word is malformed before so many were read, the text does not begin with so many
+pub begins_short : (e : TokenError) (most count size : ℕ) (rest : List ℕ) (total : Bool) → count < most → 0 < length rest
+    → is_space (get_or rest 0 0) ≡ false → Fails e (word_at (size - length rest) rest) → Begins most count size rest total
+    → e ≢ errors.NoMemory → total ≡ false
+begins_short errors.NoMemory most count size rest total low some solid h so_far other = absurd (other refl)
+begins_short (errors.Fault f) most count size rest total low some solid h so_far other =
+    let left : most - count ≡ suc (most - (count + 1)) = omega (arith, low) in
+    sym so_far ∙ ap (λ n. begins_with n 0 (size - length rest) rest) left
+    ∙ begins_no_word (most - (count + 1)) (size - length rest) rest f some solid h

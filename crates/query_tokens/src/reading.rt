@@ -1,6 +1,6 @@
 //! Reading a text from the left.
 
-ghost use Rattle.std.specs.Prelude.{◌≡◌, ◌<◌, ◌≤◌, ◌-◌, List, length, take, drop, slice_index, true, false, Ok, IfOk, IfErr, IfSome};
+ghost use Rattle.std.specs.Prelude.{◌≡◌, ◌≢◌, ◌<◌, ◌≤◌, ◌-◌, List, length, take, drop, slice_index, true, false, Ok, IfOk, IfErr, IfSome};
 ghost use Rattle.std.specs.Prelude.{IfNone, IsTrue, option_map};
 ghost use Rattle.std.specs.Char.{to_ascii_lowercase, is_ascii_digit};
 ghost use Rattle.std.specs.String.{string_bytes};
@@ -203,6 +203,7 @@ pub fn tokens_up_to(
     ensures first { IfOk result (λ found. IfNone found (begins_with most 0 0 text.now ≡ true)) }
     ensures longer { IfOk result (λ found. IfNone found (most < length text.now)) }
     ensures refused { IfErr result (λ error. Fails error (tokens_in text.now)) }
+    ensures early { IfErr result (λ error. error ≢ TokenError.NoMemory → begins_with most 0 0 text.now ≡ false) }
 {
     let mut found = Vec::new(alloc);
     let mut rest = text;

@@ -7,7 +7,7 @@ use Rattle.query_tokens.specs.Bytes.{is_space}
 use Rattle.query_tokens.specs.Tokens.{tokens_in, begins_with}
 use Rattle.query_tokens.specs.Lemmas.Legal.{tokens_legal}
 use Rattle.query_tokens.proofs.Steps.{passes_space, goes_on, shorter, ends, is_done, more_left, begins_past_space, begins_further}
-use Rattle.query_tokens.proofs.Steps.{begins_all}
+use Rattle.query_tokens.proofs.Steps.{begins_all, begins_short}
 use Rattle.query_tokens.proofs.reading.tokens_up_to.Goals as goal
 
 pub loop-rest-preserved-then-is_space : goal.loop-rest-preserved-then-is_space
@@ -72,6 +72,17 @@ returns-in_err-word-clause-refused c =
     let p = err_from_is_err_and c.from_residual.result c.from_residual.ensures.1 in
     rw (p.1, p.2) (ends c.in_err-word.field-0.0 (length c.args.text.now) (all_placed c.loop-rest.found.items) rest
     (tokens_in c.args.text.now) some solid c.in_err-word.ensures c.loop-rest.invariant.told)
+
+pub returns-in_err-word-clause-early : goal.returns-in_err-word-clause-early
+returns-in_err-word-clause-early c =
+    let rest = c.loop-rest.rest.now in
+    let some : 0 < length rest = rw (← c.as_bytes.ensures.value) c.in-len1-up.len_at_least in
+    let solid : is_space (get_or rest 0 0) ≡ false = rw (← c.as_bytes.ensures.value) (sym c.is_space.ensures ∙ c.if-is_space.false) in
+    let low : length c.loop-rest.found.items < c.args.most =
+    omega (arith, c.loop-rest.invariant.up_to, c.len.ensures, c.if-len-most.false) in
+    let p = err_from_is_err_and c.from_residual.result c.from_residual.ensures.1 in
+    rw (p.1, p.2) (begins_short c.in_err-word.field-0.0 c.args.most (length c.loop-rest.found.items) (length c.args.text.now) rest
+    (begins_with c.args.most 0 0 c.args.text.now) low some solid c.in_err-word.ensures c.loop-rest.invariant.begun)
 
 pub returns-then-len-most-clause-more : goal.returns-then-len-most-clause-more
 returns-then-len-most-clause-more c =
