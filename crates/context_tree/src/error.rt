@@ -8,7 +8,8 @@ use chunk_contexts::ContextError;
 use std::alloc::AllocError;
 use thiserror::Error;
 
-/// Why a call of a tree is refused. The first that applies is told, in this order; what the call was given is then as it was.
+/// Why a call of a tree is refused. The first that applies is told, in this order; what the call was given is then as it was. The
+/// contract of `Tree::get_mut` alone does not say so.
 #[derive(Clone, Copy, Debug, PartialEq, Eq, Error)]
 pub enum TreeError {
     /// No context of the tree has this id, or none any more.

@@ -1,13 +1,13 @@
 //! A tree of contexts.
-ghost use Rattle.std.specs.Prelude.{◌≡◌, ◌+◌, ◌-◌, ◌<◌, ◌≤◌, ◌==◌, ◌^◌, ℕ, List, true, false, cond, None, IfOk, IfErr, OnOk, OnErr};
-ghost use Rattle.std.specs.Prelude.{IsTrue, MatchResult, length, get_or, is_some, slice_set};
+ghost use Rattle.std.specs.Prelude.{◌≡◌, ◌+◌, ◌-◌, ◌<◌, ◌≤◌, ◌==◌, ◌^◌, ℕ, List, true, false, cond, None, Some, IfOk, IfErr, OnOk};
+ghost use Rattle.std.specs.Prelude.{OnErr, IsTrue, MatchResult, length, get_or, is_some, slice_set};
 ghost use Rattle.smallvec.specs.SmallVec.{HasRoomFor};
 ghost use Rattle.block_memory.specs.Cells.{zeros};
 ghost use Rattle.chunk_layout.specs.Contents.{place_of, AreLaid};
 ghost use Rattle.chunk_contexts.specs.Chunks.{lengths, KeepsOthers};
 ghost use Rattle.chunk_contexts.specs.declared.error.ContextError.TheVariants.{NoMemory};
 ghost use Rattle.context_tree.specs.Contexts.{chunks_of, blocks_of, growth_of, with_bytes, kind_refusal, no_context, has_chunk};
-ghost use Rattle.context_tree.specs.Contexts.{chunk_bytes, held_by, IsCounted, IsGrownByRule};
+ghost use Rattle.context_tree.specs.Contexts.{new_context, chunk_bytes, held_by, IsCounted, IsGrownByRule};
 ghost use Rattle.context_tree.specs.Links.{is_below, is_under, cleared, placed, IsFull};
 ghost use Rattle.context_tree.specs.Preorders.{IsOrdered};
 ghost use Rattle.context_tree.specs.Tree.{new_tree, is_there, context_at, parent_id, id_in, with_new, without_slots, deleted};
@@ -78,6 +78,29 @@ fn put_context(contexts: &mut SmallVec<Context, 4>, slot: usize, context: Contex
         return;
     }
     contexts.push_reserved(context);
+}
+
+/// Refuses a kind of which no context can be made.
+fn check_kind(alloc: Global, kind: Kind) -> Result<(), ContextError>
+    ensures { MatchResult result (λ _. kind_refusal kind ≡ None) (λ e. kind_refusal kind ≡ Some e) }
+{
+    match Context::new(alloc, kind) {
+        Ok(_) => Ok(()),
+        Err(error) => Err(error),
+    }
+}
+
+/// Puts a new context of a kind that is not refused into a slot, or into a new one behind the last.
+fn put_new(contexts: &mut SmallVec<Context, 4>, slot: usize, alloc: Global, kind: Kind)
+    requires low { slot ≤ length contexts.old.items }
+    requires room { HasRoomFor contexts.old 1 }
+    requires allowed { kind_refusal kind ≡ None }
+    ensures { contexts.new.items ≡ placed contexts.old.items slot (new_context kind) }
+{
+    match Context::new(alloc, kind) {
+        Ok(context) => put_context(contexts, slot, context),
+        Err(_) => unreachable!(),
+    }
 }
 
 /// Gives up the context in a slot, and answers how many bytes its blocks have.
@@ -340,13 +363,13 @@ impl Tree {
         if self.last == u64::MAX {
             return Err(TreeError::StampsSpent);
         }
-        let context = Context::new(self.alloc, kind)?;
+        check_kind(self.alloc, kind)?;
         self.contexts.reserve(1)?;
         self.ring.make_room(self.links.len())?;
         let stamp = self.last + 1;
         let slot = self.links.add(parent.slot, stamp)?;
         self.ring.insert(parent.slot, slot);
-        put_context(&mut self.contexts, slot as usize, context);
+        put_new(&mut self.contexts, slot as usize, self.alloc, kind);
         self.last = stamp;
         Ok(ContextId { slot, stamp })
     }
@@ -533,8 +556,8 @@ impl Tree {
 
     /// Lends the bytes of a live chunk of a context, to be changed: `bytes_mut` of an id that is looked at first.
     ///
-    /// Its contract tells the bytes that are lent, and not what the tree is when they were written. Those of `write` and of
-    /// `bytes_mut` do.
+    /// Its contract tells the bytes that are lent, and not what the tree is when they were written, or after a refusal. That of
+    /// `write` does, and so does that of `bytes_mut`, which refuses nothing.
     pub fn get_mut(&mut self, id: ContextId, name: ChunkName) -> Result<&mut [u8], TreeError>
         requires { is_there self.old id ≡ true → IsTrue (has_chunk (context_at self.old id) name) }
         ensures there { OnOk result (is_there self.old id ≡ true) }

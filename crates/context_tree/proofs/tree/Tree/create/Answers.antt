@@ -21,10 +21,10 @@ add-requires-clause-later c = let low = stamp-low c.self.inside.links c.self.ins
 
 pub invariant_of-self-2 : goal.invariant_of-self-2
 invariant_of-self-2 c =
-    let t = c.self.inside in let slot = c.in_ok-slot.slot in let it = c.in_ok-context.context in let was = c.in_ok-slot.ensures in
+    let t = c.self.inside in let slot = c.in_ok-slot.slot in let it : Context = new_context c.args.kind in let was = c.in_ok-slot.ensures in
     let link : Link = record { stamp = t.last + 1; parent = Some c.args.parent.slot } in
     let links : c.add.new.self ≡ placed t.links slot (Some link) = was.added in
-    let contexts : c.put_context.new.contexts.items ≡ placed t.contexts.items slot it = c.put_context.ensures
+    let contexts : c.put_new.new.contexts.items ≡ placed t.contexts.items slot it = c.put_new.ensures
     ∙ ap (λ (cs : List Context). placed cs slot it) c.reserve.ensures.items in
     let p = c.args.parent.slot in
     let there = slot-some t c.self.invariant c.args.self.now c.self.view_is c.args.parent c.in_ok-check.ensures in
@@ -35,14 +35,14 @@ invariant_of-self-2 c =
           ∙ sym (ap length links);
       stamps = subst (λ (ls : List (Option Link)). Stamped ls (t.last + 1)) (sym links)
           (stamps-made t.links t.contexts.items t.last slot was.low c.self.invariant.long link it refl c.self.invariant.stamps);
-      empty = subst (λ (ls : List (Option Link)). Emptied ls c.put_context.new.contexts.items) (sym links)
+      empty = subst (λ (ls : List (Option Link)). Emptied ls c.put_new.new.contexts.items) (sym links)
           (subst (λ (cs : List Context). Emptied (placed t.links slot (Some link)) cs) (sym contexts)
           (empty-made t.links t.contexts.items t.last slot was.low c.self.invariant.long link it c.self.invariant.empty));
       bounded = subst IsBounded (sym contexts)
-          (bounded-made t.links t.contexts.items t.last slot was.low c.self.invariant.long link it c.args.kind c.in_ok-context.ensures.1
+          (bounded-made t.links t.contexts.items t.last slot was.low c.self.invariant.long link it c.args.kind refl
           was.fresh c.self.invariant.empty c.self.invariant.bounded);
       held = c.self.invariant.held ∙ sym (ap held_by_all contexts
-          ∙ held-made t.links t.contexts.items t.last slot was.low c.self.invariant.long link it c.args.kind c.in_ok-context.ensures.1
+          ∙ held-made t.links t.contexts.items t.last slot was.low c.self.invariant.long link it c.args.kind refl
           was.fresh c.self.invariant.empty);
       ordered = subst (λ (ls : List (Option Link)). IsOrdered ls c.insert.new.self.slots) (sym links)
           (subst (IsOrdered (placed t.links slot (Some link))) (sym slots)
@@ -88,15 +88,15 @@ left : (c : Else-self) → (c.args.self.now.last == 18446744073709551615) ≡ fa
 left c = subst (λ (t : TreeState). (t.last == 18446744073709551615) ≡ false) c.self.view_is
     (ne_eqb c.self.inside.last 18446744073709551615 c.if-self.false)
 
-pub returns-in_err-context-clause-refused : goal.returns-in_err-context-clause-refused
-returns-in_err-context-clause-refused c = refused-made {here = true} {none = false} c.from_residual-in_err-context.result
-    c.from_residual-in_err-context.ensures.1 c.in_ok-check.ensures (left (goal.at.returns-in_err-context-clause-refused c).Else-self)
-    c.in_err-context.ensures
+pub returns-in_err-check_kind-clause-refused : goal.returns-in_err-check_kind-clause-refused
+returns-in_err-check_kind-clause-refused c = refused-made {here = true} {none = false} c.from_residual-in_err-check_kind.result
+    c.from_residual-in_err-check_kind.ensures.1 c.in_ok-check.ensures (left (goal.at.returns-in_err-check_kind-clause-refused c).Else-self)
+    c.in_err-check_kind.ensures
 
 pub returns-in_err-reserve-clause-refused : goal.returns-in_err-reserve-clause-refused
 returns-in_err-reserve-clause-refused c = refused-made {here = true} {none = false} c.from_residual-in_err-reserve.result
     c.from_residual-in_err-reserve.ensures.1 c.in_ok-check.ensures (left (goal.at.returns-in_err-reserve-clause-refused c).Else-self)
-    c.in_ok-context.ensures.0
+    c.in_ok-check_kind.ensures
 
 pub returns-in_err-reserve-clause-unchanged : goal.returns-in_err-reserve-clause-unchanged
 returns-in_err-reserve-clause-unchanged c =
@@ -106,7 +106,7 @@ returns-in_err-reserve-clause-unchanged c =
 pub returns-in_err-make_room-clause-refused : goal.returns-in_err-make_room-clause-refused
 returns-in_err-make_room-clause-refused c = refused-made {here = true} {none = false} c.from_residual-in_err-make_room.result
     c.from_residual-in_err-make_room.ensures.1 c.in_ok-check.ensures (left (goal.at.returns-in_err-make_room-clause-refused c).Else-self)
-    c.in_ok-context.ensures.0
+    c.in_ok-check_kind.ensures
 
 pub returns-in_err-make_room-clause-unchanged : goal.returns-in_err-make_room-clause-unchanged
 returns-in_err-make_room-clause-unchanged c =
@@ -116,7 +116,7 @@ returns-in_err-make_room-clause-unchanged c =
 pub returns-in_err-slot-clause-refused : goal.returns-in_err-slot-clause-refused
 returns-in_err-slot-clause-refused c = refused-made {here = true} {none = false} c.from_residual-in_err-slot.result
     c.from_residual-in_err-slot.ensures.1 c.in_ok-check.ensures (left (goal.at.returns-in_err-slot-clause-refused c).Else-self)
-    c.in_ok-context.ensures.0
+    c.in_ok-check_kind.ensures
 
 pub returns-in_err-slot-clause-unchanged : goal.returns-in_err-slot-clause-unchanged
 returns-in_err-slot-clause-unchanged c =
@@ -127,9 +127,8 @@ returns-in_err-slot-clause-unchanged c =
 pub returns : goal.returns
 returns c =
     let x = c.self.inside in let view = c.self.view_is in let slot = c.in_ok-slot.slot in let was = c.in_ok-slot.ensures in
-    let contexts : c.put_context.new.contexts.items ≡ placed x.contexts.items slot (new_context c.args.kind) =
-    c.put_context.ensures ∙ ap (λ (cs : List Context). placed cs slot c.in_ok-context.context) c.reserve.ensures.items
-    ∙ ap (placed x.contexts.items slot) c.in_ok-context.ensures.1 in
+    let contexts : c.put_new.new.contexts.items ≡ placed x.contexts.items slot (new_context c.args.kind) =
+    c.put_new.ensures ∙ ap (λ (cs : List Context). placed cs slot (new_context c.args.kind)) c.reserve.ensures.items in
     record {
       there = c.in_ok-check.ensures;
       stamp = ap (λ (t : TreeState). t.last + 1) view;
@@ -139,7 +138,7 @@ returns c =
       made =
           (λ i. record { links = was.added i; contexts = contexts i; last = x.last + 1 })
           ∙ ap (λ (t : TreeState). with_new t c.args.parent c.args.kind (record { slot = slot; stamp = x.last + 1 })) view;
-      allowed = c.in_ok-context.ensures.0;
+      allowed = c.in_ok-check_kind.ensures;
       refused = tt;
       unchanged = tt;
     }
