@@ -9,7 +9,7 @@ ghost use Rattle.spill_tapes.specs.Records.{Record, tape_bytes};
 ghost use Rattle.spill_tapes.specs.Tape.{new_tape};
 ghost use Rattle.spill_tapes.specs.Tapes.{tape_at, phase_of, is_open, is_written, is_read, written_len, AreOpenBefore};
 ghost use Rattle.spill_tapes.specs.Tapes.{IsTape, KeepsOthers, DiesIfRefused, IsOpenRefusal, IsRefusal, IsReadRefusal, FreesPages};
-ghost use Rattle.spill_tapes.specs.Tapes.{KeepsPhases, IsOpened, Appends, Rewinds, ReadsNext, TapesState};
+ghost use Rattle.spill_tapes.specs.Tapes.{KeepsPhases, IsOpened, Appends, Rewinds, ReadsNext, TapesState, buffer_room};
 ghost use Rattle.spill_tapes.specs.declared.error.TapeError.TheVariants.{TapesDead};
 ghost use Rattle.spill_tapes.specs.declared.tape.Phase.TheVariants.{Closed, Written, Read};
 ghost use Rattle.spill_tapes.specs.declared.tape_id.TapeId.{TapeId};
@@ -263,13 +263,14 @@ impl Tapes {
         }
     }
 
-    /// Closes a tape. Its pages are free.
+    /// Closes a tape. Its pages are free, and it has no buffer.
     pub fn close<D: TapeDisk>(&mut self, _disk: &D, tape: TapeId)
         requires open { is_open self.old tape ≡ true }
         ensures alive { self.new.is_dead ≡ self.old.is_dead }
         ensures closed { is_open self.new tape ≡ false }
         ensures frees { FreesPages self.old self.new tape }
         ensures none { (tape_at self.new tape).pages ≡ [] }
+        ensures room { buffer_room self.new tape ≡ 0 }
         ensures others { KeepsOthers (D.last _disk.now) (D.last _disk.now) self.old self.new tape }
     {
         self.tapes[tape.index].close(self.alloc, &mut self.pool);
