@@ -14,7 +14,8 @@ pub enum BatchError {
     /// An allocation failed.
     #[error("out of memory")]
     NoMemory,
-    /// The origin isn't 0 to 1,023, or the number isn't 1 to 4,294,967,295, in 1 to 10 digits each.
+    /// The header is missing or bad. Its origin is 0 to 1,023, and its number 1 to 4,294,967,295, in 1 to 10 digits each. That of a file is
+    /// the first record, of four fields: `batch`, the origin, the number, and how many rows follow, in 1 to 9 digits.
     #[error("the batch has no header row, or its origin or number is out of range")]
     BadBatchHead,
     /// The header states more rows than a batch may have.

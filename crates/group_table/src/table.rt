@@ -45,8 +45,8 @@ pub struct Slot {
     pub(crate) state: ChunkName,
 }
 
-/// Where a key that no group has would go: its hash, and the free bucket at which the search for it ended. It holds until a group is
-/// inserted or the table is cleared.
+/// Where a key that no group has would go: its hash, and the free bucket at which the search for it ended. It holds until an insertion
+/// is tried or the table is cleared.
 #[derive(Clone, Copy)]
 pub struct Vacancy {
     hash: u32,

@@ -28,9 +28,9 @@ impl Model for Schema {
 
 impl Schema {
     /// The schema that a text describes: for each column its name and its kind, separated by commas, as
-    /// `c text, d bigint`. There are 1 to 32 columns of different names; a name is at most 63 letters, digits and `_`
-    /// and no reserved word of queries, and is folded to lower case. The kinds are `bigint` or `int8`, `boolean` or
-    /// `bool`, and `text`. Any other text is `BadSchema`.
+    /// `c text, d bigint`. There are 1 to 32 columns of different names; a name is at most 63 letters, digits and `_`,
+    /// does not begin with a digit, is no reserved word of queries, and is folded to lower case. The kinds are `bigint` or
+    /// `int8`, `boolean` or `bool`, and `text`. Any other text is `BadSchema`.
     pub fn parse(alloc: Global, text: &str) -> Result<Schema, RowError>
         ensures parsed { IfOk result (λ schema. IsSchemaText text.now schema) }
         ensures refused { IfErr result (ParseFault text.now) }
