@@ -110,6 +110,16 @@ no_memory_ran g hash_of query means Counts r disk work given =
     ran_as g hash_of query means Counts (Refused (Some NoMemory)) (ended r) disk work disk work (sym (refused_by Some r NoMemory given))
     (refused_still g hash_of query means Counts (Some NoMemory) disk work refl (λ honest same. cc))
 
+-- an error that is handed on tells what it told, and out of memory tells nothing of the disk
+pub refused_follows : {T : Type 0} (r : Result T SpillError) (error : SpillError) (Fact : Type 0) → IsErrAnd r (λ e. e ≡ error)
+    → (error ≢ NoMemory → Fact) → IfErr r (λ e. e ≢ NoMemory → Fact)
+refused_follows (Ok x) error Fact given fact = tt
+refused_follows (Err e) error Fact given fact = λ other. fact (λ same. other (given ∙ same))
+
+pub no_memory_follows : {T : Type 0} (r : Result T SpillError) (Fact : Type 0) → IsErrAnd r (λ e. e ≡ NoMemory)
+    → IfErr r (λ e. e ≢ NoMemory → Fact)
+no_memory_follows r Fact given = refused_follows r NoMemory Fact given (λ other. absurd (other refl))
+
 -- parts that are not joined since they disagree, or by an error of spilling
 pub disagree_ran : {D H T : Type 0} (g : Ghosts D) (hash_of : H → List ℕ → ℕ) (query : Checked) (means : MeansState H)
     (Counts : Counting) (r : Result T JoinError) (error : JoinError) (number : Option ℕ) (disk : D) (work : Work)

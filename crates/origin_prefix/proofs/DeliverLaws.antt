@@ -131,7 +131,7 @@ kept_refuses old new batch r unknown refused =
     (λ e is. record {
       back = is.0;
       same = is.2;
-      tells = subst (λ why. BatchTells why old batch.number batch.rows) (sym is.1) unknown;
+      tells = subst (λ why. BatchTells why old batch.number batch.rows) (sym is.1) (unknown, λ other. absurd (other refl));
     }) refused
 
 -- a batch was kept early, or handed back

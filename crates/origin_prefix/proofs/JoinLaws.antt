@@ -1,8 +1,9 @@
 -- What two parts give that are joined.
-use Rattle.std.specs.Prelude.{◌≡◌, ◌↔◌, ℕ, ◌<◌, ◌≤◌, nat_lt, Bool, true, false, IsTrue, List, [], None, if◌then◌else◌, Result, Ok, Err}
-use Rattle.std.specs.Prelude.{IsErrAnd}
+use Rattle.std.specs.Prelude.{◌≡◌, refl, ◌↔◌, ℕ, suc, ◌+◌, ◌<◌, ◌≤◌, ◌==◌, nat_lt, Bool, true, false, IsTrue, List, [], ◌∷◌, None}
+use Rattle.std.specs.Prelude.{if◌then◌else◌, Result, Ok, Err, IsErrAnd, IsSome}
 use Rattle.std.proofs.Common.{◌∙◌, sym, subst, ap, arith}
 use Rattle.std.proofs.lemmas.Bool.{true≢false}
+use Rattle.std.specs.Option.{is_some}
 use Rattle.std.specs.List.{AllByRecursion}
 use Rattle.std.specs.List.Sorted.{IsStrictlySortedBy}
 use Rattle.std.specs.Ordering.{nat_cmp}
@@ -10,10 +11,10 @@ use Rattle.list_laws.specs.Each.{each_weaker}
 use Rattle.grouping_model.specs.Datum.{Kind}
 use Rattle.packed_rows.specs.Columns.{kinds}
 use Rattle.query_checks.specs.Checks.{Checked}
-use Rattle.origin_prefix.specs.Parts.{Batches, Part, rows_at, IsEarly, IsBehind, IsOpen, IsPartOf}
+use Rattle.origin_prefix.specs.Parts.{Batches, Part, rows_at, IsEarly, IsBehind, IsOpen, IsPartOf, following}
 use Rattle.origin_prefix.specs.Joins.{either, Unites, Joining, JoinTells, AreAmong, Includes}
 use Rattle.origin_prefix.specs.declared.error.JoinError.{JoinError}
-use Rattle.origin_prefix.specs.Lemmas.ByNumber.{numbers}
+use Rattle.origin_prefix.specs.Lemmas.ByNumber.{numbers, at_head, none_found}
 
 -- what was copied from a part, and then from another, behind a number
 abbrev pub Copied : ℕ → Batches → Batches → Batches → Type 0
@@ -72,6 +73,27 @@ module _ (query : Checked) (a b own shorter : Part) (start first both : Batches)
   pub united_batches : Unites own.prefix own shorter both
   united_batches = subst (λ (p : Part). Unites p.prefix p shorter both) view (subst (λ (p : Part). Unites a.prefix a p both) other_view
       inside_united)
+
+-- batches follow a prefix only if the next one is there
+next_there : (prefix : ℕ) (batches : Batches) → 0 < following prefix batches → IsSome (rows_at batches (prefix + 1))
+next_there prefix [] some = absurd (omega (arith, some))
+next_there prefix (batch ∷ batches) some =
+    elim (batch.0 == prefix + 1) as (λ t. (batch.0 == prefix + 1) ≡ t → 0 < (if t then suc (following (prefix + 1) batches) else 0)
+    → IsSome (rows_at (batch ∷ batches) (prefix + 1))) [
+      | true ↦ λ e low.
+          let next : batch.0 ≡ prefix + 1 = grind arith in
+          ap is_some (sym (ap (rows_at (batch ∷ batches)) next) ∙ at_head batch.0 batch.1 batches)
+      | false ↦ λ e low. absurd (omega (arith, low))
+    ] refl some
+
+-- those of two parts follow the longer prefix only if the shorter part has the next one: its own are behind a gap
+pub next_of_other : (query : Checked) (own other : Part) (batches : Batches) → IsPartOf query own → Unites own.prefix own other batches
+    → 0 < following own.prefix batches → IsSome (rows_at other.early (own.prefix + 1))
+next_of_other query own other batches is united some =
+    let none : rows_at own.early (own.prefix + 1) ≡ None = none_found (IsEarly (kinds query.columns) own.prefix) own.early
+    (own.prefix + 1) is.early (λ rows early. let high = early.behind in omega (arith, high)) in
+    sym (ap is_some (united.rows (own.prefix + 1) (omega arith) ∙ ap (λ x. either x (rows_at other.early (own.prefix + 1))) none))
+    ∙ next_there own.prefix batches some
 
 -- what refuses to join parts says of them why
 pub refused_joining : (honest : Bool) (query : Checked) (a b : Part) (r : Result Part JoinError) (error : JoinError)

@@ -2,7 +2,7 @@
 use Rattle.std.specs.Prelude.{◌≡◌, ◌≢◌, ℕ, ◌+◌, ◌<◌, ◌≤◌, ◌⊎◌, max, nat_lt, nat_eq, Bool, List, [], map, length, Option, Some, None}
 use Rattle.std.specs.Prelude.{option_map}
 use Rattle.std.specs.Prelude.{unwrap_or}
-use Rattle.std.specs.Prelude.{if◌then◌else◌, Result, IfOk, IfErr, OnOk}
+use Rattle.std.specs.Prelude.{if◌then◌else◌, Result, IfOk, IfErr, OnOk, IsSome}
 use Rattle.std.specs.List.{AllByRecursion}
 use Rattle.std.specs.List.Sorted.{IsStrictlySortedBy}
 use Rattle.std.specs.Ordering.{nat_cmp}
@@ -13,6 +13,7 @@ use Rattle.hash_agg.specs.declared.work.Work.{Work}
 use Rattle.origin_prefix.specs.declared.error.JoinError.{JoinError}
 use Rattle.origin_prefix.specs.declared.error.JoinError.TheVariants.{OriginDisagrees, Spill}
 use Rattle.query_checks.specs.Checks.{Checked}
+use Rattle.spill_partitions.specs.declared.error.SpillError.TheVariants.{NoMemory}
 use Rattle.having_filter.specs.Meaning.{meaning}
 use Rattle.origin_prefix.specs.Parts.{Batches, Part, rows_at, IsPartOf, Drains, aggregations_behind}
 
@@ -56,10 +57,12 @@ DisagreeAt None a b = (a.prefix ≡ b.prefix) × (a.run ≢ b.run)
 DisagreeAt (Some number) a b = (a.prefix ≡ b.prefix → a.run ≡ b.run)
     × IsFirstDifference (max a.prefix b.prefix) a.early b.early (Some number)
 
--- what a refusal to join two parts says of them
+-- what a refusal to join two parts says of them: their first disagreement, or else that they agree. The disk is a reason only where early
+-- batches of the shorter part follow the longer prefix, so that they would be folded
 abbrev pub JoinTells : JoinError → Part → Part → Type 0
 JoinTells (OriginDisagrees number) a b = DisagreeAt number a b
-JoinTells (Spill error) a b = ¬ (PartsDisagree a b)
+JoinTells (Spill error) a b = (¬ (PartsDisagree a b))
+    × (error ≢ NoMemory → IsSome (rows_at (shorter a b).early ((longer a b).prefix + 1)))
 
 -- the batches behind a number that are early in either of two parts, by ascending number
 pub record Unites (prefix : ℕ) (a b : Part) (behind : Batches) : Type 0 where

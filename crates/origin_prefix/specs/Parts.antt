@@ -19,6 +19,7 @@ use Rattle.query_checks.specs.Checks.{Checked}
 use Rattle.origin_prefix.specs.declared.error.JoinError.{JoinError}
 use Rattle.origin_prefix.specs.declared.error.RefusedBatch.{RefusedBatch}
 use Rattle.origin_prefix.specs.declared.error.JoinError.TheVariants.{OriginDisagrees, Spill}
+use Rattle.spill_partitions.specs.declared.error.SpillError.TheVariants.{NoMemory}
 use Rattle.having_filter.specs.Meaning.{meaning}
 use Rattle.group_runs.specs.Runs.{Entry}
 use Rattle.group_runs.specs.Standing.{IsRun}
@@ -137,10 +138,10 @@ pub record Disagrees (part : Part) (number : ℕ) (rows : List (List ℕ)) : Typ
   pub other : kept ≢ rows
 
 -- what a refusal of a batch says of the part that doesn't take it: if it disagrees, it is early with other rows; anything else is a reason
--- only for a number that is not told
+-- only for a number that is not told. The disk is a reason only where the batch is next to the prefix, so that it would be folded
 abbrev pub BatchTells : JoinError → Part → ℕ → List (List ℕ) → Type 0
 BatchTells (OriginDisagrees told) part number rows = (told ≡ Some number) × Disagrees part number rows
-BatchTells (Spill error) part number rows = tells part number ≡ false
+BatchTells (Spill error) part number rows = (tells part number ≡ false) × (error ≢ NoMemory → number ≡ part.prefix + 1)
 
 -- the part after a batch is delivered to it, and the reply
 abbrev pub Delivers : (honest : Bool) → Query → Part → ℕ → List (List ℕ) → Part → Delivered → Type 0

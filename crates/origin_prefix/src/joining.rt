@@ -1,14 +1,15 @@
 //! Joining two parts of one origin.
 
-ghost use Rattle.std.specs.Prelude.{◌≡◌, ◌≢◌, ◌≤◌, ◌↔◌, ℕ, Option, IfOk, IfErr, IsTrue};
+ghost use Rattle.std.specs.Prelude.{◌≡◌, ◌≢◌, ◌≤◌, ◌+◌, ◌↔◌, ℕ, Option, IfOk, IfErr, IsSome, IsTrue};
 ghost use Rattle.grouping_model.specs.declared.limits.TheConstants.{LAST_NUMBER};
 ghost use Rattle.having_filter.specs.Meaning.{meaning};
 ghost use Rattle.hash_agg.specs.Ran.{Ran, ended};
 ghost use Rattle.origin_prefix.specs.Errors.{join_ended};
-ghost use Rattle.origin_prefix.specs.Parts.{Batches, IsPartOf, Drains};
+ghost use Rattle.origin_prefix.specs.Parts.{Batches, IsPartOf, Drains, rows_at};
 ghost use Rattle.origin_prefix.specs.Joins.{PartsDisagree, DisagreeAt, Joining, JoinIsCounted, Unites, UniteIsCounted, Includes};
 ghost use Rattle.origin_prefix.specs.Joins.{settled, KeepsGroups, StandAside, JoiningAside};
 ghost use Rattle.origin_prefix.specs.declared.error.JoinError.TheVariants.{OriginDisagrees};
+ghost use Rattle.spill_partitions.specs.declared.error.SpillError.TheVariants.{NoMemory};
 
 use crate::early::{are_among, copy_above, first_difference, places, put_all};
 use crate::error::JoinError;
@@ -20,8 +21,9 @@ use std::collections::BTreeMap;
 
 impl OriginPart {
     /// The longer prefix of two parts of one origin with its groups, and the early batches of both. Those that follow the prefix without a
-    /// gap are folded. Parts disagree if their prefixes are equal with different groups, or if they have different rows of one number
-    /// after both prefixes. The cost of aggregating the folded batches is added to the work of the executor; a refusal adds nothing.
+    /// gap are folded; without any, the disk is not asked. Parts disagree if their prefixes are equal with different groups, or if they
+    /// have different rows of one number after both prefixes. The cost of aggregating the folded batches is added to the work of the
+    /// executor; a refusal adds nothing.
     pub fn join<H: KeyHash + Copy, D: TapeDisk>(
         &self,
         other: &OriginPart,
@@ -161,6 +163,7 @@ impl OriginPart {
             × Unites self.now.prefix self.now shorter.now behind
             × Drains (D.honest disk.old) (meaning query.now) self.now.prefix self.now.run behind part) }
         ensures part { IfOk result (IsPartOf query.now) }
+        ensures follows { IfErr result (λ error. error ≢ NoMemory → IsSome (rows_at shorter.now.early (self.now.prefix + 1))) }
         ensures ran { Ran D.TapeDisk H.hash_of query.now means.now (UniteIsCounted self.now shorter.now) (ended result) disk.old
             executor.old disk.new executor.new }
     {

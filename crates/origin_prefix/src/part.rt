@@ -1,6 +1,6 @@
 //! What is held of one origin.
 
-ghost use Rattle.std.specs.Prelude.{◌≡◌, ◌≢◌, ◌≤◌, ◌+◌, ◌*◌, ◌||◌, ℕ, List, map, nat_le, IfOk, IfErr, OnOk, OnErr};
+ghost use Rattle.std.specs.Prelude.{◌≡◌, ◌≢◌, ◌<◌, ◌≤◌, ◌+◌, ◌*◌, ◌||◌, ℕ, List, map, nat_le, IfOk, IfErr, OnOk, OnErr};
 ghost use Rattle.std.specs.Option.{is_some, option_copied};
 ghost use Rattle.std.specs.BTreeMap.{insert_entry};
 ghost use Rattle.std.specs.List.{AllByRecursion};
@@ -18,6 +18,7 @@ ghost use Rattle.origin_prefix.specs.Errors.{batch_ended, no_memory};
 ghost use Rattle.origin_prefix.specs.Parts.{Part, empty, rows_at, is_nothing, behind, following, rows_following, aggregations_with};
 ghost use Rattle.origin_prefix.specs.Parts.{aggregations_on, Delivery, DrainsWith, IsOpenWith, IsPartOf};
 ghost use Rattle.origin_prefix.specs.declared.error.JoinError.TheVariants.{OriginDisagrees};
+ghost use Rattle.spill_partitions.specs.declared.error.SpillError.TheVariants.{NoMemory};
 
 use crate::early::{add_following, drop_first};
 use crate::error::{JoinError, RefusedBatch};
@@ -176,6 +177,9 @@ impl OriginPart {
         requires may { IsOpenWith query.now self.old (option_copied next) }
         ensures drained { OnOk result (DrainsWith (D.honest disk.old) (meaning query.now) self.old (option_copied next.entry) self.new) }
         ensures same { OnErr result (self.new ≡ self.old) }
+        // The disk is asked only where batches follow.
+        ensures follows { IfErr result (λ error. error ≢ NoMemory →
+            0 < following self.old.prefix (behind self.old.prefix self.old.early (option_copied next.entry))) }
         ensures ran { Ran D.TapeDisk H.hash_of query.now means.now (AreCounted (aggregations_with self.old (option_copied next.entry)))
             (ended result) disk.old executor.old disk.new executor.new }
     {
@@ -235,9 +239,9 @@ impl OriginPart {
     }
 
     /// Takes a batch of the origin, for a query over the batch's columns. A known number changes nothing. A batch next to the unbroken
-    /// prefix is folded with the early ones that follow without a gap, by `means` and over a disk; any other is kept until then. A refused
-    /// batch is handed back and changes nothing: one whose number is early with other rows disagrees. A number within the prefix is known,
-    /// whatever its rows. The cost of aggregating the folded batches is added to the work of the executor.
+    /// prefix is folded with the early ones that follow without a gap, by `means` and over a disk; any other is kept until then, without
+    /// the disk. A refused batch is handed back and changes nothing: one whose number is early with other rows disagrees. A number within
+    /// the prefix is known, whatever its rows. The cost of aggregating the folded batches is added to the work of the executor.
     pub fn deliver<H: KeyHash + Copy, D: TapeDisk>(
         &mut self,
         query: &Query,

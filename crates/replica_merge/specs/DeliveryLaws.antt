@@ -67,7 +67,7 @@ module _ (honest : Bool) (old new : Held) (batch : Batch) (result : Result Deliv
       → knows (told old.parts) (batch.origin, batch.number) ≡ false)
   delivery_unknown = IfErr-weaker result (RefusesAt old.parts batch new.parts) _
       (λ e refused error why. told_is old.parts d.held.rising batch.origin batch.number
-      ∙ subst (λ w. BatchTells w (part_of old.parts batch.origin) batch.number batch.rows) why refused.tells) d.refused
+      ∙ (subst (λ w. BatchTells w (part_of old.parts batch.origin) batch.number batch.rows) why refused.tells).0) d.refused
 
   -- the batch of a world that the replica fits never disagrees
   pub delivery_agrees : IfErr result (λ e. (told : Option ℕ) → e.why ≡ OriginDisagrees told → (world : World) (those : List Row)

@@ -126,6 +126,7 @@ pub returns-in-Err-clause-delivery : goal.returns-in-Err-clause-delivery
 returns-in-Err-clause-delivery g c =
     let part : Part = c.args.self.now in
     let above = c.if-batch-self.false in
+    let next = c.if-batch-self-2.false in
     let prefix : c.self.inside.prefix ≡ part.prefix = ap (λ (p : Part). p.prefix) c.self.view_is in
     let over : part.prefix < c.args.batch.number = omega (arith, above, prefix) in
     let none : rows_at part.early c.args.batch.number ≡ None =
@@ -136,7 +137,10 @@ returns-in-Err-clause-delivery g c =
       refuses = record {
         back = refl;
         same = c.in-Err.ensures.same;
-        tells = rw c.from-why.ensures (unknown part c.args.batch.number over none);
+        tells = rw c.from-why.ensures (
+          unknown part c.args.batch.number over none,
+          λ other. omega (arith, above, next, prefix),
+        );
       };
       part = subst (IsPartOf c.args.query.now) (sym c.in-Err.ensures.same) c.requires.part;
     }

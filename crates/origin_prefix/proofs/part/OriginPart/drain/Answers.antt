@@ -1,4 +1,4 @@
-use Rattle.std.specs.Prelude.{refl, ℕ, List, take, ◌≡◌, ◌+◌, ◌*◌, ◌≤◌, map, Some}
+use Rattle.std.specs.Prelude.{refl, ℕ, List, take, ◌≡◌, ◌+◌, ◌*◌, ◌<◌, ◌≤◌, map, Some}
 use Rattle.std.proofs.Common.{rules, ◌∙◌, sym, ap, subst, arith}
 use Rattle.std.specs.List.{AllByRecursion}
 use Rattle.std.specs.Option.{option_copied}
@@ -11,7 +11,7 @@ use Rattle.hash_agg.specs.Lemmas.RanLaws.{ran_as, ran_still, ran_weaker, refused
 use Rattle.hash_agg.specs.Ran.{Done, Refused, ended}
 use Rattle.origin_prefix.specs.Parts.{Batches, Part, IsOpen, Folds, behind, following, rows_following, aggregations_behind}
 use Rattle.origin_prefix.specs.Parts.{aggregations_with}
-use Rattle.origin_prefix.proofs.CountLaws.{no_memory_ran, none_counted, some_counted}
+use Rattle.origin_prefix.proofs.CountLaws.{no_memory_ran, no_memory_follows, none_counted, refused_follows, some_counted}
 use Rattle.origin_prefix.proofs.PartLaws.{following_inputs, few_following, folds_some}
 use Rattle.origin_prefix.proofs.part.OriginPart.drain.Goals as goal
 use Rattle.origin_prefix.proofs.part.OriginPart.drain.Goals.{then-upto-self+in_ok-fold, else-upto-self}
@@ -52,6 +52,24 @@ returns-in_err-fold-clause-ran g c =
     (sym (refused_by Some result error c.from_residual-in_err-fold.ensures.1))
     (refused_other g.D.TapeDisk g.H.KeyHash.hash_of c.args.query.now c.args.means.now (IsCounted (map brought c.deref.result.now)) counts
     (Some error) c.args.disk.now c.args.executor.now c.fold.new.disk c.fold.new.executor c.in_err-fold.ensures.ran)
+
+pub returns-in_err-inputs-clause-follows : goal.returns-in_err-inputs-clause-follows
+returns-in_err-inputs-clause-follows g c =
+    let old : Part = c.args.self.now in
+    no_memory_follows c.from_residual.result (0 < following old.prefix (behind old.prefix old.early (option_copied c.args.next)))
+    c.from_residual.ensures.1
+
+pub returns-in_err-fold-clause-follows : goal.returns-in_err-fold-clause-follows
+returns-in_err-fold-clause-follows g c =
+    let old : Part = c.args.self.now in
+    let prefix : ℕ = c.self.inside.prefix in
+    let batches : Batches = behind prefix c.self.inside.early.entries (option_copied c.args.next) in
+    let upto : c.in_ok-inputs.upto ≡ prefix + following prefix batches = c.in_ok-inputs.ensures.upto in
+    let some = c.if-upto-self.true in
+    let here : 0 < following prefix batches = omega (arith, some, upto) in
+    refused_follows c.from_residual-in_err-fold.result c.in_err-fold.field-0.0
+    (0 < following old.prefix (behind old.prefix old.early (option_copied c.args.next))) c.from_residual-in_err-fold.ensures.1
+    (λ other. subst (λ (p : Part). 0 < following p.prefix (behind p.prefix p.early (option_copied c.args.next))) c.self.view_is here)
 
 pub returns-clause-ran : goal.returns-clause-ran
 returns-clause-ran g c =

@@ -58,9 +58,11 @@ returns-in_err-agree-clause-ran g c =
 
 pub returns-in_err-united-clause-joining : goal.returns-in_err-united-clause-joining
 returns-in_err-united-clause-joining g c =
+    let test : nat_lt c.args.self.now.prefix c.args.other.now.prefix
+    ≡ true = rw (sym c.self.view_is, sym c.other.view_is) (grind (arith, c.if-self-other.true)) in
     refused_joining (g.D.TapeDisk.honest c.args.disk.now) c.args.query.now c.args.self.now c.args.other.now
     c.from_residual-in_err-united.result (Spill c.in_err-united.field-0.0) c.from_residual-in_err-united.ensures.1
-    c.in_ok-agree.ensures.agree
+    (c.in_ok-agree.ensures.agree, rw test c.in_err-united.ensures.follows)
 
 pub returns-in_err-united-clause-ran : goal.returns-in_err-united-clause-ran
 returns-in_err-united-clause-ran g c =
@@ -70,9 +72,11 @@ returns-in_err-united-clause-ran g c =
 
 pub returns-in_err-united-2-clause-joining : goal.returns-in_err-united-2-clause-joining
 returns-in_err-united-2-clause-joining g c =
+    let test : nat_lt c.args.self.now.prefix c.args.other.now.prefix
+    ≡ false = rw (sym c.self.view_is, sym c.other.view_is) (grind (arith, c.if-self-other.false)) in
     refused_joining (g.D.TapeDisk.honest c.args.disk.now) c.args.query.now c.args.self.now c.args.other.now
     c.from_residual-in_err-united-2.result (Spill c.in_err-united-2.field-0.0) c.from_residual-in_err-united-2.ensures.1
-    c.in_ok-agree.ensures.agree
+    (c.in_ok-agree.ensures.agree, rw test c.in_err-united-2.ensures.follows)
 
 pub returns-in_err-united-2-clause-ran : goal.returns-in_err-united-2-clause-ran
 returns-in_err-united-2-clause-ran g c =

@@ -68,7 +68,8 @@ returns-in_err-agree-clause-ran g c =
 pub returns-in_err-early_aside-clause-joining : goal.returns-in_err-early_aside-clause-joining
 returns-in_err-early_aside-clause-joining g c =
     refused_aside (g.D.TapeDisk.honest c.args.disk.now) c.args.query.now c.args.self.now c.args.other.now
-    c.from_residual-in_err-early_aside.result no_memory c.from_residual-in_err-early_aside.ensures.1 c.in_ok-agree.ensures.agree
+    c.from_residual-in_err-early_aside.result no_memory c.from_residual-in_err-early_aside.ensures.1
+    (c.in_ok-agree.ensures.agree, λ other. absurd (other refl))
 
 pub returns-in_err-early_aside-clause-ran : goal.returns-in_err-early_aside-clause-ran
 returns-in_err-early_aside-clause-ran g c =

@@ -67,7 +67,7 @@ returns-in_default-clause-delivers g c =
         back = refl;
         same = none.1;
         tells = subst (λ w. BatchTells w (part_of old batch.origin) batch.number batch.rows) (sym c.from-why.ensures)
-            (none_tells old batch.origin batch.number none.0);
+            (none_tells old batch.origin batch.number none.0, λ other. absurd (other refl));
       };
     })
 
