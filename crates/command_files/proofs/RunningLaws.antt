@@ -37,21 +37,24 @@ use Rattle.command_files.specs.declared.reporter.Reporter.{Reporter}
 use Rattle.command_files.proofs.ReportingLaws.{replies_before, replies_behind, replies_none, says_more, says_nothing, saves_behind}
 
 -- a replica was saved, and what that wrote
-pub saves_held : {W E A X : Type 0} (contents : W → Option (List ℕ)) (held : Held) (old new : Reporter W E) (result : Result A X)
-    → OnOk result (Saves contents held old new)
-    → OnOk result (SavesHeld held old.is_piped (output_of contents old) (output_of contents new))
-saves_held contents held old new (Ok value) saves =
-    record { file = saves.file; saved = saves.saved; printed = saves.printed.output }
-saves_held contents held old new (Err error) saves = tt
+pub saves_held : {W E A X : Type 0} (contents : W → Option (List ℕ)) (held : Held) (old new : Reporter W E) (was passed : ℕ)
+    (result : Result A X) → passed ≡ was → OnOk result (Saves contents held old new)
+    → OnOk result (SavesHeld held old.is_piped (output_of contents old) (output_of contents new) × (passed ≡ was))
+saves_held contents held old new was passed (Ok value) same saves =
+    (record { file = saves.file; saved = saves.saved; printed = saves.printed.output }, same)
+saves_held contents held old new was passed (Err error) same saves = tt
 
 -- what is known was printed
 pub lists_held : {W E A X : Type 0} (contents : W → Option (List ℕ)) (format told_format : KnownFormat) (held : Held)
-    (old new : Reporter W E) (result : Result A X) → format ≡ told_format
+    (old new : Reporter W E) (was passed : ℕ) (result : Result A X) → format ≡ told_format → passed ≡ was
     → OnOk result (Prints contents old new (known_in format (known_list (told held.parts))))
-    → OnOk result (Appends (output_of contents old) (output_of contents new) (known_in told_format (known_list (told held.parts))))
-lists_held contents format told_format held old new (Ok value) same prints =
-    subst (λ f. Appends (output_of contents old) (output_of contents new) (known_in f (known_list (told held.parts)))) same prints.output
-lists_held contents format told_format held old new (Err error) same prints = tt
+    → OnOk result (Appends (output_of contents old) (output_of contents new) (known_in told_format (known_list (told held.parts)))
+    × (passed ≡ was))
+lists_held contents format told_format held old new was passed (Ok value) same count prints = (
+  subst (λ f. Appends (output_of contents old) (output_of contents new) (known_in f (known_list (told held.parts)))) same prints.output,
+  count,
+)
+lists_held contents format told_format held old new was passed (Err error) same count prints = tt
 
 -- an answer was printed
 pub answers_held : {W E A X : Type 0} (contents : W → Option (List ℕ)) (format told_format : Format) (held : Held)
@@ -154,9 +157,8 @@ takes_kept manner count old passed passed_now output sent kept done =
 performs_kept : {F H : Type 0} (subcommand : Subcommand) (matches : ArgMatches) (means : MeansState H) (held : Held)
     (from : Standpoint F) (passed_now : ℕ) (output sent : Option (List ℕ)) → Keeps output sent
     → Performs subcommand matches means held from passed_now output → Performs subcommand matches means held from passed_now sent
-performs_kept New matches means held from passed_now output sent kept saves =
-    saves_kept _ _ _ output sent kept saves
-performs_kept Known matches means held from passed_now output sent kept printed = Appends-kept _ _ _ _ printed kept
+performs_kept New matches means held from passed_now output sent kept (saves, same) = (saves_kept _ _ _ output sent kept saves, same)
+performs_kept Known matches means held from passed_now output sent kept (printed, same) = (Appends-kept _ _ _ _ printed kept, same)
 performs_kept Answer matches means held from passed_now output sent kept (table, lacks) = (
   record {
     rows = table.rows;

@@ -74,6 +74,12 @@ each_more manner place (file ∷ files) more old mid new (held, takes, rest) aft
 refused_of-append : (files more : List TakenFile) → refused_of (files ++ more) ≡ refused_of files + refused_of more
 refused_of-append files more = ap length (filter-append (λ (file : TakenFile). is_err file.told) files more) ∙ length-append _ _
 
+-- none of both was passed over where none is counted
+all_both : (passed between now few more both : ℕ) → both ≡ few + more → (between ≡ 0 → (passed ≡ 0) × (few ≡ 0))
+    → (now ≡ 0 → (between ≡ 0) × (more ≡ 0)) → now ≡ 0 → (passed ≡ 0) × (both ≡ 0)
+all_both passed between now few more both is before after none =
+    let later = after none in let earlier = before later.0 in (earlier.0, omega (arith, is, earlier.1, later.1))
+
 -- those of both are counted
 counted_both : (passed between now few more both : ℕ) → both ≡ few + more → (passed + few < 2 ^ 64 → between ≡ passed + few)
     → (between + more < 2 ^ 64 → now ≡ between + more) → passed + both < 2 ^ 64 → now ≡ passed + both
@@ -91,19 +97,22 @@ takes_more manner place few more old mid new passed between now before after = r
       (subst (λ n. TakesEach manner (place + n) after.files mid new) (sym before.many) after.each);
   counted = counted_both passed between now (refused_of before.files) (refused_of after.files) (refused_of (before.files ++ after.files))
       (refused_of-append before.files after.files) before.counted after.counted;
+  all = all_both passed between now (refused_of before.files) (refused_of after.files) (refused_of (before.files ++ after.files))
+      (refused_of-append before.files after.files) before.all after.all;
 }
 
 -- no file is taken yet
 pub takes_none : {F H : Type 0} (manner : Manner H) (place : ℕ) (state : CommandState F) (passed : ℕ)
     → TakesAll manner place 0 state state passed passed
-takes_none manner place state passed = record { files = []; many = refl; each = refl; counted = λ low. omega arith }
+takes_none manner place state passed =
+    record { files = []; many = refl; each = refl; counted = λ low. omega arith; all = λ none. (none, refl) }
 
 -- one file is taken
 takes_one : {F H : Type 0} (manner : Manner H) (place : ℕ) (file : TakenFile) (old new : CommandState F) (passed now : ℕ)
     → TakesOne manner place file old new → (passed + refused_of (file ∷ []) < 2 ^ 64 → now ≡ passed + refused_of (file ∷ []))
-    → TakesAll manner place 1 old new passed now
-takes_one manner place file old new passed now takes counted =
-    record { files = file ∷ []; many = refl; each = (new, takes, refl); counted = counted }
+    → (now ≡ 0 → (passed ≡ 0) × (refused_of (file ∷ []) ≡ 0)) → TakesAll manner place 1 old new passed now
+takes_one manner place file old new passed now takes counted all =
+    record { files = file ∷ []; many = refl; each = (new, takes, refl); counted = counted; all = all }
 
 -- one with a reply, which leaves the count
 pub takes_replied : {F H W E : Type 0} (contents : W → Option (List ℕ)) (kind : FileKind) (means : MeansState H) (place : ℕ)
@@ -121,7 +130,7 @@ takes_replied contents kind means place bytes reply held held_now disk disk_now 
       ran = ran;
       replied = (replied_behind contents start mid end reply says prints).output;
       goes_on = tt;
-    }) (λ low. omega (arith, same))
+    }) (λ low. omega (arith, same)) (λ none. (sym same ∙ none, refl))
 
 -- one that is passed over
 pub takes_refused : {F H W E A X : Type 0} (contents : W → Option (List ℕ)) (kind : FileKind) (means : MeansState H) (place : ℕ)
@@ -132,14 +141,14 @@ pub takes_refused : {F H W E A X : Type 0} (contents : W → Option (List ℕ)) 
     → RanFile kind bytes held means (Err why) disk work disk_now work_now → disk_end ≡ disk_now → work_end ≡ work_now
     → OnlySays start mid → listed_now ≡ listed → between ≡ passed
     → OnOk written (ending_of why ≢ Fault) → OnOk written (listed_now ≢ Some place)
-    → OnOk written (between + 1 < 2 ^ 64 → now ≡ between + 1)
+    → OnOk written (between + 1 < 2 ^ 64 → now ≡ between + 1) → OnOk written (now ≢ 0)
     → OnOk written (Prints contents mid end (reply_on_output mid.is_piped (Refused why)))
     → OnOk written (TakesAll (manner_of kind means disk start.is_piped listed) place 1
     (state_of held disk work (output_of contents start)) (state_of held_now disk_end work_end (output_of contents end)) passed now)
 takes_refused contents kind means place bytes why held held_now disk disk_now disk_end work work_now work_end start mid end listed
-    listed_now passed between now (Err error) takes ran same_disk same_work says same_listed same goes_on spares counted prints = tt
+    listed_now passed between now (Err error) takes ran same_disk same_work says same_listed same goes_on spares counted some prints = tt
 takes_refused contents kind means place bytes why held held_now disk disk_now disk_end work work_now work_end start mid end listed
-    listed_now passed between now (Ok done) takes ran same_disk same_work says same_listed same goes_on spares counted prints =
+    listed_now passed between now (Ok done) takes ran same_disk same_work says same_listed same goes_on spares counted some prints =
     takes_one _ place (record { bytes = bytes; told = Err why }) _ _ passed now (record {
       takes = takes;
       ran = subst (λ d. RanFile kind bytes held means (Err why) disk work d work_end) (sym same_disk)
@@ -147,7 +156,7 @@ takes_refused contents kind means place bytes why held held_now disk disk_now di
       replied = (replied_behind contents start mid end (Refused why) says prints).output;
       goes_on = (goes_on, subst (λ l. l ≢ Some place) same_listed spares);
     })
-    (λ low. let one : now ≡ between + 1 = counted (omega (arith, low, same)) in omega (arith, same, one))
+    (λ low. let one : now ≡ between + 1 = counted (omega (arith, low, same)) in omega (arith, same, one)) (λ none. absurd (some none))
 
 -- by a manner that is the same
 pub takes_as : {F H : Type 0} (kind : FileKind) (means : MeansState H) (disk first : SpillDisk (SystemState F)) (piped was_piped : Bool)

@@ -115,12 +115,14 @@ abbrev pub format_name : ArgMatches → List ℕ
 format_name matches = value_told matches (codes "format")
 
 -- what a command does with its replica, by what its command line tells: it saves it as it is, or with what files bring to it, or it prints
--- what it knows or its answer
+-- what it knows or its answer. One that takes no files passes none over
 abbrev pub Performs : {F H : Type 0} → Subcommand → ArgMatches → MeansState H → Held → (old : Standpoint F) → (passed_now : ℕ)
     → (output : Option (List ℕ)) → Type 0
-Performs New matches means held old passed_now output = SavesHeld held old.is_piped old.output output
+Performs New matches means held old passed_now output =
+    SavesHeld held old.is_piped old.output output × (passed_now ≡ old.passed)
 Performs Known matches means held old passed_now output =
     Appends old.output output (known_in (known_format_told (format_name matches)) (known_list (told held.parts)))
+    × (passed_now ≡ old.passed)
 Performs Answer matches means held old passed_now output =
     AnswersHeld (format_told (format_name matches)) held old.output output × (passed_now ≡ lacking matches held)
 Performs Feed matches means held old passed_now output =
@@ -135,10 +137,11 @@ RunsCommand subcommand matches means old passed_now output =
     (held : Held) × BeginsWith subcommand matches held × Performs subcommand matches means held old passed_now output
 
 -- where a command stands as its command line tells: tapes lie in a file exactly where one is told for what is spilled, and OUT is standard
--- output exactly where that is told
+-- output exactly where that is told. No file was passed over yet
 pub record StandsAsTold {F : Type 0} (subcommand : Subcommand) (matches : ArgMatches) (from : Standpoint F) : Type 0 where
   pub spilled : is_in_memory from.disk ≡ is_none (spill_told subcommand matches)
   pub piped : from.is_piped ≡ is_out_stream subcommand matches
+  pub fresh : from.passed ≡ 0
 
 -- a command did its work as its command line tells, from where it stood, by the limit that is told or the usual one, and passed so many
 -- files over; an answer that lacks batches which it should have counts as one

@@ -129,12 +129,13 @@ TakesEach {F} manner place [] old new = new ≡ old
 TakesEach {F} manner place (file ∷ files) old new =
     (mid : CommandState F) × TakesOne manner place file old mid × TakesEach manner (place + 1) files mid new
 
--- it takes so many files, and counts those that it passes over
+-- it takes so many files, and counts those that it passes over: it counts none only where it passed over none, now or before
 pub record TakesAll {F H : Type 0} (manner : Manner H) (place count : ℕ) (old new : CommandState F) (passed passed_now : ℕ) : Type 0 where
   pub files : List TakenFile
   pub many : length files ≡ count
   pub each : TakesEach manner place files old new
   pub counted : passed + refused_of files < 2 ^ 64 → passed_now ≡ passed + refused_of files
+  pub all : passed_now ≡ 0 → (passed ≡ 0) × (refused_of files ≡ 0)
 
 -- why a command stops at a file: a file or a stream failed, or the one that was refused is OUT
 abbrev pub StopsAt : (listed : Option ℕ) → (place : ℕ) → Refusal → Type 0

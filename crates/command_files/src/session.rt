@@ -165,6 +165,7 @@ impl<'c, R: Files + AllocGlobal + RandomSource, I: Read, W: Write, E: Write> Ses
         ensures goes_on { OnOk result (ending_of problem.entry.why ≢ Fault) }
         ensures spares { OnOk result (self.old.target.listed ≢ Some place) }
         ensures counted { OnOk result (self.old.passed + 1 < 2 ^ 64 → self.new.passed ≡ self.old.passed + 1) }
+        ensures some { OnOk result (self.new.passed ≢ 0) }
         ensures stops { IfErr result (λ stopped. StopsAt self.old.target.listed place stopped.why) }
         ensures told { OnOk result (Prints W.contents self.old.reporter self.new.reporter
             (reply_on_output self.old.reporter.is_piped (Refused problem.entry.why))) }
@@ -342,6 +343,7 @@ impl<'c, R: Files + AllocGlobal + RandomSource, I: Read, W: Write, E: Write> Ses
     /// Tells what a replica holds, where that is asked for. Nothing is told where there is no memory for that.
     fn explain_holding(&mut self, replica: &Replica, is_told: bool)
         ensures says { OnlySays self.old.reporter self.new.reporter }
+        ensures passed { self.new.passed ≡ self.old.passed }
     {
         if !is_told {
             return;
@@ -377,6 +379,7 @@ impl<'c, R: Files + AllocGlobal + RandomSource, I: Read, W: Write, E: Write> Ses
     ) -> Result<(), Problem<'p>>
         ensures listed { OnOk result (Prints W.contents self.old.reporter self.new.reporter
             (known_in format (known_list (told replica.now.parts)))) }
+        ensures passed { self.new.passed ≡ self.old.passed }
         ensures unput { IfErr result (λ problem. ending_of problem.why ≢ Fault → OnlySays self.old.reporter self.new.reporter) }
     {
         let Ok(lines) = known_table(self.inputs.rt.alloc(), replica, format) else {
@@ -598,7 +601,8 @@ impl<'c, R: Files + AllocGlobal + RandomSource, I: Read, W: Write, E: Write> Ses
         matches: &ArgMatches<'_>,
         standing: Option<Standing<'_>>,
     ) -> ExitKind
-        requires { self.old.reporter.is_piped ≡ is_out_stream subcommand matches.now }
+        requires piped { self.old.reporter.is_piped ≡ is_out_stream subcommand matches.now }
+        requires fresh { self.old.passed ≡ 0 }
         ensures done { result ≡ Done → IsDone R.File subcommand matches.now 0 (output_of W.contents self.old.reporter)
             (output_of W.contents self.new.reporter) }
         ensures stopped { result ≢ Fault → IsDoneOrStopped R.File subcommand matches.now result
@@ -617,7 +621,8 @@ impl<'c, R: Files + AllocGlobal + RandomSource, I: Read, W: Write, E: Write> Ses
         matches: &ArgMatches<'_>,
         looked: Result<Option<Standing<'_>>, Problem<'_>>,
     ) -> ExitKind
-        requires { self.old.reporter.is_piped ≡ is_out_stream subcommand matches.now }
+        requires piped { self.old.reporter.is_piped ≡ is_out_stream subcommand matches.now }
+        requires fresh { self.old.passed ≡ 0 }
         ensures done { result ≡ Done → IsDone R.File subcommand matches.now 0 (output_of W.contents self.old.reporter)
             (output_of W.contents self.new.reporter) }
         ensures stopped { result ≢ Fault → IsDoneOrStopped R.File subcommand matches.now result
@@ -638,6 +643,7 @@ impl<'c, R: Files + AllocGlobal + RandomSource, I: Read, W: Write, E: Write> Ses
             (session_output W.contents self.old) (session_output W.contents self.new) }
     {
         let rt = self.inputs.rt;
+        self.passed = 0;
         let is_piped = is_out_stream(subcommand, matches);
         self.reporter.set_piped(is_piped);
         let is_terminal = self.reporter.terminals().output;
@@ -700,6 +706,7 @@ impl<'c, R: Files + AllocGlobal + RandomSource, I: Read, W: Write, E: Write> Ses
         matches: &ArgMatches<'p>,
     ) -> Result<(), Problem<'p>>
         ensures says { OnlySays self.old.reporter self.new.reporter }
+        ensures passed { self.new.passed ≡ self.old.passed }
     {
         if !subcommand.aggregates() {
             return Ok(());
@@ -711,6 +718,7 @@ impl<'c, R: Files + AllocGlobal + RandomSource, I: Read, W: Write, E: Write> Ses
     fn tell_standing(&mut self, standing: Option<Standing<'_>>)
         ensures says { OnlySays self.old.reporter self.new.reporter }
         ensures disk { self.new.disk ≡ self.old.disk }
+        ensures passed { self.new.passed ≡ self.old.passed }
     {
         match standing {
             Some(standing) => self.reporter.say(&standing),
@@ -749,6 +757,7 @@ impl<'c, R: Files + AllocGlobal + RandomSource, I: Read, W: Write, E: Write> Ses
     ) -> ExitKind
         requires limited { limit_of (limit_told subcommand matches.now) ≡ Some means.limit }
         requires piped { self.old.reporter.is_piped ≡ is_out_stream subcommand matches.now }
+        requires fresh { self.old.passed ≡ 0 }
         ensures done { result ≡ Done → IsDone R.File subcommand matches.now 0 (output_of W.contents self.old.reporter)
             (output_of W.contents self.new.reporter) }
         ensures stopped { result ≢ Fault → IsDoneOrStopped R.File subcommand matches.now result

@@ -6,4 +6,4 @@ pub returns-in-Err-clause-stopped : goal.returns-in-Err-clause-stopped
 returns-in-Err-clause-stopped g c =
     let old = c.args.self.now.reporter in
     refused_said _ g.W.Write.contents c.args.subcommand c.args.matches.now c.in-Err.problem.why c.refuse.result old old
-    c.refuse.new.self.reporter (says_nothing old) c.requires c.refuse.ensures.stops
+    c.refuse.new.self.reporter (says_nothing old) c.requires.piped c.refuse.ensures.stops

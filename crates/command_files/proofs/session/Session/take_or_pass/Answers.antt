@@ -9,7 +9,7 @@ returns-in-Err-clause-takes g c =
     c.args.self.now.reporter c.take_file.new.self.reporter c.pass_over.new.self.reporter _ _ _ _ _ c.pass_over.result
     c.in-Err.ensures.takes.1 c.in-Err.ensures.takes.2 c.pass_over.ensures.disk c.pass_over.ensures.work c.in-Err.ensures.says
     c.in-Err.ensures.listed c.in-Err.ensures.passed c.pass_over.ensures.goes_on c.pass_over.ensures.spares c.pass_over.ensures.counted
-    c.pass_over.ensures.told
+    c.pass_over.ensures.some c.pass_over.ensures.told
 
 pub returns-in-Err-clause-disk : goal.returns-in-Err-clause-disk
 returns-in-Err-clause-disk g c = ap is_in_memory c.pass_over.ensures.disk ∙ c.in-Err.ensures.disk
