@@ -1,6 +1,6 @@
 -- Commands that do their work, and what was said or sent out beside that.
-use Rattle.std.specs.Prelude.{◌≡◌, ◌≢◌, refl, ◌⊎◌, ◌==◌, ◌&&◌, ℕ, min, Bool, not, if◌then◌else◌, List, ◌++◌, Option, Some}
-use Rattle.std.specs.Prelude.{Result, Ok, Err, IfErr, OnOk}
+use Rattle.std.specs.Prelude.{◌≡◌, ◌≢◌, refl, ◌⊎◌, ◌==◌, ◌&&◌, ℕ, min, Bool, not, if◌then◌else◌, List, ◌++◌, Option, Some, None}
+use Rattle.std.specs.Prelude.{IsSome, Result, Ok, Err, IfErr, OnOk}
 use Rattle.std.specs.Io.KnownBytes.{Appends, Keeps}
 use Rattle.std.proofs.Common.{◌∙◌, ap, arith, inl, inr, subst, sym}
 use Rattle.std.proofs.lemmas.Bool.Decides.{nat_tests}
@@ -17,17 +17,19 @@ use Rattle.replies.specs.KnownTables.{known_in}
 use Rattle.replies.specs.declared.ending.ExitKind.{ExitKind}
 use Rattle.replies.specs.declared.ending.ExitKind.TheVariants.{BadUsage, Fault}
 use Rattle.replies.specs.declared.refusal.Refusal.{Refusal}
+use Rattle.replies.specs.declared.refusal.Refusal.TheVariants.{BadCommand}
 use Rattle.replies.specs.declared.reply.Reply.TheVariants.{Refused}
 use Rattle.replies.specs.declared.showing.Format.{Format}
 use Rattle.replies.specs.declared.showing.KnownFormat.{KnownFormat}
 use Rattle.command_words.specs.declared.subcommands.Subcommand.{Subcommand}
 use Rattle.command_words.specs.declared.subcommands.Subcommand.TheVariants.{New, Feed, Merge, Known, Answer}
-use Rattle.command_words.specs.Told.{is_out_stream, limit_told}
+use Rattle.command_words.specs.Told.{is_out_stream, limit_told, out_told}
+use Rattle.file_sentences.specs.declared.out.Standing.{Standing}
 use Rattle.command_streams.specs.Stopping.{ending_of}
 use Rattle.command_streams.specs.declared.problem.Problem.{Problem}
 use Rattle.key_hashes.specs.declared.hash.Fnv1a.{Fnv1a}
 use Rattle.command_files.specs.Ending.{ending_beside, lacking_of}
-use Rattle.command_files.specs.Limits.{limit_of}
+use Rattle.command_files.specs.Limits.{limit_of, IsNoLimit}
 use Rattle.command_files.specs.Reporting.{output_of, replies_on_output, reply_on_output, OnlySays, Prints, PrintsTable, RefusedAfter}
 use Rattle.command_files.specs.Reporting.{RepliesFew, Saves, StopsBy}
 use Rattle.command_files.specs.Running.{files_told, standpoint_of, AnswersHeld, BeginsWith, IsDone, IsDoneOrStopped, IsRefused, Performs}
@@ -259,25 +261,41 @@ refused_said F contents subcommand matches why exit old mid new says piped stops
 
 -- or its words were wrong
 pub misused_said : {W E : Type 0} (F : Type 0) (contents : W → Option (List ℕ)) (subcommand : Subcommand) (matches : ArgMatches)
-    (exit : ExitKind) (old new : Reporter W E) → exit ≡ BadUsage → OnlySays old new
+    (exit : ExitKind) (old new : Reporter W E) → exit ≡ BadUsage
+    → (limit_of (limit_told subcommand matches) ≡ None) ⊎ IsSome (out_told subcommand matches) → OnlySays old new
     → IsDoneOrStopped F subcommand matches exit (output_of contents old) (output_of contents new)
-misused_said F contents subcommand matches exit old new misused says = inr (inr (
+misused_said F contents subcommand matches exit old new misused cause says = inr (inr (
   misused,
   subst (λ w. Keeps (output_of contents old) (written contents w)) (sym says.output) (Keeps-refl (output_of contents old)),
+  cause,
 ))
+
+-- something stands in the place of OUT, so that OUT is told
+pub found_out : {E : Type 0} (out : Option (List ℕ)) (looked : Result (Option Standing) E) (standing : Standing)
+    → (out ≡ None → looked ≡ Ok None) → looked ≡ Ok (Some standing) → IsSome out
+found_out (Some out) looked standing none found = refl
+found_out None looked standing none found = cc (none refl)
+
+-- a limit that is refused as no command line is no number of bytes
+no_number : (limit : Option ℕ) (why : Refusal) → IsNoLimit limit why → why ≡ BadCommand → limit ≡ None
+no_number None why refused unread = refl
+no_number (Some limit) why (range, out) unread = cc
 
 -- a limit was refused, or was no number of bytes
 pub limit_refused : {W E : Type 0} (F : Type 0) (contents : W → Option (List ℕ)) (subcommand : Subcommand) (matches : ArgMatches)
     (why : Refusal) (exit : ExitKind) (old new : Reporter W E) → old.is_piped ≡ is_out_stream subcommand matches
-    → (exit ≢ Fault → StopsBy contents why exit old new ⊎ ((exit ≡ BadUsage) × OnlySays old new)) → exit ≢ Fault
+    → IsNoLimit (limit_of (limit_told subcommand matches)) why
+    → (exit ≢ Fault → StopsBy contents why exit old new ⊎ ((exit ≡ BadUsage) × (why ≡ BadCommand) × OnlySays old new)) → exit ≢ Fault
     → IsDoneOrStopped F subcommand matches exit (output_of contents old) (output_of contents new)
-limit_refused F contents subcommand matches why exit old new piped stops sound = by_ending (stops sound)
+limit_refused F contents subcommand matches why exit old new piped refused stops sound = by_ending (stops sound)
   where
-    by_ending : StopsBy contents why exit old new ⊎ ((exit ≡ BadUsage) × OnlySays old new)
+    by_ending : StopsBy contents why exit old new ⊎ ((exit ≡ BadUsage) × (why ≡ BadCommand) × OnlySays old new)
         → IsDoneOrStopped F subcommand matches exit (output_of contents old) (output_of contents new)
     by_ending (inl stopped) =
         refused_said F contents subcommand matches why exit old old new (says_nothing old) piped (λ sound. stopped) sound
-    by_ending (inr (misused, says)) = misused_said F contents subcommand matches exit old new misused says
+    by_ending (inr (misused, unread, says)) =
+        misused_said F contents subcommand matches exit old new misused
+        (inl (no_number (limit_of (limit_told subcommand matches)) why refused unread)) says
 
 -- something was said before that, or behind it
 pub stopped_behind : {W E : Type 0} (F : Type 0) (contents : W → Option (List ℕ)) (subcommand : Subcommand) (matches : ArgMatches)
@@ -308,7 +326,7 @@ stopped_kept F subcommand matches exit result old output sent kept same (inr (in
   printed = Appends-kept _ _ _ _ refused.printed kept;
 }))
 stopped_kept F subcommand matches exit result old output sent kept same (inr (inr misused)) =
-    inr (inr (same ∙ misused.0, Keeps-trans old output sent misused.1 kept))
+    inr (inr (same ∙ misused.0, Keeps-trans old output sent misused.1 kept, misused.2))
 
 -- a command did its work, and something was said, or it stopped behind replies to its files
 pub stopped_by : {F H W E T : Type 0} (contents : W → Option (List ℕ)) (subcommand : Subcommand) (matches : ArgMatches)

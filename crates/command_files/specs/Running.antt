@@ -1,5 +1,5 @@
 -- What a command on files does, from the replica that it begins with to what it prints. All of this is our own.
-use Rattle.std.specs.Prelude.{◌≡◌, ◌≢◌, ◌⊎◌, ◌-◌, ◌≤◌, ℕ, Bool, List, [], ◌++◌, length, codes, Option, Some, is_none}
+use Rattle.std.specs.Prelude.{◌≡◌, ◌≢◌, ◌⊎◌, ◌-◌, ◌≤◌, ℕ, Bool, List, [], ◌++◌, length, codes, Option, Some, None, is_none, IsSome}
 use Rattle.std.specs.Io.KnownBytes.{Appends, Keeps}
 use Rattle.clap.specs.declared.parser.matches.ArgMatches.{ArgMatches}
 use Rattle.grouping_model.specs.Replies.{known_list}
@@ -26,7 +26,7 @@ use Rattle.file_sentences.specs.declared.reasons.FileKind.{FileKind}
 use Rattle.file_sentences.specs.declared.reasons.FileKind.TheVariants.{Batch, Summary}
 use Rattle.command_streams.specs.Disks.{is_in_memory}
 use Rattle.command_streams.specs.Stopping.{ending_of}
-use Rattle.command_words.specs.Told.{is_out_stream, limit_told, spill_told, value_told, values_told}
+use Rattle.command_words.specs.Told.{is_out_stream, limit_told, out_told, spill_told, value_told, values_told}
 use Rattle.command_words.specs.declared.subcommands.Subcommand.{Subcommand}
 use Rattle.command_words.specs.declared.subcommands.Subcommand.TheVariants.{New, Feed, Merge, Known, Answer}
 use Rattle.command_files.specs.Ending.{ending_beside, lacking}
@@ -162,15 +162,17 @@ pub record IsRefused (subcommand : Subcommand) (matches : ArgMatches) (exit : Ex
   pub printed : Appends old new
       (replies_on_output (is_out_stream subcommand matches) replies ++ reply_on_output (is_out_stream subcommand matches) (Refused why))
 
--- its words were no command line, or told to keep a file: standard output got nothing
-abbrev pub IsMisused : (exit : ExitKind) → (old new : Option (List ℕ)) → Type 0
-IsMisused exit old new = (exit ≡ BadUsage) × Keeps old new
+-- the limit that it tells is no number of bytes, or its OUT stays: a file that it is told to keep, or a foreign one or a terminal that it
+-- is not forced to write. Standard output got nothing
+abbrev pub IsMisused : Subcommand → ArgMatches → (exit : ExitKind) → (old new : Option (List ℕ)) → Type 0
+IsMisused subcommand matches exit old new =
+    (exit ≡ BadUsage) × Keeps old new × ((limit_of (limit_told subcommand matches) ≡ None) ⊎ IsSome (out_told subcommand matches))
 
 -- a command did its work, but for files that it passed over, or it stopped
 abbrev pub IsDoneOrStopped : (F : Type 0) → Subcommand → ArgMatches → (exit : ExitKind) → (old new : Option (List ℕ)) → Type 0
 IsDoneOrStopped F subcommand matches exit old new =
     ((passed : ℕ) × (exit ≡ ending_beside passed) × IsDone F subcommand matches passed old new)
-    ⊎ IsRefused subcommand matches exit old new ⊎ IsMisused exit old new
+    ⊎ IsRefused subcommand matches exit old new ⊎ IsMisused subcommand matches exit old new
 
 -- what standard output holds in a session, if that is known
 abbrev pub session_output : {R I W E A B : Type 0} → (W → Option (List ℕ)) → Session R I W E A B → Option (List ℕ)

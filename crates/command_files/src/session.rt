@@ -7,6 +7,7 @@ ghost use Rattle.replica_merge.specs.Replicas.{told};
 ghost use Rattle.script_io.specs.Fused.{written};
 ghost use Rattle.replies.specs.KnownTables.{known_in};
 ghost use Rattle.replies.specs.declared.ending.ExitKind.TheVariants.{BadUsage, Done, Fault};
+ghost use Rattle.replies.specs.declared.refusal.Refusal.TheVariants.{BadCommand};
 ghost use Rattle.replies.specs.declared.reply.Reply.TheVariants.{Refused};
 ghost use Rattle.command_streams.specs.Disks.{is_in_memory};
 ghost use Rattle.command_streams.specs.Stopping.{ending_of, EndsRefused};
@@ -564,7 +565,7 @@ impl<'c, R: Files + AllocGlobal + RandomSource, I: Read, W: Write, E: Write> Ses
     ) -> ExitKind
         ensures ends { result ≢ Done }
         ensures stops { result ≢ Fault → StopsBy W.contents why result self.old.reporter self.new.reporter
-            ⊎ ((result ≡ BadUsage) × OnlySays self.old.reporter self.new.reporter) }
+            ⊎ ((result ≡ BadUsage) × (why ≡ BadCommand) × OnlySays self.old.reporter self.new.reporter) }
     {
         let alloc = self.inputs.rt.alloc();
         let reason = match said_of_limit(alloc, matches, why) {
@@ -573,11 +574,13 @@ impl<'c, R: Files + AllocGlobal + RandomSource, I: Read, W: Write, E: Write> Ses
         };
         let problem = Problem::because("--limit", why, reason);
         let output = self.output_status(subcommand, matches);
-        if matches!(why, Refusal::BadCommand) {
-            self.reporter.complain(&problem, output);
-            return ExitKind::BadUsage;
+        match why {
+            Refusal::BadCommand => {
+                self.reporter.complain(&problem, output);
+                ExitKind::BadUsage
+            }
+            _ => self.reporter.stop(problem, output),
         }
-        self.reporter.stop(problem, output)
     }
 
     /// Ends a command that stopped.
