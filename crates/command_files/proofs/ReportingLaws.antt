@@ -1,7 +1,7 @@
 -- What was printed after something else was said or printed.
-use Rattle.std.specs.Prelude.{◌≡◌, ◌≢◌, ◌≤◌, refl, true, false, ℕ, List, [], ◌++◌, length, Option}
+use Rattle.std.specs.Prelude.{◌≡◌, ◌≢◌, ◌+◌, ◌≤◌, refl, true, false, ℕ, min, List, [], ◌∷◌, ◌++◌, length, Option}
 use Rattle.std.specs.Io.KnownBytes.{Appends, Keeps}
-use Rattle.std.proofs.Common.{◌∙◌, arith, inl, inr, sym, subst}
+use Rattle.std.proofs.Common.{◌∙◌, ap, arith, inl, inr, sym, subst}
 use Rattle.std.proofs.KnownBytes.{Appends-kept, Appends-nil, Appends-trans}
 use Rattle.script_io.specs.Fused.{written}
 use Rattle.replica_merge.specs.Replicas.{Held}
@@ -9,12 +9,13 @@ use Rattle.replies.specs.Text.{said_text}
 use Rattle.replies.specs.declared.reply.Reply.{Reply}
 use Rattle.replies.specs.declared.reply.Reply.TheVariants.{Refused, Saved}
 use Rattle.replies.specs.declared.showing.Format.{Format}
+use Rattle.replies.specs.declared.showing.Format.TheVariants.{Aligned}
 use Rattle.replies.specs.declared.ending.ExitKind.{ExitKind}
 use Rattle.replies.specs.declared.ending.ExitKind.TheVariants.{Fault}
 use Rattle.replies.specs.declared.refusal.Refusal.{Refusal}
 use Rattle.command_streams.specs.Stopping.{ending_of, RepliesRefused}
-use Rattle.command_files.specs.Reporting.{file_on_output, output_of, replies_on_output, reply_on_output, OnlySays, Prints, PrintsTable}
-use Rattle.command_files.specs.Reporting.{RepliesFew, Saves, StopsBy}
+use Rattle.command_files.specs.Reporting.{file_on_output, output_of, replies_on_output, reply_on_output, IsFoot, OnlySays, Prints}
+use Rattle.command_files.specs.Reporting.{PrintsTable, RepliesFew, Saves, StopsBy}
 use Rattle.command_files.specs.declared.reporter.Reporter.{Reporter}
 
 -- nothing was said
@@ -104,6 +105,53 @@ saves_behind contents held old mid new says saves = record {
       (file_on_output mid.is_piped saves.file ++ reply_on_output mid.is_piped (Saved (length saves.file))) says saves.printed);
 }
 
+-- ---- the foot of a table
+
+-- nothing is told yet
+pub foot_none : (format : Format) → IsFoot format 0 []
+foot_none format = record { footless = λ other. refl; quiet = λ none. refl; heard = λ aligned some. absurd (some refl) }
+
+-- two texts are empty together only if the second is
+none_behind : (foot line : List ℕ) → foot ++ line ≡ [] → line ≡ []
+none_behind [] line none = none
+none_behind (byte ∷ foot) line none = cc
+
+-- one line is one
+one_is_some : (count : ℕ) → count ≡ 1 → count ≢ 0
+one_is_some count one none = omega arith
+
+-- a line stands under an aligned table
+pub foot_of_line : (format : Format) (line : List ℕ) → format ≡ Aligned → IsFoot format 1 (line ++ (10 ∷ []))
+foot_of_line format line aligned = record {
+  footless = λ other. absurd (other aligned);
+  quiet = λ none. absurd (one_is_some 1 refl none);
+  heard = λ same some none. let end : ◌≡◌ {A = List ℕ} (10 ∷ []) [] = none_behind line (10 ∷ []) none in cc;
+}
+
+-- and none under another
+pub foot_elsewhere : (format : Format) (count : ℕ) → format ≢ Aligned → IsFoot format count []
+foot_elsewhere format count other =
+    record { footless = λ same. refl; quiet = λ none. refl; heard = λ aligned. absurd (other aligned) }
+
+-- one line more is told
+pub foot_more : (format : Format) (count : ℕ) (foot line : List ℕ) → IsFoot format count foot → IsFoot format 1 line
+    → IsFoot format (count + 1) (foot ++ line)
+foot_more format count foot line before more = record {
+  footless = λ other. ap (λ l. l ++ line) (before.footless other) ∙ more.footless other;
+  quiet = λ none. absurd (omega arith);
+  heard = λ aligned some none. more.heard aligned (one_is_some 1 refl) (none_behind foot line none);
+}
+
+-- at most eleven lines tell of more, and none only of none
+pub foot_of_few : (format : Format) (count all : ℕ) (foot : List ℕ) → count ≡ min 11 all → IsFoot format count foot → IsFoot format all foot
+foot_of_few format count all foot same stands = record {
+  footless = stands.footless;
+  quiet = λ none. stands.quiet (omega (arith, same, none));
+  heard = λ aligned some. stands.heard aligned (λ none. some (omega (arith, same, none)));
+}
+
+-- ---- tables
+
 -- something was said before an answer was printed, or behind it
 pub table_behind : {W E : Type 0} (contents : W → Option (List ℕ)) (format : Format) (held : Held) (old mid new : Reporter W E)
     → OnlySays old mid → PrintsTable contents format held mid new → PrintsTable contents format held old new
@@ -112,7 +160,7 @@ table_behind contents format held old mid new says table = record {
   table = table.table;
   foot = table.foot;
   answers = table.answers;
-  footless = table.footless;
+  stands = table.stands;
   printed = prints_behind contents old mid new (table.table ++ table.foot) says table.printed;
 }
 
@@ -123,7 +171,7 @@ table_before contents format held old mid new table says = record {
   table = table.table;
   foot = table.foot;
   answers = table.answers;
-  footless = table.footless;
+  stands = table.stands;
   printed = prints_before contents old mid new (table.table ++ table.foot) table.printed says;
 }
 

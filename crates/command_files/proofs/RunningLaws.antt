@@ -70,7 +70,7 @@ answers_held contents format told_format held old new passed lack (Ok value) sam
     table = table.table;
     foot = table.foot;
     answers = table.answers;
-    footless = table.footless;
+    stands = table.stands;
     printed = table.printed.output;
   }),
   lacks,
@@ -167,7 +167,7 @@ performs_kept Answer matches means held from passed_now output sent kept (table,
     table = table.table;
     foot = table.foot;
     answers = table.answers;
-    footless = table.footless;
+    stands = table.stands;
     printed = Appends-kept _ _ _ _ table.printed kept;
   },
   lacks,

@@ -3,7 +3,9 @@ use Rattle.std.specs.Prelude.{◌≡◌, ◌≢◌, ◌≤◌, Bool, true, false
 use Rattle.std.specs.Io.KnownBytes.{Appends}
 use Rattle.script_io.specs.Fused.{written}
 use Rattle.summary_codec.specs.Reading.{IsSaved}
-use Rattle.replica_merge.specs.Replicas.{Held}
+use Rattle.grouping_model.specs.Replies.{known_list}
+use Rattle.holding_sentences.specs.Waiting.{waiting}
+use Rattle.replica_merge.specs.Replicas.{Held, told}
 use Rattle.replies.specs.Printed.{PrintsAnswer}
 use Rattle.replies.specs.Text.{said_text}
 use Rattle.replies.specs.declared.ending.ExitKind.{ExitKind}
@@ -68,6 +70,12 @@ pub record Saves {W E : Type 0} (contents : W → Option (List ℕ)) (held : Hel
   pub saved : IsSaved file held.query held.parts
   pub printed : Prints contents old new (file_on_output old.is_piped file ++ reply_on_output old.is_piped (Saved (length file)))
 
+-- what stands at the foot of a table: something under an aligned one where there is something to tell, and else nothing
+pub record IsFoot (format : Format) (lines : ℕ) (foot : List ℕ) : Type 0 where
+  pub footless : format ≢ Aligned → foot ≡ []
+  pub quiet : lines ≡ 0 → foot ≡ []
+  pub heard : format ≡ Aligned → lines ≢ 0 → foot ≢ []
+
 -- the answer of a replica was printed: its table, and at the foot of an aligned one what it does not count
 pub record PrintsTable {W E : Type 0} (contents : W → Option (List ℕ)) (format : Format) (held : Held) (old new : Reporter W E) :
     Type 0 where
@@ -75,5 +83,5 @@ pub record PrintsTable {W E : Type 0} (contents : W → Option (List ℕ)) (form
   pub table : List ℕ
   pub foot : List ℕ
   pub answers : PrintsAnswer format held rows table
-  pub footless : format ≢ Aligned → foot ≡ []
+  pub stands : IsFoot format (waiting (known_list (told held.parts))) foot
   pub printed : Prints contents old new (table ++ foot)

@@ -1,5 +1,5 @@
 -- What a command on files does, from the replica that it begins with to what it prints. All of this is our own.
-use Rattle.std.specs.Prelude.{◌≡◌, ◌≢◌, ◌⊎◌, ◌-◌, ◌≤◌, ℕ, Bool, List, [], ◌++◌, length, codes, Option, Some, None, is_none, IsSome}
+use Rattle.std.specs.Prelude.{◌≡◌, ◌⊎◌, ◌-◌, ◌≤◌, ℕ, Bool, List, ◌++◌, length, codes, Option, Some, None, is_none, IsSome}
 use Rattle.std.specs.Io.KnownBytes.{Appends, Keeps}
 use Rattle.clap.specs.declared.parser.matches.ArgMatches.{ArgMatches}
 use Rattle.grouping_model.specs.Replies.{known_list}
@@ -20,8 +20,8 @@ use Rattle.replies.specs.declared.reply.Reply.{Reply}
 use Rattle.replies.specs.declared.reply.Reply.TheVariants.{Refused, Saved}
 use Rattle.replies.specs.Printed.{PrintsAnswer}
 use Rattle.replies.specs.declared.showing.Format.{Format}
-use Rattle.replies.specs.declared.showing.Format.TheVariants.{Aligned}
 use Rattle.command_replicas.specs.Commands.{IsNew}
+use Rattle.holding_sentences.specs.Waiting.{waiting}
 use Rattle.file_sentences.specs.declared.reasons.FileKind.{FileKind}
 use Rattle.file_sentences.specs.declared.reasons.FileKind.TheVariants.{Batch, Summary}
 use Rattle.command_streams.specs.Disks.{is_in_memory}
@@ -32,7 +32,7 @@ use Rattle.command_words.specs.declared.subcommands.Subcommand.TheVariants.{New,
 use Rattle.command_files.specs.Ending.{ending_beside, lacking}
 use Rattle.command_files.specs.Formats.{format_told, known_format_told}
 use Rattle.command_files.specs.Limits.{limit_of}
-use Rattle.command_files.specs.Reporting.{file_on_output, output_of, replies_on_output, reply_on_output}
+use Rattle.command_files.specs.Reporting.{file_on_output, output_of, replies_on_output, reply_on_output, IsFoot}
 use Rattle.command_files.specs.Texts.{AreTextsTold}
 use Rattle.command_files.specs.Taking.{CommandState, Manner, TakesAll, manner_of, state_of}
 use Rattle.command_files.specs.declared.reporter.Reporter.{Reporter}
@@ -66,7 +66,7 @@ pub record AnswersHeld (format : Format) (held : Held) (old new : Option (List �
   pub table : List ℕ
   pub foot : List ℕ
   pub answers : PrintsAnswer format held rows table
-  pub footless : format ≢ Aligned → foot ≡ []
+  pub stands : IsFoot format (waiting (known_list (told held.parts))) foot
   pub printed : Appends old new (table ++ foot)
 
 -- a command takes so many files into its replica, counts those that it passes over, and saves the replica

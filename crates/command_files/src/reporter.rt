@@ -1,6 +1,6 @@
 //! What a command replies and says while it runs.
 
-ghost use Rattle.std.specs.Prelude.{◌≡◌, ◌≢◌, ℕ, List, [], true, false, IfErr, OnOk};
+ghost use Rattle.std.specs.Prelude.{◌≡◌, ◌≢◌, ℕ, List, length, true, false, IfErr, OnOk};
 ghost use Rattle.std.specs.Io.KnownBytes.{Keeps};
 ghost use Rattle.script_io.specs.Fused.{has_failed};
 ghost use Rattle.replies.specs.Text.{said_text};
@@ -8,9 +8,8 @@ ghost use Rattle.replies.specs.declared.ending.ExitKind.TheVariants.{Fault};
 ghost use Rattle.replies.specs.declared.error.RunError.TheVariants.{WriteFault};
 ghost use Rattle.replies.specs.declared.refusal.Refusal.TheVariants.{Run};
 ghost use Rattle.replies.specs.declared.reply.Reply.TheVariants.{Refused};
-ghost use Rattle.replies.specs.declared.showing.Format.TheVariants.{Aligned};
 ghost use Rattle.command_streams.specs.Stopping.{ending_of, EndsRefused, RepliesRefused};
-ghost use Rattle.command_files.specs.Reporting.{output_of, reply_on_output, OnlySays, Prints, StopsBy};
+ghost use Rattle.command_files.specs.Reporting.{output_of, reply_on_output, IsFoot, OnlySays, Prints, StopsBy};
 
 use command_replicas::SummaryFile;
 use command_streams::{
@@ -209,7 +208,7 @@ impl<'c, W: Write, E: Write> Reporter<'c, W, E> {
 
     /// Puts a line at the foot of an aligned table. Another table has no foot.
     fn put_foot(&mut self, line: &str, format: Format) -> Result<(), Problem<'static>>
-        ensures put { OnOk result ((foot : List ℕ) × Prints W.contents self.old self.new foot × (format ≢ Aligned → foot ≡ [])) }
+        ensures put { OnOk result ((foot : List ℕ) × Prints W.contents self.old self.new foot × IsFoot format 1 foot) }
         ensures fault { IfErr result (λ problem. problem.why ≡ Run WriteFault) }
     {
         match format {
@@ -239,7 +238,7 @@ impl<'c, W: Write, E: Write> Reporter<'c, W, E> {
         lines: &[String],
         format: Format,
     ) -> Result<(), Problem<'static>>
-        ensures told { OnOk result ((foot : List ℕ) × Prints W.contents self.old self.new foot × (format ≢ Aligned → foot ≡ [])) }
+        ensures told { OnOk result ((foot : List ℕ) × Prints W.contents self.old self.new foot × IsFoot format (length lines.now) foot) }
         ensures fault { IfErr result (λ problem. problem.why ≡ Run WriteFault) }
     {
         let has_foot = matches!(format, Format::Aligned);

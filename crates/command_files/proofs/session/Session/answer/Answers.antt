@@ -3,7 +3,7 @@ use Rattle.std.proofs.Common.{◌∙◌, ap, subst}
 use Rattle.command_words.specs.Told.{is_flag_told}
 use Rattle.command_files.specs.Ending.{lacking_of}
 use Rattle.command_files.specs.Reporting.{Prints}
-use Rattle.command_files.proofs.ReportingLaws.{prints_more, table_before}
+use Rattle.command_files.proofs.ReportingLaws.{foot_of_few, prints_more, table_before}
 use Rattle.command_files.proofs.RunningLaws.{lacking_few}
 use Rattle.command_files.proofs.session.Session.answer.Goals as goal
 
@@ -19,7 +19,8 @@ returns-in_ok-tell_waiting-in-Ok-Ok g c =
             table = c.in-Ok-Ok.found.1.items;
             foot = foot.0;
             answers = c.in-Ok-Ok.ensures';
-            footless = foot.2;
+            stands = foot_of_few c.args.format _ _ foot.0
+                (ap length c.deref-in-Ok-Ok.ensures.value ∙ c.in-Ok-Ok.ensures.told) foot.2;
             printed = prints_more g.W.Write.contents c.args.self.now.reporter c.print.new.self c.tell_waiting.new.self
                 c.in-Ok-Ok.found.1.items foot.0 text foot.1;
           }) c.explain_answer.ensures.says;
