@@ -100,6 +100,7 @@ pub saves_behind : {W E : Type 0} (contents : W → Option (List ℕ)) (held : H
 saves_behind contents held old mid new says saves = record {
   file = saves.file;
   saved = saves.saved;
+  short = saves.short;
   printed = subst (λ p. Prints contents old new (file_on_output p saves.file ++ reply_on_output p (Saved (length saves.file)))) says.piped
       (prints_behind contents old mid new
       (file_on_output mid.is_piped saves.file ++ reply_on_output mid.is_piped (Saved (length saves.file))) says saves.printed);

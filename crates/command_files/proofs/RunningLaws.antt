@@ -7,7 +7,7 @@ use Rattle.std.proofs.lemmas.Bool.Decides.{nat_tests}
 use Rattle.std.proofs.KnownBytes.{Appends-kept, Appends-trans, Keeps-refl, Keeps-trans}
 use Rattle.grouping_model.specs.Replies.{known_list}
 use Rattle.clap.specs.declared.parser.matches.ArgMatches.{ArgMatches}
-use Rattle.hash_agg.specs.Means.{MeansState}
+use Rattle.hash_agg.specs.Means.{AreMeans, MeansState}
 use Rattle.hash_agg.specs.declared.work.Work.{Work}
 use Rattle.tape_disks.specs.Files.{SystemState}
 use Rattle.tape_disks.specs.declared.spill_disk.SpillDisk.{SpillDisk}
@@ -43,7 +43,7 @@ pub saves_held : {W E A X : Type 0} (contents : W → Option (List ℕ)) (held :
     (result : Result A X) → passed ≡ was → OnOk result (Saves contents held old new)
     → OnOk result (SavesHeld held old.is_piped (output_of contents old) (output_of contents new) × (passed ≡ was))
 saves_held contents held old new was passed (Ok value) same saves =
-    (record { file = saves.file; saved = saves.saved; printed = saves.printed.output }, same)
+    (record { file = saves.file; saved = saves.saved; short = saves.short; printed = saves.printed.output }, same)
 saves_held contents held old new was passed (Err error) same saves = tt
 
 -- what is known was printed
@@ -97,7 +97,7 @@ takes_and_saves contents manner count old held disk work passed passed_now taken
       mid = state_of held disk work (output_of contents taken);
       takes = takes;
       saves = subst (λ p. SavesHeld held p (output_of contents taken) (output_of contents new)) piped
-          (record { file = all.file; saved = all.saved; printed = all.printed.output });
+          (record { file = all.file; saved = all.saved; short = all.short; printed = all.printed.output });
     }
 
 -- so many files were taken, as another number says
@@ -148,7 +148,7 @@ runs_command contents subcommand matches means held disk first work begun listed
 saves_kept : (held : Held) (is_piped : Bool) (old output sent : Option (List ℕ)) → Keeps output sent → SavesHeld held is_piped old output
     → SavesHeld held is_piped old sent
 saves_kept held is_piped old output sent kept saves =
-    record { file = saves.file; saved = saves.saved; printed = Appends-kept _ _ _ _ saves.printed kept }
+    record { file = saves.file; saved = saves.saved; short = saves.short; printed = Appends-kept _ _ _ _ saves.printed kept }
 
 takes_kept : {F H : Type 0} (manner : Manner H) (count : ℕ) (old : CommandState F) (passed passed_now : ℕ) (output sent : Option (List ℕ))
     → Keeps output sent → TakesAndSaves manner count old passed passed_now output → TakesAndSaves manner count old passed passed_now sent
@@ -181,6 +181,7 @@ done_kept F subcommand matches passed old output sent kept done = record {
   means = done.means;
   from = done.from;
   limited = done.limited;
+  within = done.within;
   stands = done.stands;
   begun = done.begun;
   runs = (
@@ -357,22 +358,24 @@ stopped_by contents subcommand matches means from most old mid said new (Err pro
 -- and that was by its means, from where it stood
 pub stopped_as : {F W E : Type 0} (contents : W → Option (List ℕ)) (subcommand : Subcommand) (matches : ArgMatches)
     (means : MeansState Fnv1a) (disk : SpillDisk (SystemState F)) (work : Work) (listed : Option ℕ) (passed passed_now : ℕ)
-    (exit : ExitKind) (old new : Reporter W E) → limit_of (limit_told subcommand matches) ≡ Some means.limit
+    (exit : ExitKind) (old new : Reporter W E) → limit_of (limit_told subcommand matches) ≡ Some means.limit → AreMeans means.limit
     → StandsAsTold subcommand matches (standpoint_of contents disk work listed passed old)
     → (RunsCommand subcommand matches means (standpoint_of contents disk work listed passed old) passed_now (output_of contents new)
     × (exit ≡ ending_beside passed_now) ⊎ RefusedAfter contents (files_told subcommand matches) exit old new)
     → IsDoneOrStopped F subcommand matches exit (output_of contents old) (output_of contents new)
-stopped_as contents subcommand matches means disk work listed passed passed_now exit old new limited stands (inl (runs, ends)) = inl (
+stopped_as contents subcommand matches means disk work listed passed passed_now exit old new limited within stands
+    (inl (runs, ends)) = inl (
   passed_now,
   ends,
   record {
     means = means;
     from = standpoint_of contents disk work listed passed old;
     limited = limited;
+    within = within;
     stands = stands;
     begun = refl;
     runs = runs;
   },
 )
-stopped_as contents subcommand matches means disk work listed passed passed_now exit old new limited stands (inr refused) =
+stopped_as contents subcommand matches means disk work listed passed passed_now exit old new limited within stands (inr refused) =
     inr (inl (refused_as contents subcommand matches exit old new stands.piped refused))

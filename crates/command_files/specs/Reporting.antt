@@ -4,6 +4,7 @@ use Rattle.std.specs.Io.KnownBytes.{Appends}
 use Rattle.script_io.specs.Fused.{written}
 use Rattle.summary_codec.specs.Reading.{IsSaved}
 use Rattle.grouping_model.specs.Replies.{known_list}
+use Rattle.grouping_model.specs.declared.limits.TheConstants.{MAX_INPUT_LEN}
 use Rattle.holding_sentences.specs.Waiting.{waiting}
 use Rattle.replica_merge.specs.Replicas.{Held, told}
 use Rattle.replies.specs.Printed.{PrintsAnswer}
@@ -68,6 +69,7 @@ pub record RefusedAfter {W E : Type 0} (contents : W → Option (List ℕ)) (mos
 pub record Saves {W E : Type 0} (contents : W → Option (List ℕ)) (held : Held) (old new : Reporter W E) : Type 0 where
   pub file : List ℕ
   pub saved : IsSaved file held.query held.parts
+  pub short : length file ≤ MAX_INPUT_LEN
   pub printed : Prints contents old new (file_on_output old.is_piped file ++ reply_on_output old.is_piped (Saved (length file)))
 
 -- what stands at the foot of a table: something under an aligned one where there is something to tell, and else nothing

@@ -3,8 +3,9 @@ use Rattle.std.specs.Prelude.{◌≡◌, ◌⊎◌, ◌-◌, ◌≤◌, ℕ, Boo
 use Rattle.std.specs.Io.KnownBytes.{Appends, Keeps}
 use Rattle.clap.specs.declared.parser.matches.ArgMatches.{ArgMatches}
 use Rattle.grouping_model.specs.Replies.{known_list}
+use Rattle.grouping_model.specs.declared.limits.TheConstants.{MAX_INPUT_LEN}
 use Rattle.key_hashes.specs.declared.hash.Fnv1a.{Fnv1a}
-use Rattle.hash_agg.specs.Means.{MeansState}
+use Rattle.hash_agg.specs.Means.{AreMeans, MeansState}
 use Rattle.hash_agg.specs.declared.work.Work.{Work}
 use Rattle.tape_disks.specs.Files.{SystemState}
 use Rattle.tape_disks.specs.declared.spill_disk.SpillDisk.{SpillDisk}
@@ -54,10 +55,11 @@ BeginsWith subcommand matches held = (file : List ℕ) × IsLoaded file held
 abbrev pub saved_on_output : (is_piped : Bool) → (file : List ℕ) → List ℕ
 saved_on_output is_piped file = file_on_output is_piped file ++ reply_on_output is_piped (Saved (length file))
 
--- a replica was saved
+-- a replica was saved, in a file that is not too long
 pub record SavesHeld (held : Held) (is_piped : Bool) (old new : Option (List ℕ)) : Type 0 where
   pub file : List ℕ
   pub saved : IsSaved file held.query held.parts
+  pub short : length file ≤ MAX_INPUT_LEN
   pub printed : Appends old new (saved_on_output is_piped file)
 
 -- its answer was printed: its table, and at the foot of an aligned one what it does not count
@@ -143,12 +145,13 @@ pub record StandsAsTold {F : Type 0} (subcommand : Subcommand) (matches : ArgMat
   pub piped : from.is_piped ≡ is_out_stream subcommand matches
   pub fresh : from.passed ≡ 0
 
--- a command did its work as its command line tells, from where it stood, by the limit that is told or the usual one, and passed so many
--- files over; an answer that lacks batches which it should have counts as one
+-- a command did its work as its command line tells, from where it stood, by the limit that is told or the usual one, which is no less and
+-- no more than a limit may be, and passed so many files over; an answer that lacks batches which it should have counts as one
 pub record IsDone (F : Type 0) (subcommand : Subcommand) (matches : ArgMatches) (passed : ℕ) (old new : Option (List ℕ)) : Type 0 where
   pub means : MeansState Fnv1a
   pub from : Standpoint F
   pub limited : limit_of (limit_told subcommand matches) ≡ Some means.limit
+  pub within : AreMeans means.limit
   pub stands : StandsAsTold subcommand matches from
   pub begun : from.output ≡ old
   pub runs : RunsCommand subcommand matches means from passed new

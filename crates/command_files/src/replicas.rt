@@ -1,7 +1,8 @@
 //! The replica that a command begins with, what a file brings to it, and its summary file.
 
-ghost use Rattle.std.specs.Prelude.{◌≡◌, ◌≢◌, ◌⊎◌, ℕ, List, true, IfOk, IfErr, string_bytes};
+ghost use Rattle.std.specs.Prelude.{◌≡◌, ◌≢◌, ◌≤◌, ◌⊎◌, ℕ, List, length, true, IfOk, IfErr, string_bytes};
 ghost use Rattle.std.specs.Io.KnownBytes.{Consumes, IsAtEnd};
+ghost use Rattle.grouping_model.specs.declared.limits.TheConstants.{MAX_INPUT_LEN};
 ghost use Rattle.script_io.specs.Fused.{unread};
 ghost use Rattle.summary_codec.specs.Reading.{IsSaved};
 ghost use Rattle.replica_merge.specs.Results.{IsLoaded};
@@ -135,6 +136,7 @@ pub(crate) fn summary_of<'p>(
     path: &'p str,
 ) -> Result<SummaryFile, Problem<'p>>
     ensures summary { IfOk result (λ file. IsSaved file replica.now.query replica.now.parts) }
+    ensures short { IfOk result (λ file. length file ≤ MAX_INPUT_LEN) }
     ensures why { IfErr result (λ problem. IsTooLong replica.now problem.why) }
 {
     match command_replicas::save(replica) {

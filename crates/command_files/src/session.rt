@@ -4,6 +4,7 @@ ghost use Rattle.std.specs.Prelude.{◌≡◌, ◌≢◌, ◌⊎◌, ◌+◌, �
 ghost use Rattle.std.specs.Prelude.{is_none, IfOk, IfErr, OnOk};
 ghost use Rattle.grouping_model.specs.Replies.{known_list};
 ghost use Rattle.replica_merge.specs.Replicas.{told};
+ghost use Rattle.hash_agg.specs.Means.{AreMeans};
 ghost use Rattle.script_io.specs.Fused.{written};
 ghost use Rattle.replies.specs.KnownTables.{known_in};
 ghost use Rattle.replies.specs.declared.ending.ExitKind.TheVariants.{BadUsage, Done, Fault};
@@ -838,6 +839,7 @@ impl<'c, R: Files + AllocGlobal + RandomSource, I: Read, W: Write, E: Write> Ses
             (standpoint_of W.contents self.old.disk self.old.executor self.old.target.listed self.old.passed self.old.reporter)
             0 (output_of W.contents self.new.reporter) }
         ensures passed { result ≡ Done → self.new.passed ≡ 0 }
+        ensures within { AreMeans means.now.limit }
         ensures stopped { result ≢ Fault → RunsCommand subcommand matches.now means.now
             (standpoint_of W.contents self.old.disk self.old.executor self.old.target.listed self.old.passed self.old.reporter)
             self.new.passed (output_of W.contents self.new.reporter) × (result ≡ ending_beside self.new.passed)

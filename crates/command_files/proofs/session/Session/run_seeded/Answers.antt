@@ -9,7 +9,7 @@ returns-in-Ok-clause-stopped g c sound =
     let old = c.args.self.now in
     stopped_as g.W.Write.contents c.args.subcommand c.args.matches.now c.in-Ok.means old.disk old.executor old.target.listed old.passed
     c.run_by.new.self.passed c.run_by.result old.reporter c.run_by.new.self.reporter
-    (c.requires.limited ∙ ap (λ (n : ℕ). Some n) (sym c.in-Ok.ensures.limit)) c.requires.stands
+    (c.requires.limited ∙ ap (λ (n : ℕ). Some n) (sym c.in-Ok.ensures.limit)) c.run_by.ensures.within c.requires.stands
     (c.run_by.ensures.stopped sound)
 
 pub returns-in-Err-clause-stopped : goal.returns-in-Err-clause-stopped
