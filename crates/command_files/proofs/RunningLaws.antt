@@ -1,8 +1,8 @@
 -- Commands that do their work, and what was said or sent out beside that.
 use Rattle.std.specs.Prelude.{◌≡◌, ◌≢◌, refl, ◌⊎◌, ◌==◌, ◌&&◌, ℕ, min, Bool, not, if◌then◌else◌, List, ◌++◌, Option, Some, None}
-use Rattle.std.specs.Prelude.{IsSome, Result, Ok, Err, IfErr, OnOk}
+use Rattle.std.specs.Prelude.{true, false, IfSome, IsSome, Result, Ok, Err, IfErr, IfOk, IsOkAnd, OnOk}
 use Rattle.std.specs.Io.KnownBytes.{Appends, Keeps}
-use Rattle.std.proofs.Common.{◌∙◌, ap, arith, inl, inr, subst, sym}
+use Rattle.std.proofs.Common.{◌∙◌, ap, arith, inl, inr, subst, sym, true≢false}
 use Rattle.std.proofs.lemmas.Bool.Decides.{nat_tests}
 use Rattle.std.proofs.KnownBytes.{Appends-kept, Appends-trans, Keeps-refl, Keeps-trans}
 use Rattle.grouping_model.specs.Replies.{known_list}
@@ -23,17 +23,20 @@ use Rattle.replies.specs.declared.showing.Format.{Format}
 use Rattle.replies.specs.declared.showing.KnownFormat.{KnownFormat}
 use Rattle.command_words.specs.declared.subcommands.Subcommand.{Subcommand}
 use Rattle.command_words.specs.declared.subcommands.Subcommand.TheVariants.{New, Feed, Merge, Known, Answer}
-use Rattle.command_words.specs.Told.{is_out_stream, limit_told, out_told}
+use Rattle.command_words.specs.Told.{is_out_stream, limit_told}
+use Rattle.file_sentences.specs.Standing.{stops}
+use Rattle.file_sentences.specs.declared.out.Fate.TheVariants.{Shown}
 use Rattle.file_sentences.specs.declared.out.Standing.{Standing}
 use Rattle.command_streams.specs.Stopping.{ending_of}
 use Rattle.command_streams.specs.declared.problem.Problem.{Problem}
 use Rattle.key_hashes.specs.declared.hash.Fnv1a.{Fnv1a}
 use Rattle.command_files.specs.Ending.{ending_beside, lacking_of}
+use Rattle.command_files.specs.Fates.{is_stopped}
 use Rattle.command_files.specs.Limits.{limit_of, IsNoLimit}
 use Rattle.command_files.specs.Reporting.{output_of, replies_on_output, reply_on_output, OnlySays, Prints, PrintsTable, RefusedAfter}
 use Rattle.command_files.specs.Reporting.{RepliesFew, Saves, StopsBy}
-use Rattle.command_files.specs.Running.{files_told, standpoint_of, AnswersHeld, BeginsWith, IsDone, IsDoneOrStopped, IsRefused, Performs}
-use Rattle.command_files.specs.Running.{RunsCommand, SavesHeld, StandsAsTold, Standpoint, TakesAndSaves}
+use Rattle.command_files.specs.Running.{files_told, standpoint_of, AnswersHeld, BeginsWith, IsDone, IsDoneOrStopped, IsRefused, MayStay}
+use Rattle.command_files.specs.Running.{Performs, RunsCommand, SavesHeld, StandsAsTold, Standpoint, TakesAndSaves}
 use Rattle.command_files.specs.Taking.{CommandState, Manner, TakesAll, state_of}
 use Rattle.command_files.specs.declared.reporter.Reporter.{Reporter}
 use Rattle.command_files.proofs.ReportingLaws.{replies_before, replies_behind, replies_none, says_more, says_nothing, saves_behind}
@@ -263,7 +266,7 @@ refused_said F contents subcommand matches why exit old mid new says piped stops
 -- or its words were wrong
 pub misused_said : {W E : Type 0} (F : Type 0) (contents : W → Option (List ℕ)) (subcommand : Subcommand) (matches : ArgMatches)
     (exit : ExitKind) (old new : Reporter W E) → exit ≡ BadUsage
-    → (limit_of (limit_told subcommand matches) ≡ None) ⊎ IsSome (out_told subcommand matches) → OnlySays old new
+    → (limit_of (limit_told subcommand matches) ≡ None) ⊎ MayStay subcommand matches → OnlySays old new
     → IsDoneOrStopped F subcommand matches exit (output_of contents old) (output_of contents new)
 misused_said F contents subcommand matches exit old new misused cause says = inr (inr (
   misused,
@@ -276,6 +279,23 @@ pub found_out : {E : Type 0} (out : Option (List ℕ)) (looked : Result (Option 
     → (out ≡ None → looked ≡ Ok None) → looked ≡ Ok (Some standing) → IsSome out
 found_out (Some out) looked standing none found = refl
 found_out None looked standing none found = cc (none refl)
+
+-- what stops a command is to be kept, or not to be written by force
+pub found_stays : {E : Type 0} (keeps forced : Bool) (looked : Result (Option Standing) E) (standing : Standing)
+    → (keeps ≡ false → forced ≡ true → IfOk looked (λ found. IfSome found (λ there. stops there.fate ≡ false)))
+    → looked ≡ Ok (Some standing) → stops standing.fate ≡ true → (keeps ≡ true) ⊎ (forced ≡ false)
+found_stays true forced looked standing goes_on found is = inl refl
+found_stays false false looked standing goes_on found is = inr refl
+found_stays {E} false true looked standing goes_on found is =
+    let on : stops standing.fate ≡ false = subst (λ (r : Result (Option Standing) E). IfOk r (λ f. IfSome f (λ there. stops there.fate ≡
+    false))) found (goes_on refl refl) in absurd (true≢false (sym is ∙ on))
+
+-- a terminal that is found stops a command
+pub shown_stops : {E : Type 0} (looked : Result (Option Standing) E) → IsOkAnd looked (λ found. IsSome found)
+    → IfOk looked (λ found. IfSome found (λ there. there.fate ≡ Shown)) → is_stopped looked ≡ false → ⊥
+shown_stops (Ok (Some standing)) some shown goes_on = true≢false (sym (ap stops shown) ∙ goes_on)
+shown_stops (Ok None) some shown goes_on = true≢false (sym some)
+shown_stops (Err error) some shown goes_on = some
 
 -- a limit that is refused as no command line is no number of bytes
 no_number : (limit : Option ℕ) (why : Refusal) → IsNoLimit limit why → why ≡ BadCommand → limit ≡ None
@@ -365,17 +385,17 @@ pub stopped_as : {F W E : Type 0} (contents : W → Option (List ℕ)) (subcomma
     → IsDoneOrStopped F subcommand matches exit (output_of contents old) (output_of contents new)
 stopped_as contents subcommand matches means disk work listed passed passed_now exit old new limited within stands
     (inl (runs, ends)) = inl (
-  passed_now,
-  ends,
-  record {
-    means = means;
-    from = standpoint_of contents disk work listed passed old;
-    limited = limited;
-    within = within;
-    stands = stands;
-    begun = refl;
-    runs = runs;
-  },
-)
+      passed_now,
+      ends,
+      record {
+        means = means;
+        from = standpoint_of contents disk work listed passed old;
+        limited = limited;
+        within = within;
+        stands = stands;
+        begun = refl;
+        runs = runs;
+      },
+    )
 stopped_as contents subcommand matches means disk work listed passed passed_now exit old new limited within stands (inr refused) =
     inr (inl (refused_as contents subcommand matches exit old new stands.piped refused))

@@ -4,10 +4,11 @@ use Rattle.out_files.specs.declared.occupant.Occupant.{Occupant}
 use Rattle.out_files.specs.declared.occupant.Occupant.TheVariants.{Another, Listed}
 use Rattle.command_words.specs.Told.{is_flag_told}
 use Rattle.clap.specs.declared.parser.matches.ArgMatches.{ArgMatches}
-use Rattle.file_sentences.specs.Standing.{is_foreign}
+use Rattle.file_sentences.specs.Standing.{is_foreign, stops}
 use Rattle.file_sentences.specs.declared.out.Fate.{Fate}
 use Rattle.file_sentences.specs.declared.out.Fate.TheVariants.{Replaced, Spared, Forced}
 use Rattle.file_sentences.specs.declared.out.FrontKind.{FrontKind}
+use Rattle.file_sentences.specs.declared.out.Standing.{Standing}
 
 -- one that is no foreign file is replaced, which is told where it is none of those that are read
 abbrev pub fate_where_read : (listed : Option ℕ) → Option Fate
@@ -39,3 +40,12 @@ IsFile occupant keeps = ⊥
 -- a command line does not force its command
 abbrev pub IsUnforced : ArgMatches → Type 0
 IsUnforced matches = is_flag_told matches (codes "force") ≡ false
+
+-- whether what was found in the place of OUT stops a command
+abbrev pub is_stopped : {E : Type 0} → Result (Option Standing) E → Bool
+is_stopped (Ok (Some standing)) = stops standing.fate
+is_stopped looked = false
+
+-- it tells to keep a file in the place of OUT that the command does not read
+abbrev pub KeepsFiles : ArgMatches → Type 0
+KeepsFiles matches = is_flag_told matches (codes "no-clobber") ≡ true

@@ -31,6 +31,7 @@ use Rattle.command_words.specs.Told.{is_out_stream, limit_told, out_told, spill_
 use Rattle.command_words.specs.declared.subcommands.Subcommand.{Subcommand}
 use Rattle.command_words.specs.declared.subcommands.Subcommand.TheVariants.{New, Feed, Merge, Known, Answer}
 use Rattle.command_files.specs.Ending.{ending_beside, lacking}
+use Rattle.command_files.specs.Fates.{IsUnforced, KeepsFiles}
 use Rattle.command_files.specs.Formats.{format_told, known_format_told}
 use Rattle.command_files.specs.Limits.{limit_of}
 use Rattle.command_files.specs.Reporting.{file_on_output, output_of, replies_on_output, reply_on_output, IsFoot}
@@ -165,11 +166,14 @@ pub record IsRefused (subcommand : Subcommand) (matches : ArgMatches) (exit : Ex
   pub printed : Appends old new
       (replies_on_output (is_out_stream subcommand matches) replies ++ reply_on_output (is_out_stream subcommand matches) (Refused why))
 
--- the limit that it tells is no number of bytes, or its OUT stays: a file that it is told to keep, or a foreign one or a terminal that it
--- is not forced to write. Standard output got nothing
+-- a command may have an OUT that stays: it is told to keep a file there, or not forced to write a foreign one or a terminal
+abbrev pub MayStay : Subcommand → ArgMatches → Type 0
+MayStay subcommand matches = IsSome (out_told subcommand matches) × (KeepsFiles matches ⊎ IsUnforced matches)
+
+-- the limit that it tells is no number of bytes, or its OUT stays. Standard output got nothing
 abbrev pub IsMisused : Subcommand → ArgMatches → (exit : ExitKind) → (old new : Option (List ℕ)) → Type 0
 IsMisused subcommand matches exit old new =
-    (exit ≡ BadUsage) × Keeps old new × ((limit_of (limit_told subcommand matches) ≡ None) ⊎ IsSome (out_told subcommand matches))
+    (exit ≡ BadUsage) × Keeps old new × ((limit_of (limit_told subcommand matches) ≡ None) ⊎ MayStay subcommand matches)
 
 -- a command did its work, but for files that it passed over, or it stopped
 abbrev pub IsDoneOrStopped : (F : Type 0) → Subcommand → ArgMatches → (exit : ExitKind) → (old new : Option (List ℕ)) → Type 0
@@ -180,6 +184,10 @@ IsDoneOrStopped F subcommand matches exit old new =
 -- what standard output holds in a session, if that is known
 abbrev pub session_output : {R I W E A B : Type 0} → (W → Option (List ℕ)) → Session R I W E A B → Option (List ℕ)
 session_output contents session = output_of contents session.reporter
+
+-- whether it is a terminal
+abbrev pub session_shown : {R I W E A B : Type 0} → Session R I W E A B → Bool
+session_shown session = session.reporter.streams.terminals.output
 
 -- whether a call of standard output failed in it
 abbrev pub session_failed : {R I W E A B : Type 0} → Session R I W E A B → Bool

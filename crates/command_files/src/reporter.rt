@@ -79,7 +79,9 @@ impl<'c, W: Write, E: Write> Reporter<'c, W, E> {
     }
 
     /// Which streams are terminals.
-    pub(crate) fn terminals(&self) -> Terminals {
+    pub(crate) fn terminals(&self) -> Terminals
+        ensures { result ≡ self.now.streams.terminals }
+    {
         self.streams.terminals
     }
 

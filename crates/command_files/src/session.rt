@@ -1,7 +1,7 @@
 //! The commands on files.
 
 ghost use Rattle.std.specs.Prelude.{◌≡◌, ◌≢◌, ◌⊎◌, ◌+◌, ◌-◌, ◌^◌, ◌<◌, ◌≤◌, ℕ, true, false, List, Option, Some, codes, length};
-ghost use Rattle.std.specs.Prelude.{is_none, IfOk, IfErr, OnOk};
+ghost use Rattle.std.specs.Prelude.{is_none, Ok, IfNone, IfSome, IfOk, IfErr, OnOk};
 ghost use Rattle.grouping_model.specs.Replies.{known_list};
 ghost use Rattle.replica_merge.specs.Replicas.{told};
 ghost use Rattle.hash_agg.specs.Means.{AreMeans};
@@ -14,12 +14,14 @@ ghost use Rattle.command_streams.specs.Disks.{is_in_memory};
 ghost use Rattle.command_streams.specs.Stopping.{ending_of, EndsRefused};
 ghost use Rattle.command_words.specs.Told.{is_flag_told, is_out_stream, limit_told, spill_told, values_told};
 ghost use Rattle.command_files.specs.Ending.{ending_beside, lacking, lacking_of};
+ghost use Rattle.file_sentences.specs.Standing.{stops};
+ghost use Rattle.command_files.specs.Fates.{is_stopped, IsUnforced};
 ghost use Rattle.command_files.specs.Formats.{format_told, known_format_told};
 ghost use Rattle.command_files.specs.Limits.{limit_of};
 ghost use Rattle.command_files.specs.Reporting.{output_of, file_on_output, reply_on_output, OnlySays, Prints, PrintsTable, RefusedAfter};
 ghost use Rattle.command_files.specs.Reporting.{RepliesFew, Saves, StopsBy};
-ghost use Rattle.command_files.specs.Running.{files_told, format_name, session_failed, session_output, standpoint_of, BeginsWith, IsDone};
-ghost use Rattle.command_files.specs.Running.{IsDoneOrStopped, Performs, RunsCommand, StandsAsTold, TakesAndSaves};
+ghost use Rattle.command_files.specs.Running.{files_told, format_name, session_failed, session_output, session_shown, standpoint_of};
+ghost use Rattle.command_files.specs.Running.{BeginsWith, IsDone, IsDoneOrStopped, Performs, RunsCommand, StandsAsTold, TakesAndSaves};
 ghost use Rattle.command_files.specs.Taking.{manner_of, state_of, taken, RanFile, StopsAt, TakesFile, TakesAll};
 
 use crate::limit::{means_of, said_of_limit};
@@ -118,6 +120,23 @@ fn lacking(matches: &ArgMatches<'_>, lines: &[String]) -> usize
     }
 }
 
+/// What was found in the place of OUT, if it stops a command.
+fn stopping<'p>(looked: &Result<Option<Standing<'p>>, Problem<'p>>) -> Option<Standing<'p>>
+    ensures stays { IfSome result (λ standing. (looked.now ≡ Ok (Some standing)) × (stops standing.fate ≡ true)) }
+    ensures goes_on { IfNone result (is_stopped looked.now ≡ false) }
+{
+    match looked {
+        Ok(Some(standing)) => {
+            if standing.fate.stops() {
+                Some(*standing)
+            } else {
+                None
+            }
+        }
+        Ok(None) | Err(_) => None,
+    }
+}
+
 /// That there was no memory for what the summary IN has.
 fn no_memory_for<'p>(matches: &ArgMatches<'p>) -> Problem<'p> {
     Problem::refused(input_name(value(matches, IN)), Refusal::NoMemory)
@@ -147,7 +166,8 @@ impl<'c, R: Files + AllocGlobal + RandomSource, I: Read, W: Write, E: Write> Ses
 > {
     /// A command that has done nothing yet. It spills to memory.
     pub fn new(inputs: Inputs<'c, R, I>, streams: Streams<'c, W, E>) -> Session<'c, R, I, W, E>
-        ensures { session_output W.contents result ≡ written W.contents streams.entry.writer.now }
+        ensures output { session_output W.contents result ≡ written W.contents streams.entry.writer.now }
+        ensures shown { session_shown result ≡ streams.entry.terminals.output }
     {
         let alloc = inputs.rt.alloc();
         Session {
@@ -643,20 +663,21 @@ impl<'c, R: Files + AllocGlobal + RandomSource, I: Read, W: Write, E: Write> Ses
         ensures done { result ≡ Done → IsDone R.File subcommand matches.now 0 (session_output W.contents self.old)
             (session_output W.contents self.new) }
         ensures sent { result ≡ Done → session_failed self.new ≡ false }
+        // No summary is written to a terminal, unless by force.
+        ensures shown { is_out_stream subcommand matches.now ≡ true → session_shown self.old ≡ true → IsUnforced matches.now
+            → result ≡ BadUsage }
         ensures stopped { result ≢ Fault → IsDoneOrStopped R.File subcommand matches.now result
             (session_output W.contents self.old) (session_output W.contents self.new) }
     {
         let rt = self.inputs.rt;
         self.passed = 0;
+        let is_terminal = self.reporter.terminals().output;
         let is_piped = is_out_stream(subcommand, matches);
         self.reporter.set_piped(is_piped);
-        let is_terminal = self.reporter.terminals().output;
         let looked = self.target.look(rt, subcommand, matches, is_terminal);
-        if let Ok(Some(standing)) = &looked {
-            if standing.fate.stops() {
-                self.reporter.say(standing);
-                return ExitKind::BadUsage;
-            }
+        if let Some(standing) = stopping(&looked) {
+            self.reporter.say(&standing);
+            return ExitKind::BadUsage;
         }
         let exit = self.run_looked(subcommand, matches, looked);
         let output = self.output_status(subcommand, matches);

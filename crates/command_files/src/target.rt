@@ -1,13 +1,14 @@
 //! OUT, beside the files that a command reads.
 
-ghost use Rattle.std.specs.Prelude.{◌≡◌, ◌≢◌, ◌↔◌, ◌⊎◌, ℕ, None, Some, true, false, Result, Ok, IfOk, IfSome, IsTrue};
-ghost use Rattle.file_sentences.specs.Standing.{is_foreign};
-ghost use Rattle.file_sentences.specs.declared.out.Fate.TheVariants.{Forced, Kept, Shown, Spared};
+ghost use Rattle.std.specs.Prelude.{◌≡◌, ◌≢◌, ◌↔◌, ◌⊎◌, ℕ, None, Some, true, false, codes, Result, Ok};
+ghost use Rattle.std.specs.Prelude.{IfOk, IfSome, IsOkAnd, IsSome, IsTrue};
+ghost use Rattle.file_sentences.specs.Standing.{is_foreign, stops};
+ghost use Rattle.file_sentences.specs.declared.out.Fate.TheVariants.{Forced, Kept, Replaced, Shown, Spared};
 ghost use Rattle.out_files.specs.declared.occupant.Occupant.TheVariants.{Another, Listed, Nothing, Special};
 ghost use Rattle.file_sentences.specs.declared.out.FrontKind.{FrontKind};
 ghost use Rattle.command_streams.specs.declared.problem.Problem.{Problem};
-ghost use Rattle.command_words.specs.Told.{is_out_stream, out_told};
-ghost use Rattle.command_files.specs.Fates.{fate_by, fate_by_force, fate_where_read, IsFateBy, IsFile, IsUnforced};
+ghost use Rattle.command_words.specs.Told.{is_flag_told, is_out_stream, out_told};
+ghost use Rattle.command_files.specs.Fates.{fate_by, fate_by_force, fate_where_read, IsFateBy, IsFile, IsUnforced, KeepsFiles};
 
 use crate::files::{front_kind, occupant_of_out, try_files, write_out};
 use clap::ArgMatches;
@@ -31,7 +32,9 @@ pub(crate) struct Target {
 
 /// What becomes of a file in the place of OUT that is no foreign one: it is told of where it is none of those that are read.
 fn fate_where_read(listed: Option<usize>) -> Option<Fate>
-    ensures { result ≡ fate_where_read listed }
+    ensures fate { result ≡ fate_where_read listed }
+    ensures read { (place : ℕ) → listed ≡ Some place → result ≢ Some Replaced }
+    ensures goes_on { IfSome result (λ fate. stops fate ≡ false) }
 {
     match listed {
         Some(_) => None,
@@ -42,7 +45,9 @@ fn fate_where_read(listed: Option<usize>) -> Option<Fate>
 /// What becomes of a foreign file in the place of OUT by force. The first of the files that are read is to be a summary: where it is
 /// none, nothing is written.
 fn fate_by_force(listed: Option<usize>) -> Option<Fate>
-    ensures { result ≡ fate_by_force listed }
+    ensures fate { result ≡ fate_by_force listed }
+    ensures forced { result ≢ Some Replaced }
+    ensures goes_on { IfSome result (λ fate. stops fate ≡ false) }
 {
     match listed {
         Some(place) => { if place == 0 { None } else { Some(Fate::Forced) } }
@@ -58,6 +63,8 @@ fn fate_by(kind: FrontKind, is_forced: bool, listed: Option<usize>) -> Option<Fa
     ensures first { is_forced ≡ true → listed ≡ Some 0 → result ≡ None }
     ensures replaced { is_foreign kind ≡ false → result ≡ fate_where_read listed }
     ensures unforced { is_forced ≡ false → result ≢ Some Forced }
+    ensures read { (place : ℕ) → listed ≡ Some place → result ≢ Some Replaced }
+    ensures goes_on { is_forced ≡ true → IfSome result (λ fate. stops fate ≡ false) }
     ensures fate { result ≡ fate_by kind is_forced listed }
 {
     if !kind.is_foreign() {
@@ -107,6 +114,8 @@ impl Target {
     ) -> Result<Option<Fate>, Problem<'p>>
         ensures fate { IsFateBy front.entry is_forced self.now.listed result }
         ensures unforced { is_forced ≡ false → IfOk result (λ fate. fate ≢ Some Forced) }
+        ensures read { (place : ℕ) → self.now.listed ≡ Some place → IfOk result (λ fate. fate ≢ Some Replaced) }
+        ensures goes_on { is_forced ≡ true → IfOk result (λ found. IfSome found (λ fate. stops fate ≡ false)) }
     {
         match front {
             Ok(kind) => Ok(fate_by(kind, is_forced, self.listed)),
@@ -127,6 +136,8 @@ impl Target {
     ) -> Result<Option<Fate>, Problem<'p>>
         ensures kept { occupant ≡ Another → IsTrue keeps → IfOk result (λ fate. fate ≡ Some Kept) }
         ensures unforced { is_forced ≡ false → IfOk result (λ fate. fate ≢ Some Forced) }
+        ensures unreplaced { IsTrue keeps → IfOk result (λ fate. fate ≢ Some Replaced) }
+        ensures goes_on { keeps ≡ false → is_forced ≡ true → IfOk result (λ found. IfSome found (λ fate. stops fate ≡ false)) }
         ensures listed { (place : ℕ) → occupant ≡ Listed place → self.new ≡ record self.old { listed = Some place } }
         ensures new { occupant ≡ Nothing → self.new ≡ record self.old { is_new = keeps } }
         ensures untold { (occupant ≡ Nothing) ⊎ (occupant ≡ Special) → result ≡ Ok None }
@@ -157,6 +168,9 @@ impl Target {
         out: &'p str,
     ) -> Result<Option<Standing<'p>>, Problem<'p>>
         ensures unforced { IsUnforced matches.now → IfOk result (λ found. IfSome found (λ standing. standing.fate ≢ Forced)) }
+        ensures kept { KeepsFiles matches.now → IfOk result (λ found. IfSome found (λ standing. standing.fate ≢ Replaced)) }
+        ensures goes_on { is_flag_told matches.now (codes "no-clobber") ≡ false → is_flag_told matches.now (codes "force") ≡ true
+            → IfOk result (λ found. IfSome found (λ standing. stops standing.fate ≡ false)) }
         ensures bytes { self.new.bytes ≡ self.old.bytes }
     {
         let keeps = is_flag_told(matches, NO_CLOBBER);
@@ -186,7 +200,12 @@ impl Target {
         ensures stream { is_out_stream subcommand matches.now ≡ true → is_terminal ≡ false → result ≡ Ok None }
         ensures shown { is_out_stream subcommand matches.now ≡ true
             → IfOk result (λ found. IfSome found (λ standing. standing.fate ≡ Shown)) }
+        ensures terminal { is_out_stream subcommand matches.now ≡ true → is_terminal ≡ true → IsUnforced matches.now
+            → IsOkAnd result (λ found. IsSome found) }
         ensures unforced { IsUnforced matches.now → IfOk result (λ found. IfSome found (λ standing. standing.fate ≢ Forced)) }
+        ensures kept { KeepsFiles matches.now → IfOk result (λ found. IfSome found (λ standing. standing.fate ≢ Replaced)) }
+        ensures goes_on { is_flag_told matches.now (codes "no-clobber") ≡ false → is_flag_told matches.now (codes "force") ≡ true
+            → IfOk result (λ found. IfSome found (λ standing. stops standing.fate ≡ false)) }
     {
         let Some(out) = subcommand.out(matches) else {
             return Ok(None);
@@ -194,7 +213,10 @@ impl Target {
         if !is_stream(out) {
             return self.look_at(rt, subcommand, matches, out);
         }
-        if !is_terminal || is_flag_told(matches, FORCE) {
+        if !is_terminal {
+            return Ok(None);
+        }
+        if is_flag_told(matches, FORCE) {
             return Ok(None);
         }
         Ok(Some(Standing {

@@ -1,9 +1,12 @@
-use Rattle.std.specs.Prelude.{◌≡◌, ◌≢◌, refl, true, false, Bool}
-use Rattle.std.proofs.Common.{◌∙◌, sym}
+use Rattle.std.specs.Prelude.{◌≡◌, ◌≢◌, refl, true, false, Bool, codes}
+use Rattle.std.proofs.Common.{◌∙◌, ap, inr, sym}
 use Rattle.script_io.specs.Fused.{has_failed}
 use Rattle.replies.specs.declared.ending.ExitKind.{ExitKind}
-use Rattle.replies.specs.declared.ending.ExitKind.TheVariants.{Done, Fault}
-use Rattle.command_files.proofs.RunningLaws.{done_behind, done_kept, stopped_behind, stopped_kept}
+use Rattle.replies.specs.declared.ending.ExitKind.TheVariants.{BadUsage, Done, Fault}
+use Rattle.command_words.specs.Told.{is_flag_told, out_told}
+use Rattle.command_streams.specs.declared.streams.Terminals.{Terminals}
+use Rattle.command_files.proofs.RunningLaws.{done_behind, done_kept, found_out, found_stays, misused_said, shown_stops, stopped_behind}
+use Rattle.command_files.proofs.RunningLaws.{stopped_kept}
 use Rattle.command_files.proofs.session.Session.run.Goals as goal
 
 -- a command is done only if it was before all was sent out
@@ -36,3 +39,23 @@ returns-clause-stopped g c sound =
     let begun = stopped_behind _ g.W.Write.contents c.args.subcommand c.args.matches.now exit c.args.self.now.reporter
     c.set_piped.new.self _ c.set_piped.ensures.output (c.run_looked-exit.ensures.stopped (λ fault. sound (same ∙ fault))) in
     stopped_kept _ c.args.subcommand c.args.matches.now exit c.finish.result _ _ _ told.keeps same begun
+
+pub returns-in-Some-clause-stopped : goal.returns-in-Some-clause-stopped
+returns-in-Some-clause-stopped g c sound =
+    let found = c.in-Some.ensures.stays in
+    let looked = c.look-looked in
+    let matches = c.args.matches.now in
+    stopped_behind _ g.W.Write.contents c.args.subcommand matches BadUsage c.args.self.now.reporter c.set_piped.new.self _
+    c.set_piped.ensures.output
+    (misused_said _ g.W.Write.contents c.args.subcommand matches BadUsage c.set_piped.new.self c.say.new.self refl (inr (
+      found_out (out_told c.args.subcommand matches) looked.result c.in-Some.standing looked.ensures.none found.0,
+      found_stays (is_flag_told matches (codes "no-clobber")) (is_flag_told matches (codes "force")) looked.result c.in-Some.standing
+          looked.ensures.goes_on found.0 found.1,
+    )) c.say.ensures.says)
+
+pub returns-clause-shown : goal.returns-clause-shown
+returns-clause-shown g c piped shown unforced =
+    let looked = c.look-looked in
+    let terminal = ap (λ (t : Terminals). t.output) c.terminals-is_terminal.ensures ∙ shown in
+    absurd (shown_stops looked.result (looked.ensures.terminal piped terminal unforced) (looked.ensures.shown piped)
+    c.in_default.ensures.goes_on)

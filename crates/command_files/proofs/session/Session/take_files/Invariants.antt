@@ -1,4 +1,4 @@
-use Rattle.std.specs.Prelude.{◌≡◌, ◌≤◌, length, true}
+use Rattle.std.specs.Prelude.{◌≡◌, ◌≤◌, length}
 use Rattle.command_streams.specs.Disks.{is_in_memory}
 use Rattle.command_files.specs.Reporting.{output_of}
 use Rattle.command_files.specs.Taking.{TakesAll, manner_of, state_of}
