@@ -257,10 +257,11 @@ fn run_gathered<R: Files + AllocGlobal + RandomSource, I: Read, W: Write, E: Wri
 
 /// Runs the command that words ask for, of which the first is the program's name.
 ///
-/// Replies and tables go to the writer, gathered in pieces of some 8 KiB unless it is a terminal. Sentences for people go to `errors`, each
-/// in one write. `script` reads from the reader, and so does any other command that reads a file `-`. The result is the status of the
-/// process: 0 where all was done; 1 where something was refused; 2 where the words are no command line; 3 where a file or a stream could
-/// not be read or written.
+/// Replies and tables go to the writer, gathered in pieces of some 8 KiB unless it is a terminal. Where OUT is `-`, the summary goes there,
+/// and the replies go to `errors`. Sentences for people go to `errors`, each in one write if there is memory for that. `script` reads from
+/// the reader, and so do `pack` without a CSV and any other command that reads a file `-`. The result is the status of the process: 0
+/// where all was done; 1 where something was refused; 2 where the words are no command line, or OUT stays, as a file that is to be kept or
+/// is no summary, or a terminal; 3 where a file or a stream could not be read or written.
 ///
 /// It takes streams of any kinds, and has no type parameter: so the program is put together, and proved, in this crate alone.
 pub fn command(

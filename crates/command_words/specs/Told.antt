@@ -21,7 +21,7 @@ value_told matches id = unwrap_or (first_value (found_of matches) id) []
 abbrev pub values_told : ArgMatches → List ℕ → List (List ℕ)
 values_told matches id = option_map_or raw_values (matched_of (found_of matches) id) []
 
--- the files that a command reads, in their order
+-- the summaries and batch files that a command reads, in their order. The files that have the texts of `new` are not among them
 abbrev pub files_read : Subcommand → ArgMatches → List (List ℕ)
 files_read New matches = []
 files_read Feed matches = value_told matches (codes "IN") ∷ values_told matches (codes "BATCH")

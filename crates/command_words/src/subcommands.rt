@@ -81,7 +81,8 @@ impl Subcommand {
         matches.get_str(SPILL)
     }
 
-    /// The files that it reads, in their order on the command line.
+    /// The summaries and batch files that it reads, in their order on the command line. The files that have the texts of `new` are not
+    /// among them.
     pub fn files_read<'p>(
         self,
         alloc: Global,

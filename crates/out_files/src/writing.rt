@@ -235,7 +235,7 @@ pub fn write_file<R: Files + AllocGlobal>(
     }
 }
 
-/// Creates the target of a link. One that exists by then stays.
+/// Creates the target of a link. One that exists before stays; one that appears meanwhile is overwritten.
 fn make_through<R: Files + AllocGlobal>(rt: &R, link: &str, bytes: &[u8]) -> io::Result<()> {
     match fs::canonicalize(rt, link) {
         Ok(_) => Err(io::Error::from(ErrorKind::AlreadyExists)),
@@ -245,7 +245,7 @@ fn make_through<R: Files + AllocGlobal>(rt: &R, link: &str, bytes: &[u8]) -> io:
 }
 
 /// Creates a file where none was. One that exists by then stays, and the error is `AlreadyExists`. The target of a dangling link is
-/// created.
+/// created too; a file that appears there meanwhile is overwritten.
 pub fn write_new_file<R: Files + AllocGlobal>(
     rt: &R,
     path: &str,
@@ -271,7 +271,7 @@ fn append_page<R: Files>(rt: &R, path: &str) -> io::Result<()> {
     written
 }
 
-/// Why a page can't be appended to a file, if it can't. The file has what it had.
+/// Why a page can't be appended to a file, if it can't. The file has what it had, unless the system refuses to cut it to its length.
 pub fn append_fault<R: Files>(rt: &R, path: &str) -> Option<io::Error> {
     append_page(rt, path).err()
 }
