@@ -12,15 +12,16 @@ use Rattle.replies.specs.declared.ending.ExitKind.TheVariants.{BadUsage, Fault}
 use Rattle.replies.specs.declared.refusal.Refusal.{Refusal}
 use Rattle.replies.specs.declared.reply.Reply.TheVariants.{Refused}
 use Rattle.command_streams.specs.Stopping.{ending_of, RepliesRefused}
-use Rattle.command_packs.specs.Options.{IsHeadOf, IsLayoutOf}
+use Rattle.command_packs.specs.Options.{AreUnread, IsHeadOf, IsLayoutOf}
 use Rattle.command_packs.specs.Packing.{IsNotPacked, StopsPacking}
 use Rattle.command_packs.specs.declared.options.Words.{Words}
 
--- its words are no command line, and nothing was written
+-- its words tell no batch or no delimiter, and nothing was written
 pub unread_words : {W : Type 0} (contents : W → Option (List ℕ)) (words : Words) (exit : ExitKind) (old new : Fused W) → exit ≡ BadUsage
-    → new ≡ old → StopsPacking words exit (written contents old) (written contents new)
-unread_words contents words exit old new misused same = inl (
+    → AreUnread words → new ≡ old → StopsPacking words exit (written contents old) (written contents new)
+unread_words contents words exit old new misused unread same = inl (
   misused,
+  unread,
   subst (λ w. Keeps (written contents old) (written contents w)) (sym same) (Keeps-refl (written contents old)),
 )
 

@@ -1,5 +1,5 @@
 -- The options of `pack`. All of this is our own.
-use Rattle.std.specs.Prelude.{◌≡◌, ◌==◌, ◌&&◌, ◌||◌, not, Bool, ℕ, List, [], ◌∷◌, Option, Some, None, unwrap_or, codes, if◌then◌else◌}
+use Rattle.std.specs.Prelude.{◌≡◌, ◌⊎◌, ◌==◌, ◌&&◌, ◌||◌, not, Bool, ℕ, List, [], ◌∷◌, Option, Some, None, unwrap_or, codes, if◌then◌else◌}
 use Rattle.std.specs.Char.{is_ascii_punctuation}
 use Rattle.std.specs.Str.{bytes_eq}
 use Rattle.clap.specs.Matches.{found_of, first_value}
@@ -32,6 +32,11 @@ pub record IsLayoutOf (words : Words) (layout : Layout) : Type 0 where
 pub record IsHeadOf (words : Words) (origin number : ℕ) : Type 0 where
   pub origin_is : ReadsOrigin words.origin.now origin
   pub number_is : ReadsBatchNumber words.number.now number
+
+-- the words tell no batch, or no delimiter
+abbrev pub AreUnread : Words → Type 0
+AreUnread words =
+    ((o n : ℕ) → ReadsOrigin words.origin.now o → ReadsBatchNumber words.number.now n → ⊥) ⊎ (delimiter_told words.delimiter.now ≡ None)
 
 -- these are the words of a command line. The plain CSV is standard input where none is told
 pub record AreWords (matches : ArgMatches) (words : Words) : Type 0 where

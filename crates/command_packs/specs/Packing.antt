@@ -21,7 +21,7 @@ use Rattle.command_replicas.specs.Commands.{IsNoSummary}
 use Rattle.command_streams.specs.Inputs.{IsUnread}
 use Rattle.command_streams.specs.Stopping.{ending_of}
 use Rattle.clap.specs.declared.parser.matches.ArgMatches.{ArgMatches}
-use Rattle.command_packs.specs.Options.{AreWords, IsHeadOf, IsLayoutOf}
+use Rattle.command_packs.specs.Options.{AreUnread, AreWords, IsHeadOf, IsLayoutOf}
 use Rattle.command_packs.specs.declared.options.Words.{Words}
 
 -- the refusal of a plain CSV: a header that does not fit the columns is no schema of theirs, and rows are refused as those of a batch are
@@ -76,13 +76,14 @@ pub record RefusesPlain (layout : Layout) (origin number : ℕ) (why : Refusal) 
   pub fault : PackFault columns layout origin number csv error
   pub named : why ≡ pack_refusal error
 
--- a CSV of no byte is refused where it is not allowed
-abbrev pub RefusesEmpty : (allows : Bool) → Refusal → Type 0
-RefusesEmpty allows why = (allows ≡ false) × (why ≡ Batch batch.RowCount)
+-- a CSV of no byte is refused where it is not allowed, unless a header is wanted, which it lacks
+abbrev pub RefusesEmpty : Layout → (allows : Bool) → Refusal → Type 0
+RefusesEmpty layout allows why = (allows ≡ false) × (layout.has_header ≡ false) × (why ≡ Batch batch.RowCount)
 
 -- why there is no batch file
 abbrev pub IsNotPacked : Layout → (allows : Bool) → (origin number : ℕ) → Refusal → Type 0
-IsNotPacked layout allows origin number why = IsWithoutColumns why ⊎ (RefusesEmpty allows why ⊎ RefusesPlain layout origin number why)
+IsNotPacked layout allows origin number why =
+    IsWithoutColumns why ⊎ (RefusesEmpty layout allows why ⊎ RefusesPlain layout origin number why)
 
 -- a plain CSV is refused as words tell it, and the reply says so
 pub record RefusesWords (words : Words) (exit : ExitKind) (old new : Option (List ℕ)) : Type 0 where
@@ -96,9 +97,9 @@ pub record RefusesWords (words : Words) (exit : ExitKind) (old new : Option (Lis
   pub ended : exit ≡ ending_of why
   pub replied : Appends old new (said_text (Refused why))
 
--- how a command ends that makes no batch file: its words are no command line, and nothing is written, or a plain CSV is refused
+-- how a command ends that makes no batch file: its words tell no batch or no delimiter, and nothing is written, or a plain CSV is refused
 abbrev pub StopsPacking : Words → ExitKind → (old new : Option (List ℕ)) → Type 0
-StopsPacking words exit old new = ((exit ≡ BadUsage) × Keeps old new) ⊎ RefusesWords words exit old new
+StopsPacking words exit old new = ((exit ≡ BadUsage) × AreUnread words × Keeps old new) ⊎ RefusesWords words exit old new
 
 -- the same by the words of a command line
 pub record StopsAsTold (matches : ArgMatches) (exit : ExitKind) (old new : Option (List ℕ)) : Type 0 where
