@@ -1,6 +1,6 @@
 -- All tapes.
-use Rattle.std.specs.Prelude.{◌≡◌, ◌≢◌, ℕ, ◌+◌, ◌*◌, ◌/◌, ◌<◌, ◌≤◌, suc, zero, Bool, true, false, not, Option, List, [], ◌∷◌, length, get_or}
-use Rattle.std.specs.Prelude.{◌++◌, IsTrue, Result, Ok, Err}
+use Rattle.std.specs.Prelude.{◌≡◌, ◌≢◌, ℕ, ◌+◌, ◌*◌, ◌/◌, ◌<◌, ◌≤◌, suc, zero, Bool, true, false, not, Option, List, [], ◌∷◌, length}
+use Rattle.std.specs.Prelude.{◌++◌, get_or, IsTrue, Result, Ok, Err}
 use Rattle.std.specs.List.{sum_by}
 use Rattle.std.proofs.Math.ListN.{set}
 use Rattle.std.proofs.Common.{refl, sym, ◌∙◌, ap, subst, arith, inl, inr}
@@ -12,8 +12,8 @@ use Rattle.spill_tapes.specs.Records.{Record, tape_bytes}
 use Rattle.spill_tapes.specs.Pages.{times, pages_for, IsApart, GivesBack, AreOn, KeepsPages}
 use Rattle.spill_tapes.specs.Tape.{TapeState, no_tape, tape_len, is_in, IsGood, IsGoodIn, IsGoodRead, AreWritten, AreAhead, HasIn, Has}
 use Rattle.spill_tapes.specs.Tape.{Gives, IsCounted, IsGiven}
-use Rattle.spill_tapes.specs.Tapes.{TapesState, tape_at, phase_of, is_open, is_written, is_read, IsTape, KeepsOthers, AreTapes, DiesIfRefused}
-use Rattle.spill_tapes.specs.Tapes.{IsReadRefusal, Appends, Rewinds, ReadsNext, FreesPages, HasNoPageMore}
+use Rattle.spill_tapes.specs.Tapes.{TapesState, tape_at, phase_of, is_open, is_written, is_read, IsTape, KeepsOthers, AreTapes}
+use Rattle.spill_tapes.specs.Tapes.{DiesIfRefused, IsReadRefusal, Appends, Rewinds, ReadsNext, FreesPages, HasNoPageMore}
 use Rattle.spill_tapes.specs.declared.limits.TheConstants.{FRONT}
 use Rattle.tape_disks.specs.declared.limits.TheConstants.{PAGE}
 use Rattle.tape_disks.specs.declared.disk.TapeDisk.{Ghosts}

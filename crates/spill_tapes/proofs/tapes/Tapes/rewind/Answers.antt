@@ -29,7 +29,8 @@ returns g c =
       rewound = rewinds_so g.D.TapeDisk tape s new before after y x was now written told.phase told.rewound told.counted told.room;
       «open» =
           ap (λ (z : TapeState). not (is_in Closed z.phase)) now ∙ ap (λ (ph : Phase). not (is_in Closed ph)) told.phase
-          ∙ sym (ap (λ (ph : Phase). not (is_in Closed ph)) (sym (ap (λ (z : TapeState). z.phase) was) ∙ phase_written s tape y was written));
+          ∙ sym (ap (λ (ph : Phase). not (is_in Closed ph)) (sym (ap (λ (z : TapeState). z.phase) was)
+          ∙ phase_written s tape y was written));
       others = others_kept _ _ t _ _ _ x view c.self.invariant told.keeps refl;
       again = subst (λ (z : TapesState). UsesAgain z.pool c.rewind.new.pool) view told.pages.again;
       disk = told.disk;
