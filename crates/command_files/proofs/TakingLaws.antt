@@ -8,10 +8,8 @@ use Rattle.std.proofs.KnownBytes.{Appends-nil, Appends-trans}
 use Rattle.std.proofs.lemmas.List.{length-append, length-map}
 use Rattle.std.proofs.lemmas.List.Elements.{filter-append}
 use Rattle.script_io.specs.Fused.{written}
-use Rattle.tape_disks.specs.Chosen.{is_honest}
 use Rattle.tape_disks.specs.Files.{SystemState}
 use Rattle.tape_disks.specs.declared.spill_disk.SpillDisk.{SpillDisk}
-use Rattle.tape_disks.specs.declared.spill_disk.SpillDisk.TheVariants.{Memory, File}
 use Rattle.hash_agg.specs.Means.{MeansState}
 use Rattle.hash_agg.specs.declared.work.Work.{Work}
 use Rattle.replica_merge.specs.Replicas.{Held}
@@ -24,7 +22,7 @@ use Rattle.command_streams.specs.Disks.{is_in_memory}
 use Rattle.command_streams.specs.Stopping.{ending_of}
 use Rattle.command_files.specs.Reporting.{output_of, replies_on_output, reply_on_output, OnlySays, Prints, RepliesFew}
 use Rattle.command_files.specs.Taking.{Takes, TakesFile, RanFile, TakenFile, CommandState, Manner, TakesOne, TakesEach, TakesAll}
-use Rattle.command_files.specs.Taking.{manner_of, reply_to, state_of, refused_of, system_file}
+use Rattle.command_files.specs.Taking.{manner_of, reply_to, state_of, refused_of}
 use Rattle.command_files.specs.declared.reporter.Reporter.{Reporter}
 use Rattle.command_files.proofs.ReportingLaws.{replied_behind}
 
@@ -37,11 +35,6 @@ told_as kind honest file old new why told same takes = subst (λ w. Takes kind h
 pub took_over : (kind : FileKind) (honest memory : Bool) (file : List ℕ) (old new : Held) (result : Result Reply Refusal)
     → honest ≡ memory → Takes kind honest file old new result → Takes kind memory file old new result
 took_over kind honest memory file old new result same takes = subst (λ h. Takes kind h file old new result) same takes
-
--- tapes over such files are honest where they lie in memory
-pub honest_in_memory : {F : Type 0} (disk : SpillDisk (SystemState F)) → is_honest system_file disk ≡ is_in_memory disk
-honest_in_memory (Memory disk) = refl
-honest_in_memory (File disk) = refl
 
 -- what a file took that is refused, where the refusal is told as it was
 pub ran_as : {F H : Type 0} (kind : FileKind) (file : Option (List ℕ)) (held : Held) (means : MeansState H) (why told : Refusal)

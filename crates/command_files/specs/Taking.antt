@@ -9,10 +9,7 @@ use Rattle.grouping_model.specs.Query.{Query}
 use Rattle.aggregation_cost.specs.Space.{Setting}
 use Rattle.batch_reader.specs.File.{read_file}
 use Rattle.key_hashes.specs.Hashes.{fnv_1a}
-use Rattle.tape_disks.specs.Chosen.{failures_of, writes_of, is_honest, is_last}
 use Rattle.tape_disks.specs.Files.{SystemState}
-use Rattle.tape_disks.specs.declared.disk.TapeDisk as disks
-use Rattle.tape_disks.specs.declared.seekable_file.SeekableFile as seekable
 use Rattle.tape_disks.specs.declared.spill_disk.SpillDisk.{SpillDisk}
 use Rattle.hash_agg.specs.Means.{MeansState}
 use Rattle.hash_agg.specs.Ran.{Ran}
@@ -27,7 +24,7 @@ use Rattle.command_replicas.specs.Commands.{FeedIsCounted, FileMergeIsCounted}
 use Rattle.command_replicas.specs.Results.{Feeds, MergesFile}
 use Rattle.file_sentences.specs.declared.reasons.FileKind.{FileKind}
 use Rattle.file_sentences.specs.declared.reasons.FileKind.TheVariants.{Batch, Summary}
-use Rattle.command_streams.specs.Disks.{is_in_memory}
+use Rattle.command_streams.specs.Disks.{command_tapes, is_in_memory}
 use Rattle.command_streams.specs.Inputs.{IsUnread}
 use Rattle.command_streams.specs.Stopping.{ending_of}
 use Rattle.command_streams.specs.declared.problem.Problem.{Problem}
@@ -57,16 +54,6 @@ taken (Err problem) = Err problem.why
 abbrev pub TakesFile : FileKind → (honest : Bool) → Option (List ℕ) → (old new : Held) → Result Reply Refusal → Type 0
 TakesFile kind honest None old new result = (new ≡ old) × IsErrAnd result IsUnread
 TakesFile kind honest (Some file) old new result = Takes kind honest file old new result
-
--- what is said of a file of the system that has tapes: it counts its failures, and is never called honest
-abbrev pub system_file : {F : Type 0} → seekable.Ghosts (SystemState F)
-system_file =
-    record { failures = λ f. f.failures; honest = λ f. false; stands = λ f at. Unit {0}; last = λ f at byte. Unit {0} }
-
--- and of the disk of tapes of a command
-abbrev pub command_tapes : {F : Type 0} → disks.Ghosts (SpillDisk (SystemState F))
-command_tapes =
-    record { failures = failures_of system_file; writes = writes_of; honest = is_honest system_file; last = is_last system_file }
 
 -- a file was taken into a replica by some means, and what that took was counted. Nothing was counted of one that was not read
 abbrev pub RanFile : {F H : Type 0} → FileKind → Option (List ℕ) → Held → MeansState H → Result Reply Refusal

@@ -1,6 +1,7 @@
 use Rattle.std.specs.Prelude.{Some, Ok, Err}
 use Rattle.std.proofs.Common.{◌∙◌, sym}
-use Rattle.command_files.proofs.TakingLaws.{told_as, took_over, ran_as, honest_in_memory}
+use Rattle.command_streams.specs.DiskLaws.{honest_in_memory}
+use Rattle.command_files.proofs.TakingLaws.{told_as, took_over, ran_as}
 use Rattle.command_files.proofs.session.Session.take_file.Goals as goal
 
 pub returns-in-Ok-take-clause-takes : goal.returns-in-Ok-take-clause-takes
