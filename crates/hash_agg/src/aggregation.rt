@@ -45,8 +45,9 @@ use std::alloc::Global;
 /// Over any other disk the result is still a run of the query. It has at most as many groups as there are selected rows and groups given.
 ///
 /// Beside the run it returns the work done. Over an honest disk, `aggregation_cost` predicts that work and the number of pages written from
-/// the selected rows and the groups. It does so if the inputs have at most 2^62 - 1 groups. There is at least one pass, and no more passes
-/// than groups. Over any disk the most bytes of blocks that it reports for its table keep within the limit.
+/// the selected rows and the groups. It does so if the inputs have at most 2^62 - 1 groups. Over such a disk there are no more
+/// passes than groups, or one over no group. Over any disk there is at least one pass, and the most bytes of blocks that it reports for its
+/// table keep within the limit.
 pub fn aggregate<H: KeyHash + Copy, D: TapeDisk>(
     alloc: Global,
     query: &Query,

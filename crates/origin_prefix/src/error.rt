@@ -19,7 +19,7 @@ pub enum JoinError {
         /// The number, if it is early.
         number: Option<u32>,
     },
-    /// Memory ran out, or the tape disk failed while batches were folded.
+    /// Memory ran out. Or while batches were folded the tape disk failed, or gave back what was not written to it.
     #[error(transparent)]
     Spill(SpillError),
 }

@@ -16,8 +16,9 @@ use replica_merge::{JoinError, MergeError, RefusedBatch, SummaryError};
 use std::alloc::AllocError;
 use thiserror::Error;
 
-/// Why a command or a script is refused. Each refusal is defined once: a refusal of a lower crate is its own error, except that out of
-/// memory is always `NoMemory`.
+/// Why a command or a script is refused. That of a limit, of a query's text, of a batch, of a summary file or of a run is an error of its
+/// own type. A bad schema, another query, an origin that disagrees and an error of the tape disk are variants here. Out of memory is always
+/// `NoMemory`.
 #[derive(Clone, Copy, Debug, PartialEq, Eq, Error)]
 pub enum Refusal {
     /// Memory ran out.
@@ -56,7 +57,7 @@ pub enum Refusal {
     /// The tape disk returned data that was not written to it.
     #[error("spilled records were not read back as they were written")]
     TapeDamaged,
-    /// The run stopped before the end of its script.
+    /// The run stopped before the end of its script. Or a file is too long to be made, as `command_replicas::save` says.
     #[error(transparent)]
     Run(RunError),
     /// Not a command: an unknown word; a wrong number of fields; a text that isn't UTF-8; a bad name, number of rows or limit; or a command

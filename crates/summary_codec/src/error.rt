@@ -23,7 +23,8 @@ pub enum SummaryError {
     /// Bytes follow the last field.
     #[error("bytes follow the end of the summary file")]
     Trailing,
-    /// A text isn't canonical, or origins, keys or early batches aren't in ascending order.
+    /// A text isn't canonical, or origins, keys or early numbers aren't in ascending order. Or an early number isn't above the prefix and
+    /// one more, or nothing is held of an origin.
     #[error("the summary file isn't in its canonical form")]
     NotCanonical,
     /// A number is above its limit.
@@ -35,7 +36,7 @@ pub enum SummaryError {
     /// A key or a row isn't packed correctly.
     #[error("a packed row or key of the summary file is damaged")]
     BadPacked,
-    /// The states of a group aren't states of its origin's rows.
+    /// A state row denotes no states that count at most the prefix of its origin times the rows of a batch.
     #[error("a state of the summary file is damaged")]
     BadState,
     /// The query's text is refused.

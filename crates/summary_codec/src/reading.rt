@@ -559,8 +559,9 @@ fn read_body(
 ///
 /// The first of these: `NotASummary` for other first bytes; `Truncated` for an incomplete field; `BadSchema`, and the errors of
 /// [`parse`], for the texts; `OutOfRange` for a number above its limit in the file's version; `BadPacked` for a key or a row; `BadState`
-/// for states that no rows of so many batches give; `NotCanonical` for a text that isn't canonical, for origins, keys or early batches that
-/// aren't in ascending order, and for an empty origin; `Trailing` for bytes after the last field. Or `NoMemory`.
+/// for a state row that denotes no states that count at most the prefix times the rows of a batch; `NotCanonical` for a text that isn't
+/// canonical, for origins, keys or early numbers that aren't in ascending order, for an early number that isn't above the prefix and one
+/// more, and for an origin of which nothing is held; `Trailing` for bytes after the last field. Or `NoMemory`.
 pub fn decode(
     alloc: Global,
     bytes: &[u8],
