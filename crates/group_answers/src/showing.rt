@@ -1,6 +1,6 @@
 //! The rows of an answer, from the groups of a run.
 
-ghost use Rattle.std.specs.Prelude.{◌≡◌, ◌≤◌, ◌∷◌, ℕ, List, [], map, IfOk, OnOk};
+ghost use Rattle.std.specs.Prelude.{◌≡◌, ◌≤◌, ◌∷◌, ℕ, List, [], map, IfOk, OnOk, OnErr};
 ghost use Rattle.grouping_model.specs.Datum.{Row, HasKinds};
 ghost use Rattle.grouping_model.specs.Aggregates.{Outcome, Partial, Plain, outcome};
 ghost use Rattle.grouping_model.specs.Grouping.{Group};
@@ -14,6 +14,7 @@ ghost use Rattle.having_filter.specs.Kept.{key_kinds};
 ghost use Rattle.having_filter.specs.Meaning.{meaning};
 ghost use Rattle.having_filter.specs.Plans.{source_of};
 ghost use Rattle.group_runs.specs.Standing.{StandsFor, AreGroups};
+ghost use Rattle.group_answers.specs.Stopping.{Stopped, StoppedAmong};
 
 use crate::row_sink::RowSink;
 use agg_library::{AggKind, StateRow};
@@ -118,10 +119,11 @@ fn push_group<'r, S: RowSink>(
 ) -> Result<(), AllocError>
     requires { (most : ℕ) × (group : Group)
         × StandsFor (meaning query.now) most (key.now, states.now) group × (most ≤ most_rows) }
-    ensures { OnOk result ((given : List (List Outcome)) × S.took rows.old rows.new given
+    ensures given { OnOk result ((given : List (List Outcome)) × S.took rows.old rows.new given
         × ((most : ℕ) (group : Group) → most ≤ most_rows →
         StandsFor (meaning query.now) most (key.now, states.now) group →
         given ≡ rows_of (meaning query.now) (group ∷ []))) }
+    ensures stopped { OnErr result (Stopped S.RowSink rows.old rows.new) }
 {
     unpack(query, key, &mut scratch.values)?;
     key_values(&scratch.values, &mut scratch.key)?;
@@ -140,8 +142,9 @@ fn push_group<'r, S: RowSink>(
 
 /// Gives a sink the rows of an answer without groups. Without GROUP BY there is still one group, of no rows.
 fn rows_of_none<S: RowSink>(alloc: Global, query: &Query, rows: &mut S) -> Result<(), AllocError>
-    ensures { OnOk result (S.took rows.old rows.new
+    ensures given { OnOk result (S.took rows.old rows.new
         (rows_of (meaning query.now) (answered (meaning query.now) []))) }
+    ensures stopped { OnErr result (Stopped S.RowSink rows.old rows.new) }
 {
     if !query.keys().is_empty() {
         return Ok(());
@@ -151,7 +154,7 @@ fn rows_of_none<S: RowSink>(alloc: Global, query: &Query, rows: &mut S) -> Resul
 }
 
 /// Gives a sink the rows of the groups of a run, in their order: one for each group for which HAVING is true. The only error is a failed
-/// allocation.
+/// allocation. The sink has the first of the rows then.
 pub fn rows_of_run<S: RowSink>(
     alloc: Global,
     query: &Query,
@@ -160,10 +163,12 @@ pub fn rows_of_run<S: RowSink>(
 ) -> Result<(), AllocError>
     requires { (most : ℕ) × (groups : List Group)
         × AreGroups (meaning query.now) most run.now groups × (most ≤ most_rows) }
-    ensures { OnOk result ((given : List (List Outcome)) × S.took rows.old rows.new given
+    ensures given { OnOk result ((given : List (List Outcome)) × S.took rows.old rows.new given
         × ((most : ℕ) (groups : List Group) → most ≤ most_rows →
         AreGroups (meaning query.now) most run.now groups →
         given ≡ rows_of (meaning query.now) groups)) }
+    ensures stopped { OnErr result (StoppedAmong S.RowSink (meaning query.now) run.now (rows_of (meaning query.now)) rows.old
+        rows.new) }
 {
     let mut scratch = Scratch::new(alloc);
     for place in 0..run.len() {
@@ -175,7 +180,7 @@ pub fn rows_of_run<S: RowSink>(
 
 /// Gives a sink the rows of the answer from the groups of a run, before ORDER BY arranges them: a row of the query's items for each group
 /// for which HAVING is true, in the order of the run. Without GROUP BY there is one group, even over no rows. The only error is a failed
-/// allocation.
+/// allocation. The sink has the first of the rows then.
 pub fn project_into<S: RowSink>(
     alloc: Global,
     query: &Query,
@@ -184,10 +189,12 @@ pub fn project_into<S: RowSink>(
 ) -> Result<(), AllocError>
     requires { (most : ℕ) × (groups : List Group)
         × AreGroups (meaning query.now) most run.now groups × (most ≤ most_rows) }
-    ensures { OnOk result ((given : List (List Outcome)) × S.took rows.old rows.new given
+    ensures given { OnOk result ((given : List (List Outcome)) × S.took rows.old rows.new given
         × ((most : ℕ) (groups : List Group) → most ≤ most_rows →
         AreGroups (meaning query.now) most run.now groups →
         given ≡ rows_of (meaning query.now) (answered (meaning query.now) groups))) }
+    ensures stopped { OnErr result (StoppedAmong S.RowSink (meaning query.now) run.now
+        (λ groups. rows_of (meaning query.now) (answered (meaning query.now) groups)) rows.old rows.new) }
 {
     if run.is_empty() {
         return rows_of_none(alloc, query, rows);

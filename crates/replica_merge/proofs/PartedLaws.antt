@@ -41,7 +41,7 @@ put_each P k (l ∷ ks) one (first, all) =
       | Greater ↦ (first, put_each P k ks one all)
     ]
 
-distinct_each : (P : Row → Type 0) (ks : List Row) → AllByRecursion P ks → AllByRecursion P (distinct row_cmp ks)
+pub distinct_each : (P : Row → Type 0) (ks : List Row) → AllByRecursion P ks → AllByRecursion P (distinct row_cmp ks)
 distinct_each P [] all = tt
 distinct_each P (k ∷ ks) (first, all) = put_each P k (distinct row_cmp ks) first (distinct_each P ks all)
 

@@ -1,6 +1,7 @@
 -- Runs in pieces: what spans bring to a piece and what they leave, and the run that has the groups of both.
 use Rattle.std.specs.Prelude.{◌≡◌, ◌≢◌, refl, ℕ, ◌+◌, ◌*◌, ◌≤◌, Bool, true, false, cond, List, [], ◌∷◌, ◌++◌, map, filter, length, drop}
-use Rattle.std.specs.Prelude.{◌&&◌, ◌↔◌, IsTrue, Option, Some, None, zero, suc, ◌-◌, ◌<◌, slice_get, slice_index_or, slice_range, take}
+use Rattle.std.specs.Prelude.{◌&&◌, ◌||◌, ◌↔◌, IsTrue, Option, Some, None, zero, suc, ◌-◌, ◌<◌, slice_get, slice_index_or, slice_range}
+use Rattle.std.specs.Prelude.{take}
 use Rattle.std.specs.declared.cmp.Ordering.{Ordering}
 use Rattle.std.proofs.Common.{sym, ◌∙◌, ap, subst, arith, append_assoc, append-nil}
 use Rattle.std.proofs.lemmas.List.{map-append, length-append, length-drop}
@@ -38,8 +39,10 @@ use Rattle.group_runs.specs.Adding.{groups_added}
 use Rattle.group_runs.specs.MergeLaws.{puts, keys_of-groups_added}
 use Rattle.group_runs.specs.Steps.{AddsRun, HasRoomForRun}
 use Rattle.group_runs.specs.Lemmas.MergeLaws.{groups_added_part}
-use Rattle.grouping_model.specs.Rising.{put}
-use Rattle.hash_agg.specs.Inputs.{Brought, Counted, rows_in, all_rows, AreInputsOf, IsInput, OneByOne}
+use Rattle.grouping_model.specs.Rising.{put, distinct, is_among}
+use Rattle.grouping_model.specs.Rising.Facts.{among-append}
+use Rattle.group_runs.specs.Lemmas.RunLaws.{rises_keys}
+use Rattle.hash_agg.specs.Inputs.{Brought, Counted, rows_in, all_rows, AllBring, AreInputsOf, IsInput, OneByOne}
 use Rattle.group_runs.specs.PlaceLaws.{take_found}
 use Rattle.group_runs.specs.Places.{IsBelow, IsNotBelow, IsPlaceOf}
 use Rattle.origin_prefix.specs.Parts.{Part}
@@ -48,7 +51,8 @@ use Rattle.replica_merge.specs.Pieces.{groups_of, left_of, IsSpan, brought_to, l
 use Rattle.replica_merge.specs.Pieces.{HasKeysOf, IsPiece}
 use Rattle.replica_merge.specs.Pieces.{HasGroups, HasLeft, IsCopy, IsEnd, AreOfNext, RowsOf, ShowPiece, ShowLeft}
 use Rattle.replica_merge.proofs.UnionLaws.{one_union, union_room, added_union}
-use Rattle.replica_merge.proofs.PartedLaws.{put_each, rises_append, no, kept, kept_concatenated, kept_keys, comes_before}
+use Rattle.replica_merge.proofs.KeyLaws.{AreOfRuns, KeysInTwo, brought_kinds, crossed, distinct_in_two, keys_in_two}
+use Rattle.replica_merge.proofs.PartedLaws.{put_each, distinct_each, rises_append, no, kept, kept_concatenated, kept_keys, comes_before}
 use Rattle.replica_merge.proofs.PartedLaws.{key_comes, come_apart, all_apart}
 
 -- ---- groups
@@ -168,6 +172,52 @@ lists_parted q bound (s ∷ spans) (rows ∷ lists) (one, pieces) (is, are) =
     let rest = lists_parted q bound spans lists pieces are in
     ((here.0, rest.0), (here.1, rest.1))
 
+-- ---- the keys that spans bring
+
+runs_of : (entries : Span → List Entry) (spans : List Span)
+    → AreOfRuns (map (λ (span : Span). Counted (entries span) (span.part.now.prefix * MAX_ROWS)) spans)
+runs_of entries [] = tt
+runs_of entries (s ∷ spans) = (tt, runs_of entries spans)
+
+-- those that come, and those that stay
+record BringInTwo (q : Query) (spans : List Span) (lists : List (List Row)) : Type 0 where
+  firsts : List (List Row)
+  seconds : List (List Row)
+  come : AllBring q (brought_to spans) firsts
+  stay : AllBring q (left_by spans) seconds
+  among : (key : Row) → is_among row_cmp key (concatenated lists)
+      ≡ (is_among row_cmp key (concatenated firsts) || is_among row_cmp key (concatenated seconds))
+
+bring_in_two : (q : Query) (spans : List Span) (lists : List (List Row)) → AllBring q (had spans) lists → BringInTwo q spans lists
+bring_in_two q [] [] bring = record { firsts = []; seconds = []; come = tt; stay = tt; among = λ key. refl }
+bring_in_two q [] (ks ∷ lists) bring = absurd bring
+bring_in_two q (s ∷ spans) [] bring = absurd bring
+bring_in_two q (s ∷ spans) (ks ∷ lists) (one, bring) =
+    let two : KeysInTwo (groups_of s) (left_of s) ks = keys_in_two (groups_of s) (left_of s) ks one.packings_are in
+    let rest : BringInTwo q spans lists = bring_in_two q spans lists bring in
+    let has : AllByRecursion (HasKinds (key_kinds q)) (two.first ++ two.second) = subst (AllByRecursion (HasKinds (key_kinds q))) two.both
+    one.of_kinds in
+    record {
+      firsts = two.first ∷ rest.firsts;
+      seconds = two.second ∷ rest.seconds;
+      come = (
+        record { of_kinds = each_front (HasKinds (key_kinds q)) two.first two.second has; packings_are = two.firsts },
+        rest.come,
+      );
+      stay = (
+        record { of_kinds = each_behind (HasKinds (key_kinds q)) two.first two.second has; packings_are = two.seconds },
+        rest.stay,
+      );
+      among = λ key.
+          (λ i. is_among row_cmp key (two.both i ++ concatenated lists))
+          ∙ among-append row_cmp key (two.first ++ two.second) (concatenated lists)
+          ∙ (λ i. among-append row_cmp key two.first two.second i || rest.among key i)
+          ∙ crossed (is_among row_cmp key two.first) (is_among row_cmp key two.second) (is_among row_cmp key (concatenated rest.firsts))
+          (is_among row_cmp key (concatenated rest.seconds))
+          ∙ sym (λ i. among-append row_cmp key two.first (concatenated rest.firsts) i
+          || among-append row_cmp key two.second (concatenated rest.seconds) i);
+    }
+
 -- ---- the run of a piece, and one of what is left
 
 runs_before : (bound : Option (List ℕ)) (xs ys : List Entry) → AllByRecursion (λ (e : Entry). comes bound e.0 ≡ true) xs
@@ -210,10 +260,31 @@ module _ (q : Query) (bound : Option (List ℕ)) (spans : List Span) (piece rest
       (part_kinds q bound n rest (kept (no (key_comes bound)) q rows) second)))
       (groups_append q n piece rest (part q (kept (key_comes bound) q rows)) (part q (kept (no (key_comes bound)) q rows)) first second)
 
+  both_keys : (lists : List (List Row)) → AllBring q (had spans) lists → packed_keys (piece ++ rest)
+      ≡ map packing (distinct row_cmp (concatenated lists))
+  both_keys lists bring =
+      let two : BringInTwo q spans lists = bring_in_two q spans lists bring in
+      let firsts : List Row = concatenated two.firsts in
+      let seconds : List Row = concatenated two.seconds in
+      let packed : packed_keys (piece ++ rest) ≡ map packing (distinct row_cmp firsts ++ distinct row_cmp seconds) =
+      map-append (λ (e : Entry). e.0) piece rest
+      ∙ (λ i. left.keys two.firsts two.come i ++ right.keys two.seconds two.stay i)
+      ∙ sym (map-append packing (distinct row_cmp firsts) (distinct row_cmp seconds)) in
+      let has : AllByRecursion (HasKinds (key_kinds q)) (distinct row_cmp firsts ++ distinct row_cmp seconds) =
+      each_append (HasKinds (key_kinds q)) (distinct row_cmp firsts) (distinct row_cmp seconds)
+      (distinct_each (HasKinds (key_kinds q)) firsts (brought_kinds q (brought_to spans) two.firsts (runs_of groups_of spans) two.come))
+      (distinct_each (HasKinds (key_kinds q)) seconds (brought_kinds q (left_by spans) two.seconds (runs_of left_of spans) two.stay)) in
+      let rises : IsStrictlySortedBy row_cmp (distinct row_cmp firsts ++ distinct row_cmp seconds) =
+      rises_keys (key_kinds q) (distinct row_cmp firsts ++ distinct row_cmp seconds) has
+      (subst (IsStrictlySortedBy (slice_cmp nat_cmp)) packed
+      (runs_rise bound piece rest come stay left.is_run.rises right.is_run.rises)) in
+      packed ∙ ap (map packing) (distinct_in_two firsts seconds (concatenated lists) rises two.among)
+
   pub both_union : IsUnion q (had spans) (piece ++ rest)
   both_union =
       record {
         part = both_part;
+        keys = both_keys;
         is_run =
             record {
               groups = left.is_run.groups ++ right.is_run.groups;
@@ -314,6 +385,18 @@ no_parts q (s ∷ spans) (rows ∷ lists) (first, none) (one, are) =
     ∙ (λ i. groups_added q (no_part q (s.part.now.prefix * MAX_ROWS) (left_of s) (part q rows) first one i)
     (no_parts q spans lists none are i))
 
+no_key : (ks : List Row) → [] ≡ map packing ks → ks ≡ []
+no_key [] same = refl
+no_key (k ∷ ks) same = absurd cc
+
+no_keys : (q : Query) (spans : List Span) (lists : List (List Row)) → NoneLeft spans → AllBring q (left_by spans) lists
+    → concatenated lists ≡ []
+no_keys q [] [] none bring = refl
+no_keys q [] (ks ∷ lists) none bring = absurd bring
+no_keys q (s ∷ spans) [] none bring = absurd bring
+no_keys q (s ∷ spans) (ks ∷ lists) (first, none) (one, bring) =
+    λ i. no_key ks (sym (ap packed_keys first) ∙ one.packings_are) i ++ no_keys q spans lists none bring i
+
 nothing_rises : Rises []
 unfolding IsStrictlySortedBy
 nothing_rises = tt
@@ -322,6 +405,7 @@ pub none_union : (q : Query) (spans : List Span) → NoneLeft spans → IsUnion 
 none_union q spans none =
     record {
       part = λ lists are. subst (AreGroups q (all_rows (left_by spans)) []) (sym (no_parts q spans lists none are)) tt;
+      keys = λ lists bring. ap (λ ks. map packing (distinct row_cmp ks)) (sym (no_keys q spans lists none bring));
       is_run = record { groups = []; are = tt; rises = nothing_rises };
     }
 
@@ -422,7 +506,8 @@ module _ (q : Query) (spans front back : List Span) (a b : List Entry) (both : s
   piece_of_both c added =
       record {
         union = subst (λ inputs. IsUnion q inputs c) (sym (ap brought_to both ∙ brings front back))
-            (added_union q (brought_to front) (brought_to back) a b c few_both left.union right.union added);
+            (added_union q (brought_to front) (brought_to back) a b c few_both left.union right.union (runs_of groups_of front)
+            (runs_of groups_of back) added);
         keys = λ p those.
             let all : AllByRecursion (λ (one : List Entry). AllByRecursion (λ (e : Entry). p e.0 ≡ true) one) (map groups_of front
             ++ map groups_of back) =
@@ -450,6 +535,7 @@ piece_of_none q =
     record {
       union = record {
         part = no_rows;
+        keys = none_brought;
         is_run = record { groups = []; are = tt; rises = nothing_rises };
       };
       keys = λ p those. tt;
@@ -458,6 +544,10 @@ piece_of_none q =
     no_rows : (lists : List (List Row)) → AreInputsOf q [] lists → AreGroups q (all_rows []) [] (part q (concatenated lists))
     no_rows [] are = tt
     no_rows (rows ∷ lists) are = absurd are
+
+    none_brought : (lists : List (List Row)) → AllBring q [] lists → packed_keys [] ≡ map packing (distinct row_cmp (concatenated lists))
+    none_brought [] bring = refl
+    none_brought (ks ∷ lists) bring = absurd bring
 
 -- a copy of the first span's groups
 pub copy_first : (spans : List Span) (s : Span) (run : List Entry) → slice_get spans 0 ≡ Some s → run ≡ groups_of s → IsCopy spans run

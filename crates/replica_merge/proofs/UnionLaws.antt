@@ -20,6 +20,7 @@ use Rattle.group_runs.specs.Lemmas.MergeLaws.{groups_added_part}
 use Rattle.group_runs.specs.Lemmas.SpliceLaws.{packed_rise}
 use Rattle.hash_agg.specs.Inputs.{Brought, Counted, rows_in, all_rows, AreInputsOf, IsInput}
 use Rattle.hash_agg.specs.Lemmas.FoldLaws.{run_keys_rise}
+use Rattle.replica_merge.proofs.KeyLaws.{AreOfRuns, keys_of_one, keys_of_both}
 
 -- lists of rows for which inputs of two lists stand
 record BothStand (q : Query) (xs ys : List Brought) (lists : List (List Row)) : Type 0 where
@@ -47,6 +48,7 @@ pub one_union : (q : Query) (run : List Entry) (rows : ℕ) → IsRun q rows run
 one_union q run rows is =
     record {
       part = one;
+      keys = keys_of_one q run rows is.rises;
       is_run = subst (λ n. IsRun q n run) (sym total) is;
     }
   where
@@ -104,10 +106,12 @@ module _ (q : Query) (xs ys : List Brought) (a b c : List Entry) (few : all_rows
       (added (all_rows xs) (all_rows ys) (part q (concatenated stand.fronts)) (part q (concatenated stand.backs)) low
       (left.part stand.fronts stand.front) (right.part stand.backs stand.back))))
 
-  pub added_union : AddsRun q a b c → IsUnion q (xs ++ ys) c
-  added_union added =
+  pub added_union : AreOfRuns xs → AreOfRuns ys → AddsRun q a b c → IsUnion q (xs ++ ys) c
+  added_union xs_are ys_are added =
       record {
         part = added_part added;
+        keys = keys_of_both q xs ys a b c (all_rows xs) (all_rows ys) left.is_run.groups right.is_run.groups xs_are ys_are left.is_run.are
+            right.is_run.are (added_groups added) left.keys right.keys;
         is_run =
             record {
               groups = groups_added q left.is_run.groups right.is_run.groups;

@@ -1,7 +1,8 @@
 -- The groups of several origins in one run. All of this is our own.
 use Rattle.std.specs.Prelude.{◌≡◌, ℕ, All, List, [], ◌∷◌, length, map}
 use Rattle.std.specs.Borrow.{Bor}
-use Rattle.grouping_model.specs.Datum.{Row}
+use Rattle.grouping_model.specs.Datum.{Row, row_cmp}
+use Rattle.grouping_model.specs.Rising.{distinct}
 use Rattle.grouping_model.specs.Query.{Query}
 use Rattle.grouping_model.specs.Aggregates.{Outcome}
 use Rattle.grouping_model.specs.Answer.{answer, answer_of}
@@ -9,9 +10,10 @@ use Rattle.grouping_model.specs.Grouping.{Group, part}
 use Rattle.grouping_model.specs.World.{World, IsWorld}
 use Rattle.packed_rows.specs.Columns.{kinds}
 use Rattle.packed_rows.specs.ConcatenatedRows.{concatenated}
-use Rattle.group_runs.specs.Runs.{Entry}
+use Rattle.packed_rows.specs.Packing.{packing}
+use Rattle.group_runs.specs.Runs.{Entry, packed_keys}
 use Rattle.group_runs.specs.Standing.{AreGroups, IsRun}
-use Rattle.hash_agg.specs.Inputs.{Brought, all_rows, AreInputsOf}
+use Rattle.hash_agg.specs.Inputs.{Brought, all_rows, AllBring, AreInputsOf}
 use Rattle.origin_prefix.specs.Parts.{Part}
 use Rattle.having_filter.specs.Meaning.{meaning}
 use Rattle.replica_merge.specs.Replicas.{Held, Fits, told, counted, counted_part}
@@ -21,10 +23,12 @@ abbrev pub brought_by : List (Bor Part) → List Brought
 brought_by parts = map (λ (p : Bor Part). counted p.now) parts
 
 -- a run has the groups of all of these inputs: it is a run of the query, and where all inputs stand for lists of rows, it has the groups of
--- all of these rows. Of inputs that stand for no rows no more is said
+-- all of these rows. In any case it has the keys that the inputs bring, each once and in increasing order. Of the states of inputs that
+-- stand for no rows no more is said
 pub record IsUnion (query : Query) (inputs : List Brought) (run : List Entry) : Type 0 where
   pub part : (lists : List (List Row)) → AreInputsOf query inputs lists
       → AreGroups query (all_rows inputs) run (part query (concatenated lists))
+  pub keys : (lists : List (List Row)) → AllBring query inputs lists → packed_keys run ≡ map packing (distinct row_cmp (concatenated lists))
   pub is_run : IsRun query (all_rows inputs) run
 
 -- a run is that of the only part
@@ -33,7 +37,8 @@ pub record IsRunAlone (parts : List (Bor Part)) (run : List Entry) : Type 0 wher
   pub alone : parts ≡ only ∷ []
   pub run_is : run ≡ only.now.run
 
--- rows are those of the groups of a run that has the groups of all parts of what is held. The only part's run is used as it is
+-- rows are those of the groups of a run that has the groups of all parts of what is held, each key once. The only part's run is used as it
+-- is
 pub record IsShown (held : Held) (rows : List (List Outcome)) : Type 0 where
   pub run : List Entry
   pub union : IsUnion (meaning held.query) (map counted_part held.parts) run

@@ -137,8 +137,9 @@ impl Replica {
 
     /// Takes a batch of the query's columns, with an origin and a number within the limits. A known number changes nothing. A batch next to
     /// its origin's unbroken prefix is folded, with the early ones that follow without a gap, by `means` and over a disk. Any other is kept
-    /// until its gap is closed. A refused batch is handed back and changes nothing: memory ran out, its number is early with other rows, or
-    /// the disk failed. The cost of folding is added to the work of the executor.
+    /// until its gap is closed, without the disk. A refused batch is handed back and changes nothing: memory ran out, its number is early
+    /// with other rows, or while it was folded the disk failed or gave back what was not written to it. The cost of folding is added to the
+    /// work of the executor.
     pub fn deliver<H: KeyHash + Copy, D: TapeDisk>(
         &mut self,
         batch: Batch,
@@ -182,7 +183,7 @@ impl Replica {
     pub fn answer(&self) -> Result<Answer, AllocError>
         ensures width { IfOk result (All (λ row. length row
             ≡ length (meaning self.now.query).items)) }
-        // They are those of one run of the groups of all parts, whatever the parts are.
+        // They are those of one run, which has each key of the groups of all parts once, whatever the parts are.
         ensures rows { IfOk result (IsShown self.now) }
         ensures answer { IfOk result (λ rows. (world : World) →
             IsWorld (kinds self.now.query.columns) world → Fits world self.now →

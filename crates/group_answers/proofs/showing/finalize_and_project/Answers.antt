@@ -7,7 +7,7 @@ use Rattle.group_answers.proofs.showing.finalize_and_project.Goals as goal
 
 pub returns : goal.returns
 returns c =
-    let given = c.in_ok-project_into.ensures in
+    let given = c.in_ok-project_into.ensures.given in
     IfOk-weaker c.arranged.result _ _
     (λ answer is most groups low are.
     let rows = given.1 ∙ ap (λ those. those ++ given.0) c.new-rows.ensures ∙ given.2 most groups low are in

@@ -1,6 +1,6 @@
 use Rattle.std.specs.Prelude.{◌≡◌, ◌∷◌, [], true, false, map}
-use Rattle.std.proofs.Common.{sym, ◌∙◌, ap, rules}
-use Rattle.std.proofs.lemmas.Result.{on_ok_weaker}
+use Rattle.std.proofs.Common.{refl, sym, ◌∙◌, ap, inl, inr, rules}
+use Rattle.std.proofs.lemmas.Result.{on_ok_weaker, on_err_weaker}
 use Rattle.grouping_model.specs.Aggregates.{Plain, outcome}
 use Rattle.grouping_model.specs.Condition.{is_met}
 use Rattle.grouping_model.specs.Query.{Query}
@@ -10,7 +10,8 @@ use Rattle.packed_rows.specs.View.{row_of}
 use Rattle.agg_protocol.specs.Results.{outcome_of}
 use Rattle.having_filter.specs.Meaning.{meaning}
 use Rattle.group_runs.specs.StandingLaws.{states_by}
-use Rattle.group_answers.proofs.ShownLaws.{sources_are, key_is, shown, not_shown}
+use Rattle.group_answers.specs.Stopping.{Stopped}
+use Rattle.group_answers.proofs.ShownLaws.{on_err_anyway, sources_are, key_is, shown, not_shown}
 use Rattle.group_answers.proofs.showing.push_group.Goals as goal
 
 pub unpack-requires : goal.unpack-requires
@@ -22,8 +23,8 @@ finish_states-requires g c =
     let r = c.requires in
     (r.0, r.1.1, states_by (functions q) r.0 c.agg_kinds.result.now c.args.states.now r.1.1 c.agg_kinds.ensures.functions r.2.states, r.3)
 
-pub returns-then-not-having_true : goal.returns-then-not-having_true
-returns-then-not-having_true g c = (
+pub returns-then-not-having_true-clause-given : goal.returns-then-not-having_true-clause-given
+returns-then-not-having_true-clause-given g c = (
   [],
   g.met.S.RowSink.none c.args.rows.now,
   λ most group low stands.
@@ -42,8 +43,8 @@ returns-then-not-having_true g c = (
       not_shown q group (ap (λ read. is_met read q.having) (sym read) ∙ met),
 )
 
-pub returns : goal.returns
-returns g c =
+pub returns-clause-given : goal.returns-clause-given
+returns-clause-given g c =
     on_ok_weaker c.push_row.result
     (λ pushed. (
       map outcome_of c.deref-6.result.now ∷ [],
@@ -70,3 +71,24 @@ returns g c =
           shown q group (map outcome_of c.deref-6.result.now) (ap (λ read. is_met read q.having) (sym read) ∙ met) items,
     ))
     c.push_row.ensures.taken
+
+-- ---- a sink that the row does not reach, and one that refuses it
+
+pub returns-in_err-unpack-clause-stopped : goal.returns-in_err-unpack-clause-stopped
+returns-in_err-unpack-clause-stopped g c =
+    on_err_anyway c.from_residual.result (Stopped g.S.RowSink c.args.rows.now c.args.rows.now) (inl refl)
+
+pub returns-in_err-key_values-clause-stopped : goal.returns-in_err-key_values-clause-stopped
+returns-in_err-key_values-clause-stopped g c =
+    on_err_anyway c.from_residual-in_err-key_values.result (Stopped g.S.RowSink c.args.rows.now c.args.rows.now) (inl refl)
+
+pub returns-in_err-finish_states-clause-stopped : goal.returns-in_err-finish_states-clause-stopped
+returns-in_err-finish_states-clause-stopped g c =
+    on_err_anyway c.from_residual-in_err-finish_states.result (Stopped g.S.RowSink c.args.rows.now c.args.rows.now) (inl refl)
+
+pub returns-in_err-items_of-clause-stopped : goal.returns-in_err-items_of-clause-stopped
+returns-in_err-items_of-clause-stopped g c =
+    on_err_anyway c.from_residual-in_err-items_of.result (Stopped g.S.RowSink c.args.rows.now c.args.rows.now) (inl refl)
+
+pub returns-clause-stopped : goal.returns-clause-stopped
+returns-clause-stopped g c = on_err_weaker c.push_row.result (λ refused. inr refused) c.push_row.ensures.untaken

@@ -1,5 +1,5 @@
 use Rattle.std.specs.Prelude.{◌≡◌, ◌≢◌, []}
-use Rattle.std.proofs.Common.{sym, ◌∙◌, ap, subst, arith, rules, tests}
+use Rattle.std.proofs.Common.{refl, sym, ◌∙◌, ap, inl, subst, arith, rules, tests}
 use Rattle.std.proofs.lemmas.List.{nil_from_length}
 use Rattle.std.proofs.lemmas.Result.{on_ok_weaker}
 use Rattle.grouping_model.specs.Query.{Query}
@@ -8,7 +8,8 @@ use Rattle.grouping_model.specs.Parts.{functions}
 use Rattle.having_filter.specs.Meaning.{meaning}
 use Rattle.group_runs.specs.Standing.{AreStates}
 use Rattle.grouping_model.specs.Answer.{rows_of, answered_of_none}
-use Rattle.group_answers.proofs.ShownLaws.{empty_stands, answered_none}
+use Rattle.group_answers.specs.Stopping.{Stopped}
+use Rattle.group_answers.proofs.ShownLaws.{on_err_anyway, empty_stands, answered_none}
 use Rattle.group_answers.proofs.showing.rows_of_none.Goals as goal
 
 pub push_group-requires : goal.push_group-requires
@@ -22,8 +23,8 @@ push_group-requires g c =
       omega arith,
     )
 
-pub returns : goal.returns
-returns g c =
+pub returns-clause-given : goal.returns-clause-given
+returns-clause-given g c =
     let q : Query = meaning c.args.query.now in
     let none : c.keys.result.now ≡ [] = nil_from_length c.keys.result.now (search (rules, tests)) in
     let group : Group = ([], partials q []) in
@@ -33,10 +34,17 @@ returns g c =
     ∙ none) (subst (λ b. AreStates (functions q) 0 b (partials q [])) (sym c.deref.ensures.value) c.in_ok-states.ensures)) in
     subst (g.S.RowSink.took c.args.rows.now c.push_group.new.rows) (rows ∙ ap (λ keys. rows_of q (answered_of_none q keys)) (sym (sym
     c.keys.ensures.keys ∙ none))) given.1)
-    c.push_group.ensures
+    c.push_group.ensures.given
 
-pub returns-then-not-is_empty : goal.returns-then-not-is_empty
-returns-then-not-is_empty g c =
+pub returns-clause-stopped : goal.returns-clause-stopped
+returns-clause-stopped g c = c.push_group.ensures.stopped
+
+pub returns-in_err-states-clause-stopped : goal.returns-in_err-states-clause-stopped
+returns-in_err-states-clause-stopped g c =
+    on_err_anyway c.from_residual.result (Stopped g.S.RowSink c.args.rows.now c.args.rows.now) (inl refl)
+
+pub returns-then-not-is_empty-clause-given : goal.returns-then-not-is_empty-clause-given
+returns-then-not-is_empty-clause-given g c =
     let q : Query = meaning c.args.query.now in
     let some : c.keys.result.now ≢ [] = search (rules, tests) in
     subst (g.S.RowSink.took c.args.rows.now c.args.rows.now)

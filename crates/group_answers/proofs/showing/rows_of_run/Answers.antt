@@ -5,7 +5,9 @@ use Rattle.grouping_model.specs.Query.{Query}
 use Rattle.having_filter.specs.Meaning.{meaning}
 use Rattle.group_runs.specs.Runs.{Entry}
 use Rattle.group_runs.specs.PlaceLaws.{drop_at}
-use Rattle.group_answers.proofs.ShownLaws.{LeftOver, first_left, none_left, all_left}
+use Rattle.grouping_model.specs.Answer.{rows_of}
+use Rattle.group_answers.specs.Stopping.{StoppedAmong}
+use Rattle.group_answers.proofs.ShownLaws.{LeftOver, first_left, none_left, all_left, on_err_anyway}
 use Rattle.group_answers.proofs.showing.rows_of_run.Goals as goal
 
 pub loop-place-init : goal.loop-place-init
@@ -30,7 +32,7 @@ push_group-requires g c =
 pub loop-place-preserved : goal.loop-place-preserved
 loop-place-preserved g c =
     let before = c.loop-place.invariant in
-    let given = c.in_ok-push_group.ensures in (
+    let given = c.in_ok-push_group.ensures.given in (
       before.0 ++ given.0,
       g.met.S.RowSink.both c.args.rows.now c.loop-place.rows c.push_group.new.rows before.0 given.0 before.1 given.1,
       λ most groups low are.
@@ -43,8 +45,22 @@ loop-place-preserved g c =
           first.behind (before.0 ++ given.0) (ap (λ rows. before.0 ++ rows) (given.2 most first.group low first.stands)),
     )
 
-pub returns : goal.returns
-returns g c =
+pub returns-in_err-push_group-clause-stopped : goal.returns-in_err-push_group-clause-stopped
+returns-in_err-push_group-clause-stopped g c =
+    let q : Query = meaning c.args.query.now in
+    let before = c.loop-place.invariant in
+    on_err_anyway c.from_residual.result
+    (StoppedAmong g.S.RowSink q c.args.run.now (rows_of q) c.args.rows.now c.push_group.new.rows)
+    (record {
+      given = before.0;
+      between = c.loop-place.rows;
+      taken = before.1;
+      first = λ most groups low are. let over = before.2 most groups low are in (rows_of q over.others, over.whole);
+      stopped = c.in_err-push_group.ensures.stopped;
+    })
+
+pub returns-clause-given : goal.returns-clause-given
+returns-clause-given g c =
     let past = c.loop-place-test.false in
     let counted = c.len-place-end.ensures.length in
     let all = c.loop-place.invariant in (

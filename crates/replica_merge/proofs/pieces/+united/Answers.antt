@@ -1,7 +1,8 @@
 use Rattle.std.proofs.Common.{arith}
+use Rattle.std.proofs.lemmas.Result.{IfOk-weaker}
 use Rattle.having_filter.specs.Meaning.{meaning}
 use Rattle.replica_merge.proofs.PieceLaws.{front_inputs, front_within, front_few, back_inputs, back_within, back_few, piece_room}
-use Rattle.replica_merge.proofs.PieceLaws.{piece_of_both}
+use Rattle.replica_merge.proofs.PieceLaws.{piece_of_both, piece_of_few}
 use Rattle.replica_merge.proofs.pieces.+united.Goals as goal
 
 pub united-requires : goal.united-requires
@@ -42,3 +43,8 @@ returns t c =
     piece_of_both (meaning c.args.query.now) c.args.spans.now c.split_at.result.0.now c.split_at.result.1.now c.in_ok-all.all
     c.in_ok-more.more c.split_at.ensures.by_index.0 c.requires.few c.in_ok-all.ensures c.in_ok-more.ensures c.merge_from.new.self
     c.in_ok-merge_from.ensures.added
+
+pub returns-then-spans-lt2 : goal.returns-then-spans-lt2
+returns-then-spans-lt2 t c =
+    IfOk-weaker c.copied.result _ _
+    (λ run is. piece_of_few (meaning c.args.query.now) c.args.spans.now run c.if-spans-lt2.true is c.requires.inputs) c.copied.ensures

@@ -76,7 +76,7 @@ returns-then-is_empty-2 g c =
           ∙ c.has_left.ensures.1 (subst (Any HasLeft) (sym c.deref.ensures.value) any)))
           c.if-is_empty-2.true all.2 c.new.ensures more.2,
     ))
-    c.project_into-then-is_empty-2.ensures
+    c.project_into-then-is_empty-2.ensures.given
 
 pub returns : goal.returns
 returns g c =

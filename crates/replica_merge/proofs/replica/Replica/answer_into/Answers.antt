@@ -26,7 +26,7 @@ returns-in-Some g c =
       subst (λ (h : Held). IsAnswerOf h given.0) c.self.view_is
           (alone_answer held c.deref.result.now c.in-Some.run'.now given.0 none c.self.invariant all c.in-Some.ensures.alone given.2),
     ))
-    c.project_into.ensures
+    c.project_into.ensures.given
 
 pub rows_of_left-requires-clause-inputs : goal.rows_of_left-requires-clause-inputs
 rows_of_left-requires-clause-inputs g c =
