@@ -4,7 +4,8 @@ use Rattle.std.specs.Prelude.{Option, Some, None, is_some, IsSome, Result, IfOk,
 use Rattle.engine.specs.Calls.{Held, Refusal, Delivered, Folded, Early, Known, Format, Csv, Aligned}
 use Rattle.engine_calls.specs.Calls.{OnSession, OpensBy, Asks}
 use Rattle.engine.specs.Sessions.{SessionState}
-use Rattle.engine_calls.specs.Keeping.{KeptState, Unchanged, nothing}
+use Rattle.engine_calls.specs.Keeping.{KeptState, ReasonOnAsking, ReasonOnClosed, ReasonOnMerge, ReasonOnOpen, Unchanged, nothing}
+use Rattle.engine_calls.specs.declared.last.Asked.{Asked}
 use Rattle.engine.specs.Statuses.{status_number, status_name, number_told}
 use Rattle.engine.specs.declared.status.Status.{Status}
 use Rattle.engine.specs.declared.status.Status.TheVariants.{Done, NoMemory, TooShort, NotOpen, NoSuchName}
@@ -56,12 +57,26 @@ pub record FillsSlot (old new : Option KeptState) (status : ℕ) : Type 0 where
   pub filled : status ≢ status_number NoMemory → IsSome new
   pub full : IsSome old → IsSome new
 
--- a call on a slot does so, and returns the number of its status. On success it gives its result, and else nothing changed, except
--- which refusal was the last
-pub record CallsSlot {T : Type 0} (does : (old new : KeptState) → Result T Status → Type 0) (gives : T → Type 0)
+-- which reason is kept after a call that wants a session, opens one, merges another's, or asks one
+abbrev pub KeepsReason : {T : Type 0} → Asked → (old new : KeptState) → Result T Status → Type 0
+KeepsReason asked old new result = ReasonOnOpen asked old.session old.reason new.reason result
+
+abbrev pub OpensReason : {T : Type 0} → Asked → (old new : KeptState) → Result T Status → Type 0
+OpensReason asked old new result = ReasonOnClosed asked old.session old.reason new.reason result
+
+abbrev pub MergesReason : {T : Type 0} → (other : Option SessionState) → (old new : KeptState) → Result T Status → Type 0
+MergesReason other old new result = ReasonOnMerge other old.session old.reason new.reason result
+
+abbrev pub AsksReason : {T : Type 0} → (old new : KeptState) → Result T Status → Type 0
+AsksReason old new result = ReasonOnAsking old.session old.reason new.reason result
+
+-- a call on a slot does so, keeps such a reason, and returns the number of its status. On success it gives its result, and else nothing
+-- changed, except which refusal was the last
+pub record CallsSlot {T : Type 0} (does keeps : (old new : KeptState) → Result T Status → Type 0) (gives : T → Type 0)
     (old new : Option KeptState) (status : ℕ) : Type 0 where
   pub outcome : Result T Status
   pub calls : does (kept_by old) (kept_by new) outcome
+  pub reasoned : keeps (kept_by old) (kept_by new) outcome
   pub ended : status ≡ number_told outcome
   pub given : IfOk outcome gives
   pub told : (kept_by new).told ≡ (kept_by old).told
@@ -74,15 +89,18 @@ pub record StaysEmpty (old new : Option KeptState) (status : ℕ) : Type 0 where
   pub ended : status ≡ status_number NoMemory
 
 -- a call that opens a session does so to what its slot keeps, unless the slot stays empty for want of memory
-abbrev pub OpensSlot : (makes : Result SessionState Refusal → Type 0) → (old new : Option KeptState) → (status : ℕ) → Type 0
-OpensSlot makes old new status = CallsSlot (OpensBy makes) GivesNothing old new status ⊎ StaysEmpty old new status
+abbrev pub OpensSlot : Asked → (makes : Result SessionState Refusal → Type 0) → (old new : Option KeptState) → (status : ℕ) → Type 0
+OpensSlot asked makes old new status =
+    CallsSlot (OpensBy makes) (OpensReason asked) GivesNothing old new status ⊎ StaysEmpty old new status
 
--- a call on a slot asks its session, and returns the number of its status. On success it gives the length of the result, and else nothing
--- changed, except which refusal was the last
-pub record AsksSlot {T : Type 0} (tells : Held → List ℕ → T → Type 0) (refuses : Held → Refusal → Type 0) (gives : T → Type 0)
-    (old new : Option KeptState) (wanted : ℕ) (status : ℕ) : Type 0 where
+-- a call on a slot asks its session, keeps such a reason, and returns the number of its status. On success it gives the length of the
+-- result, and else nothing changed, except which refusal was the last
+pub record AsksSlot {T : Type 0} (tells : Held → List ℕ → T → Type 0) (refuses : Held → Refusal → Type 0)
+    (keeps : (old new : KeptState) → Result T Status → Type 0) (gives : T → Type 0) (old new : Option KeptState) (wanted : ℕ) (status : ℕ) :
+    Type 0 where
   pub outcome : Result T Status
   pub asks : OnSession (Asks tells refuses (kept_by new).told) (kept_by old) (kept_by new) outcome
+  pub reasoned : keeps (kept_by old) (kept_by new) outcome
   pub ended : status ≡ number_told outcome
   pub given : IfOk outcome gives
   pub long : OnOk outcome (wanted ≡ length (kept_by new).told)

@@ -1,14 +1,15 @@
 //! The library for C: a summary inside another program, behind a slot that C holds.
 #![tactic(auto)]
 
-ghost use Rattle.std.specs.Prelude.{◌≡◌, ◌≢◌, ◌⊎◌, [], None, IsSome, codes, length};
+ghost use Rattle.std.specs.Prelude.{◌≡◌, ◌≢◌, ◌⊎◌, [], None, IsSome, IfSome, codes, length};
 ghost use Rattle.engine.specs.Calls.{Creates, Loads, FeedsFile, FeedsRows, MergesFileSession, IsFileOf, IsTooLong, IsTableOf};
 ghost use Rattle.engine.specs.Calls.{IsKnownText, IsQueryText, IsColumnsText};
 ghost use Rattle.engine.specs.Statuses.{status_number, status_at};
 ghost use Rattle.engine.specs.declared.status.Status.TheVariants.{Done, NoMemory, NotOpen};
 ghost use Rattle.engine_calls.specs.Calls.{OnSession, ForMemory, MergesWith, last_place};
+ghost use Rattle.engine_calls.specs.declared.last.Asked.TheVariants.{Create, Feed, Load, Merge, Save};
 ghost use Rattle.engine_c.specs.Exports.{kept_by, delivery_of, format_by, CallsSlot, AsksSlot, OpensSlot, FillsSlot, StaysFull};
-ghost use Rattle.engine_c.specs.Exports.{GivesNothing, HandsOut, Fetches, Names};
+ghost use Rattle.engine_c.specs.Exports.{GivesNothing, HandsOut, Fetches, Names, AsksReason, KeepsReason, MergesReason};
 
 mod crossing;
 mod delivery;
@@ -36,8 +37,8 @@ pub extern "C" fn agg_new(
     seed_low: u64,
     seed_high: u64,
 ) -> u32
-    ensures opens { OpensSlot (Creates columns.now query.now limit (record { low = seed_low; high = seed_high })) slot.old.handle.kept
-        slot.new.handle.kept result }
+    ensures opens { OpensSlot Create (Creates columns.now query.now limit (record { low = seed_low; high = seed_high }))
+        slot.old.handle.kept slot.new.handle.kept result }
     ensures full { FillsSlot slot.old.handle.kept slot.new.handle.kept result }
 {
     let Ok(mut kept) = taken_or_new(alloc, slot) else {
@@ -62,7 +63,7 @@ pub extern "C" fn agg_load(
     seed_low: u64,
     seed_high: u64,
 ) -> u32
-    ensures opens { OpensSlot (Loads file.now limit (record { low = seed_low; high = seed_high })) slot.old.handle.kept
+    ensures opens { OpensSlot Load (Loads file.now limit (record { low = seed_low; high = seed_high })) slot.old.handle.kept
         slot.new.handle.kept result }
     ensures full { FillsSlot slot.old.handle.kept slot.new.handle.kept result }
 {
@@ -86,8 +87,8 @@ pub extern "C" fn agg_feed(
     batch: &[u8],
     delivered: &mut Delivery,
 ) -> u32
-    ensures feeds { CallsSlot (OnSession (FeedsFile batch.now)) (λ told. delivered.new ≡ delivery_of told) slot.old.handle.kept
-        slot.new.handle.kept result }
+    ensures feeds { CallsSlot (OnSession (FeedsFile batch.now)) (KeepsReason Feed) (λ told. delivered.new ≡ delivery_of told)
+        slot.old.handle.kept slot.new.handle.kept result }
     ensures kept { result ≢ status_number Done → delivered.new ≡ delivered.old }
     ensures full { StaysFull slot.old.handle.kept slot.new.handle.kept }
 {
@@ -115,8 +116,8 @@ pub extern "C" fn agg_feed_rows(
     rows: &[u8],
     delivered: &mut Delivery,
 ) -> u32
-    ensures feeds { CallsSlot (OnSession (FeedsRows origin number count rows.now)) (λ told. delivered.new ≡ delivery_of told)
-        slot.old.handle.kept slot.new.handle.kept result }
+    ensures feeds { CallsSlot (OnSession (FeedsRows origin number count rows.now)) (KeepsReason Feed)
+        (λ told. delivered.new ≡ delivery_of told) slot.old.handle.kept slot.new.handle.kept result }
     ensures kept { result ≢ status_number Done → delivered.new ≡ delivered.old }
     ensures full { StaysFull slot.old.handle.kept slot.new.handle.kept }
 {
@@ -136,8 +137,8 @@ pub extern "C" fn agg_feed_rows(
 /// Merges the replica of another slot's session.
 #[unsafe(no_mangle)]
 pub extern "C" fn agg_merge(alloc: Global, into: &mut Slot, from: &mut Slot) -> u32
-    ensures merges { CallsSlot (MergesWith (kept_by from.old.handle.kept).session) GivesNothing into.old.handle.kept
-        into.new.handle.kept result }
+    ensures merges { CallsSlot (MergesWith (kept_by from.old.handle.kept).session) (MergesReason (kept_by from.old.handle.kept).session)
+        GivesNothing into.old.handle.kept into.new.handle.kept result }
     ensures full { StaysFull into.old.handle.kept into.new.handle.kept }
     ensures from { from.new.handle.kept ≡ from.old.handle.kept }
 {
@@ -158,7 +159,8 @@ pub extern "C" fn agg_merge(alloc: Global, into: &mut Slot, from: &mut Slot) -> 
 /// Merges the replica of a summary file.
 #[unsafe(no_mangle)]
 pub extern "C" fn agg_merge_bytes(alloc: Global, slot: &mut Slot, file: &[u8]) -> u32
-    ensures merges { CallsSlot (OnSession (MergesFileSession file.now)) GivesNothing slot.old.handle.kept slot.new.handle.kept result }
+    ensures merges { CallsSlot (OnSession (MergesFileSession file.now)) (KeepsReason Merge) GivesNothing slot.old.handle.kept
+        slot.new.handle.kept result }
     ensures full { StaysFull slot.old.handle.kept slot.new.handle.kept }
 {
     let Some(mut kept) = taken(alloc, slot) else {
@@ -172,8 +174,8 @@ pub extern "C" fn agg_merge_bytes(alloc: Global, slot: &mut Slot, file: &[u8]) -
 /// Makes the summary file: `agg_fetch` fetches it.
 #[unsafe(no_mangle)]
 pub extern "C" fn agg_save(alloc: Global, slot: &mut Slot, wanted: &mut usize) -> u32
-    ensures asks { AsksSlot (λ held file _. IsFileOf held file) IsTooLong GivesNothing slot.old.handle.kept slot.new.handle.kept wanted.new
-        result }
+    ensures asks { AsksSlot (λ held file _. IsFileOf held file) IsTooLong (KeepsReason Save) GivesNothing slot.old.handle.kept
+        slot.new.handle.kept wanted.new result }
     ensures full { StaysFull slot.old.handle.kept slot.new.handle.kept }
 {
     let Some(mut kept) = taken(alloc, slot) else {
@@ -188,7 +190,7 @@ pub extern "C" fn agg_save(alloc: Global, slot: &mut Slot, wanted: &mut usize) -
 /// Makes the list of what is known, a line for each origin: `agg_fetch` fetches it.
 #[unsafe(no_mangle)]
 pub extern "C" fn agg_known(alloc: Global, slot: &mut Slot, wanted: &mut usize) -> u32
-    ensures asks { AsksSlot (λ held text _. IsKnownText held text) ForMemory GivesNothing slot.old.handle.kept
+    ensures asks { AsksSlot (λ held text _. IsKnownText held text) ForMemory AsksReason GivesNothing slot.old.handle.kept
         slot.new.handle.kept wanted.new result }
     ensures full { StaysFull slot.old.handle.kept slot.new.handle.kept }
 {
@@ -204,7 +206,7 @@ pub extern "C" fn agg_known(alloc: Global, slot: &mut Slot, wanted: &mut usize) 
 /// Makes the canonical text of the query: `agg_fetch` fetches it.
 #[unsafe(no_mangle)]
 pub extern "C" fn agg_query(alloc: Global, slot: &mut Slot, wanted: &mut usize) -> u32
-    ensures asks { AsksSlot (λ held text _. IsQueryText held text) ForMemory GivesNothing slot.old.handle.kept
+    ensures asks { AsksSlot (λ held text _. IsQueryText held text) ForMemory AsksReason GivesNothing slot.old.handle.kept
         slot.new.handle.kept wanted.new result }
     ensures full { StaysFull slot.old.handle.kept slot.new.handle.kept }
 {
@@ -220,7 +222,7 @@ pub extern "C" fn agg_query(alloc: Global, slot: &mut Slot, wanted: &mut usize) 
 /// Makes the canonical text of the columns: `agg_fetch` fetches it.
 #[unsafe(no_mangle)]
 pub extern "C" fn agg_columns(alloc: Global, slot: &mut Slot, wanted: &mut usize) -> u32
-    ensures asks { AsksSlot (λ held text _. IsColumnsText held text) ForMemory GivesNothing slot.old.handle.kept
+    ensures asks { AsksSlot (λ held text _. IsColumnsText held text) ForMemory AsksReason GivesNothing slot.old.handle.kept
         slot.new.handle.kept wanted.new result }
     ensures full { StaysFull slot.old.handle.kept slot.new.handle.kept }
 {
@@ -242,8 +244,8 @@ pub extern "C" fn agg_answer(
     rows: &mut usize,
     wanted: &mut usize,
 ) -> u32
-    ensures asks { AsksSlot (λ held text count. IsTableOf (format_by aligned) held count text) ForMemory (λ count. rows.new ≡ count)
-        slot.old.handle.kept slot.new.handle.kept wanted.new result }
+    ensures asks { AsksSlot (λ held text count. IsTableOf (format_by aligned) held count text) ForMemory AsksReason
+        (λ count. rows.new ≡ count) slot.old.handle.kept slot.new.handle.kept wanted.new result }
     ensures full { StaysFull slot.old.handle.kept slot.new.handle.kept }
 {
     let Some(mut kept) = taken(alloc, slot) else {
@@ -270,8 +272,11 @@ pub extern "C" fn agg_reason(
 ) -> u32
     ensures place { result ≡ status_number Done → place.new ≡ last_place (kept_by slot.old.handle.kept).why }
     ensures none { result ≡ status_number Done → (kept_by slot.old.handle.kept).why ≡ None → (kept_by slot.new.handle.kept).told ≡ [] }
+    ensures text { result ≡ status_number Done → IfSome (kept_by slot.old.handle.kept).reason
+        (λ reason. (kept_by slot.new.handle.kept).told ≡ reason.text) }
     ensures session { (kept_by slot.new.handle.kept).session ≡ (kept_by slot.old.handle.kept).session }
     ensures last { (kept_by slot.new.handle.kept).why ≡ (kept_by slot.old.handle.kept).why }
+    ensures reason { (kept_by slot.new.handle.kept).reason ≡ (kept_by slot.old.handle.kept).reason }
     ensures wanted { result ≡ status_number Done → wanted.new ≡ length (kept_by slot.new.handle.kept).told }
     ensures same { result ≢ status_number Done → kept_by slot.new.handle.kept ≡ kept_by slot.old.handle.kept }
     ensures ends { IsSome slot.old.handle.kept → (result ≡ status_number Done) ⊎ (result ≡ status_number NoMemory) }
