@@ -1,6 +1,6 @@
 -- The row of an answer that a group gives.
 use Rattle.std.specs.Prelude.{◌≡◌, ◌≢◌, refl, ℕ, ◌+◌, ◌<◌, Bool, true, false, cond, List, [], ◌∷◌, ◌++◌, map, filter, length, take, drop}
-use Rattle.std.specs.Prelude.{slice_get, slice_index_or, Some, Result, Ok, Err, OnErr}
+use Rattle.std.specs.Prelude.{slice_get, slice_index_or, Some}
 use Rattle.std.proofs.lemmas.List.{drop_more}
 use Rattle.std.proofs.Common.{sym, ◌∙◌, ap, subst, arith, append-nil, append_assoc}
 use Rattle.grouping_model.specs.Datum.{Bigint_kind, HasKinds}
@@ -23,11 +23,6 @@ use Rattle.group_runs.specs.Standing.{AreStates, StandsFor, AreGroups}
 use Rattle.agg_library.specs.StateRowLaws.{first_and_rest}
 use Rattle.group_runs.specs.PlaceLaws.{dropped}
 use Rattle.group_runs.specs.Lemmas.RunLaws.{packed_once}
-
--- what holds anyway holds where a call is refused
-pub on_err_anyway : {T E : Type 0} (r : Result T E) (Fact : Type 0) → Fact → OnErr r Fact
-on_err_anyway (Ok x) Fact fact = tt
-on_err_anyway (Err e) Fact fact = fact
 
 -- ---- the states of a group
 

@@ -47,7 +47,7 @@ MergeApart old into from why = IsHeldAt old into (λ own. IsHeldAt old from (λ 
 
 -- when a reply reports a disagreement. A feed is refused for it only if the batch disagrees, and taken only if it doesn't. A merge is
 -- refused for it only if the two replicas disagree, at the first origin where they do. It is done only if they don't. A failure of the tape
--- disk is reported only of a batch, and of a merge, that would have been taken without it
+-- disk is reported only of a batch that would have been taken without it, and of a merge only at an origin whose parts agree
 abbrev pub TellsDisagreement : Store → Request → List Record → Reply → Type 0
 TellsDisagreement old (Feed name origin number told) owned (says.Refused (OriginDisagrees of at)) = IsHeldAt old name
     (λ held. FeedApart held origin number told owned of at)

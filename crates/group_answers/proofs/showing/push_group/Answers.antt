@@ -10,8 +10,9 @@ use Rattle.packed_rows.specs.View.{row_of}
 use Rattle.agg_protocol.specs.Results.{outcome_of}
 use Rattle.having_filter.specs.Meaning.{meaning}
 use Rattle.group_runs.specs.StandingLaws.{states_by}
+use Rattle.list_laws.specs.Outcomes.{always_err}
 use Rattle.group_answers.specs.Stopping.{Stopped}
-use Rattle.group_answers.proofs.ShownLaws.{on_err_anyway, sources_are, key_is, shown, not_shown}
+use Rattle.group_answers.proofs.ShownLaws.{sources_are, key_is, shown, not_shown}
 use Rattle.group_answers.proofs.showing.push_group.Goals as goal
 
 pub unpack-requires : goal.unpack-requires
@@ -76,19 +77,19 @@ returns-clause-given g c =
 
 pub returns-in_err-unpack-clause-stopped : goal.returns-in_err-unpack-clause-stopped
 returns-in_err-unpack-clause-stopped g c =
-    on_err_anyway c.from_residual.result (Stopped g.S.RowSink c.args.rows.now c.args.rows.now) (inl refl)
+    always_err {P = Stopped g.S.RowSink c.args.rows.now c.args.rows.now} c.from_residual.result (inl refl)
 
 pub returns-in_err-key_values-clause-stopped : goal.returns-in_err-key_values-clause-stopped
 returns-in_err-key_values-clause-stopped g c =
-    on_err_anyway c.from_residual-in_err-key_values.result (Stopped g.S.RowSink c.args.rows.now c.args.rows.now) (inl refl)
+    always_err {P = Stopped g.S.RowSink c.args.rows.now c.args.rows.now} c.from_residual-in_err-key_values.result (inl refl)
 
 pub returns-in_err-finish_states-clause-stopped : goal.returns-in_err-finish_states-clause-stopped
 returns-in_err-finish_states-clause-stopped g c =
-    on_err_anyway c.from_residual-in_err-finish_states.result (Stopped g.S.RowSink c.args.rows.now c.args.rows.now) (inl refl)
+    always_err {P = Stopped g.S.RowSink c.args.rows.now c.args.rows.now} c.from_residual-in_err-finish_states.result (inl refl)
 
 pub returns-in_err-items_of-clause-stopped : goal.returns-in_err-items_of-clause-stopped
 returns-in_err-items_of-clause-stopped g c =
-    on_err_anyway c.from_residual-in_err-items_of.result (Stopped g.S.RowSink c.args.rows.now c.args.rows.now) (inl refl)
+    always_err {P = Stopped g.S.RowSink c.args.rows.now c.args.rows.now} c.from_residual-in_err-items_of.result (inl refl)
 
 pub returns-clause-stopped : goal.returns-clause-stopped
 returns-clause-stopped g c = on_err_weaker c.push_row.result (λ refused. inr refused) c.push_row.ensures.untaken

@@ -8,8 +8,9 @@ use Rattle.grouping_model.specs.Parts.{functions}
 use Rattle.having_filter.specs.Meaning.{meaning}
 use Rattle.group_runs.specs.Standing.{AreStates}
 use Rattle.grouping_model.specs.Answer.{rows_of, answered_of_none}
+use Rattle.list_laws.specs.Outcomes.{always_err}
 use Rattle.group_answers.specs.Stopping.{Stopped}
-use Rattle.group_answers.proofs.ShownLaws.{on_err_anyway, empty_stands, answered_none}
+use Rattle.group_answers.proofs.ShownLaws.{empty_stands, answered_none}
 use Rattle.group_answers.proofs.showing.rows_of_none.Goals as goal
 
 pub push_group-requires : goal.push_group-requires
@@ -41,7 +42,7 @@ returns-clause-stopped g c = c.push_group.ensures.stopped
 
 pub returns-in_err-states-clause-stopped : goal.returns-in_err-states-clause-stopped
 returns-in_err-states-clause-stopped g c =
-    on_err_anyway c.from_residual.result (Stopped g.S.RowSink c.args.rows.now c.args.rows.now) (inl refl)
+    always_err {P = Stopped g.S.RowSink c.args.rows.now c.args.rows.now} c.from_residual.result (inl refl)
 
 pub returns-then-not-is_empty-clause-given : goal.returns-then-not-is_empty-clause-given
 returns-then-not-is_empty-clause-given g c =

@@ -6,8 +6,9 @@ use Rattle.having_filter.specs.Meaning.{meaning}
 use Rattle.group_runs.specs.Runs.{Entry}
 use Rattle.group_runs.specs.PlaceLaws.{drop_at}
 use Rattle.grouping_model.specs.Answer.{rows_of}
+use Rattle.list_laws.specs.Outcomes.{always_err}
 use Rattle.group_answers.specs.Stopping.{StoppedAmong}
-use Rattle.group_answers.proofs.ShownLaws.{LeftOver, first_left, none_left, all_left, on_err_anyway}
+use Rattle.group_answers.proofs.ShownLaws.{LeftOver, first_left, none_left, all_left}
 use Rattle.group_answers.proofs.showing.rows_of_run.Goals as goal
 
 pub loop-place-init : goal.loop-place-init
@@ -49,8 +50,7 @@ pub returns-in_err-push_group-clause-stopped : goal.returns-in_err-push_group-cl
 returns-in_err-push_group-clause-stopped g c =
     let q : Query = meaning c.args.query.now in
     let before = c.loop-place.invariant in
-    on_err_anyway c.from_residual.result
-    (StoppedAmong g.S.RowSink q c.args.run.now (rows_of q) c.args.rows.now c.push_group.new.rows)
+    always_err {P = StoppedAmong g.S.RowSink q c.args.run.now (rows_of q) c.args.rows.now c.push_group.new.rows} c.from_residual.result
     (record {
       given = before.0;
       between = c.loop-place.rows;
