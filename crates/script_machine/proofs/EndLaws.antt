@@ -22,7 +22,7 @@ use Rattle.replies.specs.declared.error.RunError.TheVariants as stop
 use Rattle.script_machine.proofs.Words.{AreWritten, Command, DiskFrame, ExecutesAllBut, Works, WorksThrough, empty, exact_wording}
 use Rattle.script_machine.proofs.Words.{run_error}
 use Rattle.script_machine.specs.Exact.{IsExactOutput, WritesExactly}
-use Rattle.script_machine.proofs.RunLaws.{output_lengths, ran_all, ran_start, right_of_exact, stops_short, writes_all, writes_front}
+use Rattle.script_machine.proofs.RunLaws.{output_lengths, ran_none, right_of_exact, stops_short, writes_all, writes_front, writes_some}
 use Rattle.script_machine.specs.Headline.{IsRightOutput, Streams, WritesRight, commands_in}
 use Rattle.script_machine.specs.Output.{Ends, KeepsUnread, StopsAt, WritesAll, disk_over, tells_read_fault, tells_write_fault}
 use Rattle.script_machine.specs.Running.{RunsOver}
@@ -74,14 +74,10 @@ module _ {D : Type 0} (g : Ghosts D) (seed : Seed) (before after : D) (streams :
     tt,
   )
   ends_of (Err stop.NoMemory) works disk =
-      let later = works.4.failures in (
-        (
-          λ long. absurd (omega (arith, long, short)),
-          g.failures works.1,
-          omega (arith, later),
-          writes_front g seed works.0 (commands_in script) before works.1 (AreWritten streams.old streams.new works.2)
-              (Appends streams.old streams.new) (λ replies wrote. wrote.writes) works.5,
-        ),
+      let later = works.4.failures in
+      let front =
+      writes_some g seed works.0 (commands_in script) before works.1 works.2 streams.old streams.new works.5 works.6 in (
+        (λ long. absurd (omega (arith, long, short)), g.failures works.1, omega (arith, later), front.0, front.1),
         tt,
       )
   ends_of (Err stop.InputTooLong) works disk = absurd works
@@ -133,23 +129,15 @@ faults_read g seed before after commands old new (Err stop.ReadFault) works = ab
 -- ---- a script that was not read
 
 module _ {D : Type 0} (g : Ghosts D) (seed : Seed) (disk : D) (known : Option (List ℕ)) where
-  -- nothing was executed yet
-  none_yet : (commands : List Command) → ExecutesAllBut g seed commands commands disk disk (AreWritten known known 0)
-  none_yet commands =
-      ran_all g seed commands commands disk disk (empty seed) 0 known known (ran_start g seed commands disk (empty seed) known refl)
-
   stops_unread : (a b : Option (List ℕ)) (e : InputError) → StopsReading a b MAX_INPUT_LEN e
       → IfSome a (λ script. StopsAt (disk_over g disk disk) script known known (run_error e))
   stops_unread None b e h = tt
   stops_unread (Some script) b input.ReadFault h = tt
   stops_unread (Some script) b input.TooLong h = consumes-longer (Some script) b h.0 MAX_INPUT_LEN h.1 h.2
-  stops_unread (Some script) b input.NoMemory h = (
-    λ long. Keeps-refl known,
-    g.failures disk,
-    omega arith,
-    writes_front g seed (commands_in script) (commands_in script) disk disk (AreWritten known known 0) (Appends known known)
-        (λ replies wrote. wrote.writes) (none_yet (commands_in script)),
-  )
+  stops_unread (Some script) b input.NoMemory h =
+      let none = ran_none g seed (commands_in script) disk known in
+      let front = writes_some g seed (commands_in script) (commands_in script) disk disk 0 known known none.0 none.1 in
+      (λ long. Keeps-refl known, g.failures disk, omega arith, front.0, front.1)
 
   keeps_unread : (e : InputError) → KeepsUnread known known (run_error e)
   keeps_unread input.ReadFault = Keeps-refl known
@@ -162,7 +150,8 @@ module _ {D : Type 0} (g : Ghosts D) (seed : Seed) (disk : D) (known : Option (L
   through_unread a input.TooLong = refl
   through_unread None input.NoMemory = tt
   through_unread (Some script) input.NoMemory =
-      (commands_in script, disk, 0, 0, leaves_none g disk, none_yet (commands_in script))
+      let none = ran_none g seed (commands_in script) disk known in
+      (commands_in script, disk, 0, 0, leaves_none g disk, none.0, none.1)
 
   pub runs_unread : (a b : Option (List ℕ)) (e : InputError) → StopsReading a b MAX_INPUT_LEN e
       → RunsOver g seed disk disk (record { script = a; old = known; new = known }) (Err (run_error e))

@@ -1,6 +1,6 @@
 -- What follows of commands that are executed one after the other.
 use Rattle.std.specs.Prelude.{◌≡◌, ◌+◌, refl, ℕ, zero, suc, Bool, IsTrue, if◌then◌else◌, List, [], ◌∷◌, ◌++◌, length, map}
-use Rattle.std.specs.Prelude.{sum_by, count_by, take, codes, Option}
+use Rattle.std.specs.Prelude.{sum_by, count_by, drop, take, codes, Option, Some, None, MatchOption}
 use Rattle.std.proofs.Common.{◌∙◌, ap, sym, subst, arith, append_assoc}
 use Rattle.std.proofs.lemmas.List.{append-nil, append_cancel_left, append_cancel_right}
 use Rattle.std.proofs.Math.Nat.{le_trans}
@@ -14,16 +14,18 @@ use Rattle.script_machine.proofs.Words.{IsReply, Agrees, AgreesAt, As_always, Fo
 use Rattle.script_machine.proofs.Words.{is_refused, is_fault, line}
 use Rattle.script_machine.proofs.Words.{refusal_name, said_text, is_refusal, is_tape_fault, faults_in, Store, empty, Represents, FitsWorld}
 use Rattle.script_machine.proofs.Words.{Answers, Steps, Executes, Executed, ExecutesAllBut, AreWritten, IsSaid, StopsInLast, said_texts}
+use Rattle.csv.specs.Records.{fields_of}
 use Rattle.key_hashes.specs.declared.sip_hash.Seed.{Seed}
 use Rattle.tape_disks.specs.declared.disk.TapeDisk.{Ghosts}
 use Rattle.script_io.specs.Output.{StopsShort}
 use Rattle.script_io.specs.OutputLaws.{short-first, short-second}
-use Rattle.script_commands.specs.Commands.{Request}
+use Rattle.script_commands.specs.Commands.{Request, command_at, commands_of, owned_by}
+use Rattle.script_commands.specs.declared.command.Command as read
 use Rattle.script_machine.specs.Headline.{AreRight}
 use Rattle.script_machine.specs.Machine as machine
 use Rattle.script_machine.specs.Machine.{Reply, Replies}
 use Rattle.script_machine.specs.Text.{joined, reply_text, replies_text}
-use Rattle.script_machine.specs.Output.{Disk, IsOutput, WritesAll, WritesFront, disk_over}
+use Rattle.script_machine.specs.Output.{Disk, IsOutput, LeavesSome, WritesAll, WritesFront, disk_over}
 use Rattle.replies.specs.declared.refusal.Refusal.TheVariants.{NoMemory}
 use Rattle.replies.specs.Refusals.{tells_fault}
 use Rattle.replies.specs.declared.reply.Reply as code
@@ -261,6 +263,21 @@ ran_all g seed commands left before disk store refused old new ran = record {
   writes = record { counts = ran.counts; writes = ran.writes };
 }
 
+-- it was, where a command is left
+pub ran_some : {D : Type 0} (g : Ghosts D) (seed : Seed) (commands left : List Command) (c : Command) (before disk : D) (store : Store)
+    (refused : ℕ) (old new : Option (List ℕ)) → RunSoFar g seed commands (c ∷ left) before disk store refused old new
+    → (ran : ExecutesAllBut g seed (c ∷ left) commands before disk (AreWritten old new refused)) × LeavesSome ran.done (c ∷ left)
+ran_some g seed commands left c before disk store refused old new ran =
+    (ran_all g seed commands (c ∷ left) before disk store refused old new ran, λ none. absurd cc)
+
+-- nothing was executed yet
+pub ran_none : {D : Type 0} (g : Ghosts D) (seed : Seed) (commands : List Command) (disk : D) (known : Option (List ℕ))
+    → (ran : ExecutesAllBut g seed commands commands disk disk (AreWritten known known 0)) × LeavesSome ran.done commands
+unfolding ran_all ran_start
+ran_none g seed commands disk known =
+    let ran = ran_start g seed commands disk (empty seed) known refl in
+    (ran_all g seed commands commands disk disk (empty seed) 0 known known ran, λ none. refl)
+
 -- no command is left
 pub ran_done : {D : Type 0} (g : Ghosts D) (seed : Seed) (commands left : List Command) (before disk : D) (store : Store) (refused : ℕ)
     (old new : Option (List ℕ)) → RunSoFar g seed commands left before disk store refused old new → left ≡ []
@@ -305,6 +322,29 @@ module _ {D : Type 0} {g : Ghosts D} {seed : Seed} {commands left : List Command
     each = each_more;
     writes = record { whole = ran.answers; last = reply; all = refl; mid = mid; writes = ran.writes; stops = wrote };
   }
+
+-- the records that are not executed yet: that of the next command, which was read, and those behind it
+abbrev pub unexecuted : Option read.Command → List Record → List Record
+unexecuted None records = []
+unexecuted (Some command) records = fields_of command.head ∷ records
+
+-- what reading the next command tells of what is not executed
+abbrev pub IsNext : Option read.Command → List Record → Type 0
+IsNext None records = commands_of [] ≡ []
+IsNext (Some command) records = commands_of (fields_of command.head ∷ records) ≡ command_at (fields_of command.head) records
+    ∷ commands_of (drop (owned_by (fields_of command.head)) records)
+
+-- so it is what there was before
+pub next_read : (next : Option read.Command) (old new : List Record) → MatchOption next (commands_of old ≡ [])
+    (λ command. commands_of old ≡ command_at (fields_of command.head) new ∷ commands_of (drop (owned_by (fields_of command.head)) new))
+    → MatchOption next ((old ≡ []) × (new ≡ [])) (λ command. old ≡ fields_of command.head ∷ new)
+    → (unexecuted next new ≡ old) × IsNext next new
+next_read None old new found read = (sym read.0, subst (λ records. commands_of records ≡ []) read.0 found)
+next_read (Some command) old new found read = (
+  sym read,
+  subst (λ records. commands_of records ≡ command_at (fields_of command.head) new
+      ∷ commands_of (drop (owned_by (fields_of command.head)) new)) read found,
+)
 
 -- what two calls leave of a disk, one after the other
 pub left_both : {D : Type 0} (g : Ghosts D) (old mid new : D) → (n : ℕ) × DiskFrame g n old mid → (n : ℕ) × DiskFrame g n mid new → (n : ℕ)
@@ -376,6 +416,16 @@ writes_front g seed left commands before last wrote wanted so works = record {
   output = output g seed before last works.done works.replies works.new works.each;
   writes = subst wanted (sym (texts_joined works.replies)) (so works.replies works.writes);
 }
+
+-- the same where some command is left
+pub writes_some : {D : Type 0} (g : Ghosts D) (seed : Seed) (left commands : List Command) (before last : D) (refused : ℕ)
+    (old new : Option (List ℕ)) (works : ExecutesAllBut g seed left commands before last (AreWritten old new refused))
+    → LeavesSome works.done left
+    → (front : WritesFront (disk_over g before last) commands (Appends old new)) × LeavesSome front.done front.left
+unfolding writes_front
+writes_some g seed left commands before last refused old new works some =
+    let wanted = λ (replies : List code.Reply) (wrote : AreWritten old new refused replies). wrote.writes in
+    (writes_front g seed left commands before last (AreWritten old new refused) (Appends old new) wanted works, some)
 
 -- ---- the words of outputs
 

@@ -15,6 +15,7 @@ use Rattle.replies.specs.declared.reply.Reply.{Reply}
 use Rattle.script_machine.specs.Disagreements.{TellsDisagreement}
 use Rattle.script_machine.specs.Headline.{Streams, commands_in}
 use Rattle.script_machine.specs.Limits.{WorksAtLimit}
+use Rattle.script_machine.specs.Output.{LeavesSome}
 use Rattle.script_machine.specs.Views.{Store, Steps, empty}
 
 -- a command that asks for this and owns these records is answered, over a tape disk. The reply and what is kept then are the machine's,
@@ -66,7 +67,7 @@ pub record StopsInLast (old new : Option (List ℕ)) (replies : List Reply) : Ty
   pub stops : StopsShort mid new (said_text last)
 
 -- commands were executed: all of them, where that ended well; up to the one whose reply was not written, where the writer failed; and as
--- far as memory was there
+-- far as memory was there, which is not all of them, if there are any
 abbrev pub Works : {D : Type 0} → Ghosts D → Seed → List Command → (old new : Option (List ℕ)) → (before after : D)
     → Result Outcome RunError → Type 0
 Works g seed commands old new before after (Ok outcome) =
@@ -74,7 +75,8 @@ Works g seed commands old new before after (Ok outcome) =
 Works g seed commands old new before after (Err WriteFault) = (left : List Command)
     × ExecutesAllBut g seed left commands before after (StopsInLast old new)
 Works {D = D} g seed commands old new before after (Err NoMemory) = (left : List Command) × (disk : D) × (refused faults : ℕ)
-    × DiskFrame g faults disk after × ExecutesAllBut g seed left commands before disk (AreWritten old new refused)
+    × DiskFrame g faults disk after
+    × (ran : ExecutesAllBut g seed left commands before disk (AreWritten old new refused)) × LeavesSome ran.done left
 Works g seed commands old new before after (Err error) = ⊥
 
 -- the commands of a script were, unless it was not read

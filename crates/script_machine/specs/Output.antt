@@ -1,5 +1,5 @@
 -- What a run of a script writes, over a disk that may be honest or not. All of this is our own.
-use Rattle.std.specs.Prelude.{ℕ, ◌≡◌, ◌≤◌, ◌<◌, ◌+◌, Bool, true, false, IsTrue, List, ◌++◌, length, take, count_by, Option, IfSome}
+use Rattle.std.specs.Prelude.{ℕ, ◌≡◌, ◌≤◌, ◌<◌, ◌+◌, Bool, true, false, IsTrue, List, [], ◌++◌, length, take, count_by, Option, IfSome}
 use Rattle.std.specs.Prelude.{Result, Ok, Err}
 use Rattle.std.specs.Io.KnownBytes.{Appends, Keeps}
 use Rattle.grouping_model.specs.declared.limits.TheConstants.{MAX_INPUT_LEN}
@@ -54,14 +54,18 @@ pub record WritesFront (disk : Disk) (commands : List Command) (wrote : List ℕ
   pub output : IsOutput disk done replies texts
   pub writes : wrote (joined texts)
 
+-- if no command is left, none was replied to: so a run that replied to every command does not stop for memory
+abbrev pub LeavesSome : (done left : List Command) → Type 0
+LeavesSome done left = left ≡ [] → done ≡ []
+
 -- what a run that stopped wrote: nothing if it did not read its script; if the writer failed, an output that lacks at least its last byte;
--- and, if memory ran out, the whole of one, after which the disk may have failed
+-- and, if memory ran out, the whole of one, not of all commands if there are any, after which the disk may have failed
 abbrev pub StopsAt : Disk → List ℕ → (old new : Option (List ℕ)) → RunError → Type 0
 StopsAt disk script old new InputTooLong = MAX_INPUT_LEN < length script
 StopsAt disk script old new ReadFault = Unit {0}
 StopsAt disk script old new WriteFault = (length script ≤ MAX_INPUT_LEN) × WritesFront disk (commands_in script) (StopsShort old new)
 StopsAt disk script old new NoMemory = (MAX_INPUT_LEN < length script → Keeps old new) × (failed : ℕ) × (failed ≤ disk.failed_now)
-    × WritesFront (record disk { failed_now = failed }) (commands_in script) (Appends old new)
+    × (front : WritesFront (record disk { failed_now = failed }) (commands_in script) (Appends old new)) × LeavesSome front.done front.left
 
 -- a run that did not read its script wrote nothing
 abbrev pub KeepsUnread : Option (List ℕ) → Option (List ℕ) → RunError → Type 0

@@ -48,8 +48,8 @@ fn tell<O: Observer>(
     }
 }
 
-/// Answers the commands that are left, one after the other, where nothing is there.
-#[tactic(auto, using(crate::proofs::RunLaws::ran_done))]
+/// Answers the commands that are left, one after the other, where nothing is there. The next command is read before the one at hand is
+/// replied to, so a run that replied to commands, and to every one, does not stop for memory.
 fn answer_all<W: Write, O: Observer, D: TapeDisk>(
     records: &mut Records<'_>,
     session: &mut Session,
@@ -66,8 +66,10 @@ fn answer_all<W: Write, O: Observer, D: TapeDisk>(
     ensures disk { (faults : ℕ) × DiskFrame D.TapeDisk faults disk.old disk.new }
 {
     let mut refused = 0;
-    while let Some(command) = next_command(records)? {
+    let mut next = next_command(records)?;
+    while let Some(command) = next {
         let reply = session.execute(&command, records, disk)?;
+        next = next_command(records)?;
         if reply.is_refused() {
             refused += 1;
         }

@@ -171,9 +171,9 @@ impl Wanted {
         self.whole.as_slice() == written && (refused > 0) == (self.front < self.whole.len())
     }
 
-    /// Whether a run stopped at that command.
+    /// Whether a run stopped at that command, so that it did not reply to it.
     fn is_stopped(&self, written: &[u8]) -> bool {
-        self.whole.get(..self.front) == Some(written)
+        self.front < self.whole.len() && self.whole.get(..self.front) == Some(written)
     }
 }
 
