@@ -41,21 +41,29 @@ pub script_ends : {F W : Type 0} (in_memory : Bool) (script : Option (List ℕ))
 script_ends in_memory script contents writer writer_now disk disk_now exit same (inl (seed, ran)) = inl (seed, disk, disk_now, same, ran)
 script_ends in_memory script contents writer writer_now disk disk_now exit same (inr faulty) = inr (inl faulty)
 
--- a script that is done, with its tapes in memory, wrote what is right
-done_right : (Right : Type 0) (run : Result Outcome RunError) → run_ending run ≡ Done → OnOk run (IsTrue true → Right) → Right
-done_right Right (Ok outcome) done right = right refl
-done_right Right (Err NoMemory) done right = absurd cc
-done_right Right (Err InputTooLong) done right = absurd cc
-done_right Right (Err ReadFault) done right = absurd cc
-done_right Right (Err WriteFault) done right = absurd cc
+-- a script that is done, over an honest disk, wrote what is right
+done_right : (Honest Right : Type 0) (run : Result Outcome RunError) → run_ending run ≡ Done → OnOk run (Honest → Right) → Honest → Right
+done_right Honest Right (Ok outcome) done right so = right so
+done_right Honest Right (Err NoMemory) done right so = absurd cc
+done_right Honest Right (Err InputTooLong) done right so = absurd cc
+done_right Honest Right (Err ReadFault) done right so = absurd cc
+done_right Honest Right (Err WriteFault) done right so = absurd cc
+
+pub right_over : {D W : Type 0} (g : Ghosts D) (script : Option (List ℕ)) (contents : W → Option (List ℕ)) (writer writer_now : Fused W)
+    (disk disk_now : D) (exit : ExitKind) → SeededEnds g script contents writer writer_now disk disk_now exit → IsTrue (g.honest disk)
+    → exit ≡ Done → WritesRight (streams_over contents script writer writer_now)
+right_over g script contents writer writer_now disk disk_now exit (inl (seed, ran)) so done =
+    done_right (IsTrue (g.honest disk)) (WritesRight (streams_over contents script writer writer_now)) ran.run (sym ran.ended ∙ done)
+    ran.headline so
+right_over g script contents writer writer_now disk disk_now exit (inr (faulty, same)) so done =
+    let e : Fault ≡ Done = sym faulty ∙ done in absurd cc
 
 pub right_in_memory : {F W : Type 0} (in_memory : Bool) (script : Option (List ℕ)) (contents : W → Option (List ℕ))
     (writer writer_now : Fused W) (exit : ExitKind) → ScriptEnds F in_memory script contents writer writer_now exit → in_memory ≡ true
     → exit ≡ Done → WritesRight (streams_over contents script writer writer_now)
 right_in_memory in_memory script contents writer writer_now exit (inl (seed, disk, disk_now, same, ran)) here done =
-    done_right (WritesRight (streams_over contents script writer writer_now)) ran.run (sym ran.ended ∙ done)
-    (subst (λ m. OnOk ran.run (IsTrue m → WritesRight (streams_over contents script writer writer_now)))
-    (honest_in_memory disk ∙ same ∙ here) ran.headline)
+    right_over command_tapes script contents writer writer_now disk disk_now exit (inl (seed, ran)) (honest_in_memory disk ∙ same ∙ here)
+    done
 right_in_memory in_memory script contents writer writer_now exit (inr (inl (faulty, same))) here done =
     let e : Fault ≡ Done = sym faulty ∙ done in absurd cc
 right_in_memory in_memory script contents writer writer_now exit (inr (inr (none, refused))) here done =

@@ -1,7 +1,7 @@
 //! The command `script`, with a sentence for each refused command.
 #![tactic(auto)]
 
-ghost use Rattle.std.specs.Prelude.{◌≡◌, true, is_none};
+ghost use Rattle.std.specs.Prelude.{◌≡◌, true, is_none, IsTrue};
 ghost use Rattle.replies.specs.Text.{said_text};
 ghost use Rattle.replies.specs.declared.ending.ExitKind.TheVariants.{Done};
 ghost use Rattle.replies.specs.declared.reply.Reply.TheVariants.{Refused};
@@ -185,16 +185,26 @@ fn stop<W: Write, E: Write>(problem: Problem<'_>, streams: &mut Streams<'_, W, E
     reply_refused(streams.writer, problem.why)
 }
 
-/// Runs the script that a reader has left over a tape disk. Without a seed nothing is read or replied.
-fn run_seeded<R: Files + AllocGlobal + RandomSource, I: Read, W: Write, E: Write, D: TapeDisk>(
+/// Runs the script that a reader has left over a tape disk, as `run_script` does over its own. Over one that gives back what was written
+/// to it, such as one in a file that does so, what is written at status 0 is right. Without a seed nothing is replied. Sentences name the
+/// path `spill` where the disk fails.
+pub fn run_script_over<
+    R: Files + AllocGlobal + RandomSource,
+    I: Read,
+    W: Write,
+    E: Write,
+    D: TapeDisk,
+>(
     rt: &R,
     spill: Option<&str>,
     reader: &mut I,
     streams: &mut Streams<'_, W, E>,
     disk: &mut D,
 ) -> ExitKind
-    ensures { SeededEnds D.TapeDisk (I.remaining reader.old) W.contents streams.old.writer.now streams.new.writer.now disk.old disk.new
+    ensures ends { SeededEnds D.TapeDisk (I.remaining reader.old) W.contents streams.old.writer.now streams.new.writer.now disk.old disk.new
         result }
+    ensures right { IsTrue (D.TapeDisk.honest disk.old) → result ≡ Done →
+        WritesRight (streams_over W.contents (I.remaining reader.old) streams.old.writer.now streams.new.writer.now) }
 {
     match system_seed(rt) {
         Ok(seed) => {
@@ -216,7 +226,7 @@ fn run_seeded<R: Files + AllocGlobal + RandomSource, I: Read, W: Write, E: Write
     }
 }
 
-/// Runs the script that a reader has left. It spills to memory, or to a new file if a path is given.
+/// Runs the script that a reader has left. It spills to memory, or to a new file if a path is given (`run_script_over`).
 pub fn run_script<R: Files + AllocGlobal + RandomSource, I: Read, W: Write, E: Write>(
     rt: &R,
     spill: Option<&str>,
@@ -232,7 +242,7 @@ pub fn run_script<R: Files + AllocGlobal + RandomSource, I: Read, W: Write, E: W
         Ok(disk) => disk,
         Err(problem) => return stop(problem, streams),
     };
-    let exit = run_seeded(rt, spill, reader, streams, &mut disk);
+    let exit = run_script_over(rt, spill, reader, streams, &mut disk);
     drop(disk);
     remove_disk(rt, rt.alloc(), spill, streams.errors);
     exit

@@ -20,5 +20,5 @@ returns-in-Err-clause-ends g c = inr (inr (
 ))
 
 pub returns-clause-ends : goal.returns-clause-ends
-returns-clause-ends g c = script_ends (is_none c.args.spill) _ g.W.Write.contents _ _ c.in-Ok.disk c.run_seeded-exit.new.disk
-    c.run_seeded-exit.result c.in-Ok.ensures.place c.run_seeded-exit.ensures
+returns-clause-ends g c = script_ends (is_none c.args.spill) _ g.W.Write.contents _ _ c.in-Ok.disk
+    c.run_script_over-exit.new.disk c.run_script_over-exit.result c.in-Ok.ensures.place c.run_script_over-exit.ensures.ends
