@@ -4,7 +4,7 @@
 mod options;
 mod sentences;
 
-ghost use Rattle.std.specs.Prelude.{◌≡◌, ◌≢◌, ◌≤◌, ℕ, List, IfOk, IfErr};
+ghost use Rattle.std.specs.Prelude.{◌≡◌, ◌≢◌, ◌≤◌, ℕ, List, false, IfOk, IfErr};
 ghost use Rattle.std.specs.Io.KnownBytes.{Appends};
 ghost use Rattle.batch_reader.specs.declared.error.BatchError.TheVariants.{RowCount};
 ghost use Rattle.grouping_model.specs.declared.limits.TheConstants.{LAST_ORIGIN};
@@ -13,11 +13,12 @@ ghost use Rattle.replies.specs.Text.{said_text};
 ghost use Rattle.replies.specs.declared.ending.ExitKind.TheVariants.{BadUsage, Done, Fault};
 ghost use Rattle.replies.specs.declared.refusal.Refusal.TheVariants.{Batch};
 ghost use Rattle.replies.specs.declared.reply.Reply.TheVariants.{Refused};
-ghost use Rattle.script_io.specs.Fused.{written};
+ghost use Rattle.script_io.specs.Fused.{unread, written};
+ghost use Rattle.command_words.specs.Streams.{is_stream};
 ghost use Rattle.command_streams.specs.Stopping.{RepliesRefused};
 ghost use Rattle.command_packs.specs.Options.{IsHeadOf, IsLayoutOf};
-ghost use Rattle.command_packs.specs.Packing.{pack_refusal, AreOfSummary, IsNotPacked, IsPacked, IsPackedAsTold, IsWithoutColumns};
-ghost use Rattle.command_packs.specs.Packing.{StopsAsTold, StopsPacking};
+ghost use Rattle.command_packs.specs.Packing.{pack_refusal, AreOfSummary, IsGivenCsv, IsNotPacked, IsPacked, IsPackedAsTold};
+ghost use Rattle.command_packs.specs.Packing.{IsWithoutColumns, StopsAsTold, StopsPacking};
 
 use crate::options::{Words, head_of, layout_of, words_of};
 use crate::sentences::PlainText;
@@ -35,12 +36,14 @@ use std::io::{Read, Write};
 use std::rt::Files;
 
 /// The columns of a summary.
+#[tactic(auto, using(crate::proofs::PackingLaws::whole))]
 fn schema_of<'p, R: Files + AllocGlobal, I: Read>(
     inputs: &mut Inputs<'_, R, I>,
     path: &'p str,
 ) -> Result<Schema, Problem<'p>>
-    ensures columns { IfOk result AreOfSummary }
-    ensures why { IfErr result (λ problem. IsWithoutColumns problem.why) }
+    ensures columns { IfOk result (AreOfSummary path.entry.now (unread I.remaining inputs.old.reader.now)) }
+    ensures others { is_stream path.entry.now ≡ false → inputs.new.reader.now ≡ inputs.old.reader.now }
+    ensures why { IfErr result (λ problem. IsWithoutColumns path.entry.now (unread I.remaining inputs.old.reader.now) problem.why) }
 {
     let alloc = inputs.rt.alloc();
     let file = inputs.read(path)?;
@@ -88,6 +91,21 @@ fn empty<'p>(alloc: Global, path: &'p str) -> Problem<'p>
     )
 }
 
+/// The columns of a summary, and then the bytes of a plain CSV.
+fn read_both<'p, R: Files + AllocGlobal, I: Read>(
+    inputs: &mut Inputs<'_, R, I>,
+    words: Words<'p>,
+) -> Result<(Schema, Vec<u8>), Problem<'p>>
+    ensures columns { IfOk result (λ both. AreOfSummary words.entry.summary.now (unread I.remaining inputs.old.reader.now) both.0) }
+    ensures csv { IfOk result (λ both. IsGivenCsv words.entry (unread I.remaining inputs.old.reader.now) both.1.items) }
+    ensures why { IfErr result (λ problem. IsWithoutColumns words.entry.summary.now (unread I.remaining inputs.old.reader.now)
+        problem.why) }
+{
+    let schema = schema_of(inputs, words.summary)?;
+    let csv = inputs.read(words.csv)?;
+    Ok((schema, csv))
+}
+
 /// Whether the last line of a CSV has no end.
 fn is_cut(csv: &[u8]) -> bool {
     !csv.is_empty() && !matches!(csv.last(), Some(b'\n' | b'\r'))
@@ -103,12 +121,13 @@ fn pack<'p, R: Files + AllocGlobal, I: Read>(
 ) -> Result<(Vec<u8>, bool), Problem<'p>>
     requires origin { origin ≤ LAST_ORIGIN }
     requires number { 1 ≤ number }
-    ensures packed { IfOk result (λ made. IsPacked layout.entry words.entry.allows_empty origin number made.0.items) }
-    ensures why { IfErr result (λ problem. IsNotPacked layout.entry words.entry.allows_empty origin number problem.why) }
+    ensures packed { IfOk result (λ made. IsPacked words.entry (unread I.remaining inputs.old.reader.now) layout.entry origin number
+        made.0.items) }
+    ensures why { IfErr result (λ problem. IsNotPacked words.entry (unread I.remaining inputs.old.reader.now) layout.entry origin number
+        problem.why) }
 {
     let alloc = inputs.rt.alloc();
-    let schema = schema_of(inputs, words.summary)?;
-    let csv = inputs.read(words.csv)?;
+    let (schema, csv) = read_both(inputs, words)?;
     if csv.is_empty() && !layout.has_header && !words.allows_empty {
         return Err(empty(alloc, words.csv));
     }
@@ -157,9 +176,10 @@ fn write_packed<R: Files + AllocGlobal, I: Read, W: Write, E: Write>(
     streams: &mut Streams<'_, W, E>,
 ) -> ExitKind
     ensures done { result ≡ Done → (layout : Layout) × (origin number : ℕ) × (file : List ℕ) × IsLayoutOf words.entry layout
-        × IsHeadOf words.entry origin number × IsPacked layout words.entry.allows_empty origin number file
+        × IsHeadOf words.entry origin number
+        × IsPacked words.entry (unread I.remaining inputs.entry.reader.now) layout origin number file
         × Appends (written W.contents streams.old.writer.now) (written W.contents streams.new.writer.now) file }
-    ensures stopped { result ≢ Done → result ≢ Fault → StopsPacking words.entry result
+    ensures stopped { result ≢ Done → result ≢ Fault → StopsPacking words.entry (unread I.remaining inputs.entry.reader.now) result
         (written W.contents streams.old.writer.now) (written W.contents streams.new.writer.now) }
 {
     let alloc = inputs.rt.alloc();
@@ -192,9 +212,9 @@ pub fn run_pack<R: Files + AllocGlobal, I: Read, W: Write, E: Write>(
     matches: &ArgMatches<'_>,
     streams: &mut Streams<'_, W, E>,
 ) -> ExitKind
-    ensures done { result ≡ Done → (file : List ℕ) × IsPackedAsTold matches.now file
+    ensures done { result ≡ Done → (file : List ℕ) × IsPackedAsTold matches.now (unread I.remaining inputs.entry.reader.now) file
         × Appends (written W.contents streams.old.writer.now) (written W.contents streams.new.writer.now) file }
-    ensures stopped { result ≢ Done → result ≢ Fault → StopsAsTold matches.now result
+    ensures stopped { result ≢ Done → result ≢ Fault → StopsAsTold matches.now (unread I.remaining inputs.entry.reader.now) result
         (written W.contents streams.old.writer.now) (written W.contents streams.new.writer.now) }
 {
     write_packed(inputs, words_of(matches), streams)

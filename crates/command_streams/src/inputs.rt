@@ -1,6 +1,6 @@
 //! The files that a command reads, of which `-` is standard input.
 
-ghost use Rattle.std.specs.Prelude.{◌≡◌, ◌≤◌, ℕ, IfOk, IfErr, true, length};
+ghost use Rattle.std.specs.Prelude.{◌≡◌, ◌≤◌, ℕ, IfOk, IfErr, true, false, length};
 ghost use Rattle.std.specs.Io.KnownBytes.{Consumes, IsAtEnd};
 ghost use Rattle.grouping_model.specs.declared.limits.TheConstants.{MAX_INPUT_LEN};
 ghost use Rattle.script_io.specs.Fused.{has_failed, unread};
@@ -85,6 +85,7 @@ impl<R: Files + AllocGlobal, I: Read> Inputs<'_, R, I> {
         ensures standard { is_stream path.entry.now ≡ true → IfOk result (λ bytes.
             Consumes (unread I.remaining self.old.reader.now) (unread I.remaining self.new.reader.now) bytes.items
             × IsAtEnd (unread I.remaining self.new.reader.now)) }
+        ensures others { is_stream path.entry.now ≡ false → self.new.reader.now ≡ self.old.reader.now }
         ensures why { IfErr result (λ problem. IsUnread problem.why) }
         ensures stopped { is_stream path.entry.now ≡ true → IfErr result (λ problem.
             StopsInput (unread I.remaining self.old.reader.now) (unread I.remaining self.new.reader.now)
