@@ -48,10 +48,7 @@ pub(crate) static NEW: [Argument; 7] = [
     Value(COLUMNS_FILE, "FILE", "The file of SCHEMA"),
     Value(QUERY, "TEXT", "The query that the summary answers"),
     Value(QUERY_FILE, "FILE", "The file of TEXT"),
-    Flag(
-        NO_CLOBBER,
-        "Keeps an existing OUT that is not among the files read",
-    ),
+    Flag(NO_CLOBBER, "Keeps an existing OUT"),
     Flag(FORCE, "Replaces a file OUT that is not a summary"),
 ];
 

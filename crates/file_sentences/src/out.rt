@@ -84,9 +84,9 @@ impl FrontKind {
 /// What happens to an existing OUT.
 #[derive(Clone, Copy, PartialEq, Eq)]
 pub enum Fate {
-    /// It is not among the files read, and is kept, as the command was told.
+    /// It is not among the summaries and batch files read, and is kept, as the command was told.
     Kept,
-    /// It is not among the files read, and will be replaced.
+    /// It is not among the summaries and batch files read, and will be replaced.
     Replaced,
     /// It is not a summary, and is kept.
     Spared(FrontKind),
@@ -118,7 +118,7 @@ impl fmt::Display for Standing<'_> {
         match self.fate {
             Fate::Kept => write!(
                 f,
-                "{out} exists and is not an input: --no-clobber keeps it; nothing was read or written"
+                "{out} exists: --no-clobber keeps it; nothing was read or written"
             ),
             Fate::Replaced => write!(
                 f,
