@@ -1,11 +1,9 @@
 -- Files that are taken one after the other.
-use Rattle.std.specs.Prelude.{◌≡◌, ◌≢◌, refl, ◌+◌, ◌^◌, ◌<◌, ℕ, suc, Bool, List, [], ◌∷◌, ◌++◌, length, map, Option, Some}
-use Rattle.std.specs.Prelude.{Result, Ok, Err, OnOk}
-use Rattle.std.specs.Io.KnownBytes.{Appends}
+use Rattle.std.specs.Prelude.{◌≡◌, ◌≢◌, refl, ◌+◌, ◌^◌, ◌<◌, ℕ, suc, Bool, List, [], ◌∷◌, ◌++◌, length, Option, Some}
+use Rattle.std.specs.Prelude.{Result, Ok, Err, IfErr, OnOk}
 use Rattle.std.specs.Result.{is_err}
-use Rattle.std.proofs.Common.{◌∙◌, ap, sym, subst, arith}
-use Rattle.std.proofs.KnownBytes.{Appends-nil, Appends-trans}
-use Rattle.std.proofs.lemmas.List.{length-append, length-map}
+use Rattle.std.proofs.Common.{◌∙◌, ap, inl, inr, sym, subst, arith}
+use Rattle.std.proofs.lemmas.List.{length-append}
 use Rattle.std.proofs.lemmas.List.Elements.{filter-append}
 use Rattle.script_io.specs.Fused.{written}
 use Rattle.tape_disks.specs.Files.{SystemState}
@@ -17,14 +15,17 @@ use Rattle.replies.specs.declared.ending.ExitKind.TheVariants.{Fault}
 use Rattle.replies.specs.declared.refusal.Refusal.{Refusal}
 use Rattle.replies.specs.declared.reply.Reply.{Reply}
 use Rattle.replies.specs.declared.reply.Reply.TheVariants.{Refused}
+use Rattle.command_replicas.specs.Commands.{IsTooLong}
 use Rattle.file_sentences.specs.declared.reasons.FileKind.{FileKind}
 use Rattle.command_streams.specs.Disks.{is_in_memory}
 use Rattle.command_streams.specs.Stopping.{ending_of}
-use Rattle.command_files.specs.Reporting.{output_of, replies_on_output, reply_on_output, OnlySays, Prints, RepliesFew}
+use Rattle.command_streams.specs.declared.problem.Problem.{Problem}
+use Rattle.command_files.specs.Causes.{IsUnsaved, RefusesOut, StopsAtOut}
+use Rattle.command_files.specs.Reporting.{output_of, reply_on_output, OnlySays, Prints}
 use Rattle.command_files.specs.Taking.{Takes, TakesFile, RanFile, TakenFile, CommandState, Manner, TakesOne, TakesEach, TakesAll}
-use Rattle.command_files.specs.Taking.{manner_of, reply_to, state_of, refused_of}
+use Rattle.command_files.specs.Taking.{manner_of, state_of, refused_of, StopsAt}
 use Rattle.command_files.specs.declared.reporter.Reporter.{Reporter}
-use Rattle.command_files.proofs.ReportingLaws.{replied_behind}
+use Rattle.command_files.proofs.ReportingLaws.{replied_behind, says_more}
 
 -- a refusal that is told as it was
 pub told_as : (kind : FileKind) (honest : Bool) (file : List ℕ) (old new : Held) (why told : Refusal) → told ≡ why
@@ -172,30 +173,58 @@ takes_none_yet contents manner place held disk work start mid passed says =
     subst (λ w. TakesAll manner place 0 (state_of held disk work (output_of contents start)) (state_of held disk work (written contents w))
     passed passed) (sym says.output) (takes_none manner place (state_of held disk work (output_of contents start)) passed)
 
--- each file that was taken has its reply
-replies_each : {F H : Type 0} (manner : Manner H) (place : ℕ) (files : List TakenFile) (old new : CommandState F)
-    → TakesEach manner place files old new
-    → Appends old.output new.output (replies_on_output manner.is_piped (map (λ file. reply_to file.told) files))
-replies_each {F} manner place [] old new same =
-    subst (λ (state : CommandState F). Appends old.output state.output []) (sym same) (Appends-nil old.output)
-replies_each manner place (file ∷ files) old new (mid, takes, rest) =
-    Appends-trans old.output mid.output new.output _ _ takes.replied (replies_each manner (place + 1) files mid new rest)
+-- ---- commands that stop at a file, or behind the last
 
--- so many files were taken, and nothing else was written
-pub replies_taken : {F H W E : Type 0} (contents : W → Option (List ℕ)) (manner : Manner H) (place count : ℕ) (held held_now : Held)
-    (disk disk_now : SpillDisk (SystemState F)) (work work_now : Work) (passed now : ℕ) (old new : Reporter W E)
-    → TakesAll manner place count (state_of held disk work (output_of contents old))
-    (state_of held_now disk_now work_now (output_of contents new)) passed now → old.is_piped ≡ manner.is_piped
-    → new.is_piped ≡ old.is_piped → RepliesFew contents count old new
-replies_taken contents manner place count held held_now disk disk_now work work_now passed now old new takes piped same =
-    let replies = map (λ (file : TakenFile). reply_to file.told) takes.files in
-    let long = length-map takes.files (λ (file : TakenFile). reply_to file.told) in record {
-      replies = replies;
-      few = omega (arith, long, takes.many);
-      printed = record {
-        output = subst (λ p. Appends (output_of contents old) (output_of contents new) (replies_on_output p replies)) (sym piped)
-            (replies_each manner place takes.files (state_of held disk work (output_of contents old))
-            (state_of held_now disk_now work_now (output_of contents new)) takes.each);
-        piped = same;
-      };
-    }
+-- a file that is OUT was refused, and nothing was written
+pub refuses_out : {F H W E A : Type 0} (kind : FileKind) (means : MeansState H) (place : ℕ) (file : Option (List ℕ)) (why : Refusal)
+    (held held_now : Held) (disk : SpillDisk (SystemState F)) (start mid end : Reporter W E) (listed listed_now : Option ℕ)
+    (passed : Result A Problem) → TakesFile kind (is_in_memory disk) file held held_now (Err why) → OnlySays start mid
+    → listed_now ≡ listed → IfErr passed (λ stopped. StopsAt listed_now place stopped.why)
+    → IfErr passed (λ stopped. ending_of stopped.why ≢ Fault → (stopped.why ≡ why) × OnlySays mid end)
+    → IfErr passed (λ stopped. ending_of stopped.why ≢ Fault
+    → RefusesOut (manner_of kind means disk start.is_piped listed) place held stopped.why × OnlySays start end)
+refuses_out kind means place file why held held_now disk start mid end listed listed_now (Ok done) takes says same stops cause = tt
+refuses_out kind means place file why held held_now disk start mid end listed listed_now (Err stopped) takes says same (inl fault) cause =
+    λ sound. absurd (sound fault)
+refuses_out kind means place file why held held_now disk start mid end listed listed_now (Err stopped) takes says same (inr is_out) cause =
+    λ sound. let found = cause sound in (
+      (sym same ∙ is_out, file, held_now, subst (λ w. TakesFile kind (is_in_memory disk) file held held_now (Err w)) (sym found.0) takes),
+      says_more start mid end says found.1,
+    )
+
+-- by a manner that is the same
+pub refuses_as : {F H : Type 0} (kind : FileKind) (means : MeansState H) (disk first : SpillDisk (SystemState F)) (piped was_piped : Bool)
+    (listed was_listed : Option ℕ) (place : ℕ) (held : Held) (why : Refusal) → is_in_memory disk ≡ is_in_memory first
+    → listed ≡ was_listed → RefusesOut (manner_of kind means disk piped listed) place held why
+    → RefusesOut (manner_of kind means first was_piped was_listed) place held why
+refuses_as kind means disk first piped was_piped listed was_listed place held why same_disk same_listed (is_out, file, new, refused) =
+    (sym same_listed ∙ is_out, file, new, subst (λ h. TakesFile kind h file held new (Err why)) same_disk refused)
+
+-- and that was behind others that were taken
+pub stops_at : {F H W E : Type 0} (contents : W → Option (List ℕ)) (manner : Manner H) (count before place : ℕ) (old : CommandState F)
+    (held : Held) (disk : SpillDisk (SystemState F)) (work : Work) (passed passed_now : ℕ) (taken new : Reporter W E) (why : Refusal)
+    → TakesAll manner 1 before old (state_of held disk work (output_of contents taken)) passed passed_now → before < count
+    → place ≡ before + 1 → RefusesOut manner place held why → OnlySays taken new
+    → StopsAtOut manner count old passed (output_of contents new) why
+stops_at contents manner count before place old held disk work passed passed_now taken new why takes few same refuses says = record {
+  before = before;
+  mid = state_of held disk work (output_of contents taken);
+  passed_now = passed_now;
+  few = few;
+  takes = takes;
+  refuses = subst (λ n. RefusesOut manner n held why) same refuses;
+  kept = ap (written contents) says.output;
+}
+
+-- or all were taken, and the replica was not saved
+pub stops_behind : {F H W E : Type 0} (contents : W → Option (List ℕ)) (manner : Manner H) (count : ℕ) (old : CommandState F)
+    (held : Held) (disk : SpillDisk (SystemState F)) (work : Work) (passed passed_now : ℕ) (taken new : Reporter W E) (why : Refusal)
+    → TakesAll manner 1 count old (state_of held disk work (output_of contents taken)) passed passed_now → IsTooLong held why
+    → OnlySays taken new → IsUnsaved manner count old passed (output_of contents new) why
+stops_behind contents manner count old held disk work passed passed_now taken new why takes long says = record {
+  mid = state_of held disk work (output_of contents taken);
+  passed_now = passed_now;
+  takes = takes;
+  long = long;
+  kept = ap (written contents) says.output;
+}

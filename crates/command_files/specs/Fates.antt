@@ -46,6 +46,6 @@ abbrev pub is_stopped : {E : Type 0} → Result (Option Standing) E → Bool
 is_stopped (Ok (Some standing)) = stops standing.fate
 is_stopped looked = false
 
--- a command line tells to keep a file in the place of OUT, if the command does not read it
+-- a command line tells to keep a file in the place of OUT, if it is no summary or batch file that the command reads
 abbrev pub KeepsFiles : ArgMatches → Type 0
 KeepsFiles matches = is_flag_told matches (codes "no-clobber") ≡ true

@@ -6,3 +6,4 @@ pub mod Formats
 pub mod Reporting
 pub mod Ending
 pub mod Running
+pub mod Causes

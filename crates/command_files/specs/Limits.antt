@@ -11,7 +11,11 @@ abbrev pub limit_of : Option (List ℕ) → Option ℕ
 limit_of None = Some DEFAULT_LIMIT
 limit_of (Some text) = bytes_told text
 
+-- a number is out of range for a limit, and refused as that
+abbrev pub IsOutOfRange : (limit : ℕ) → Refusal → Type 0
+IsOutOfRange limit why = (why ≡ limit_out_of_range) × ((limit < MIN_LIMIT) ⊎ (MAX_LIMIT < limit))
+
 -- why a limit is refused: it is no number of bytes, or it is out of range
 abbrev pub IsNoLimit : Option ℕ → Refusal → Type 0
 IsNoLimit None why = why ≡ BadCommand
-IsNoLimit (Some limit) why = (why ≡ limit_out_of_range) × ((limit < MIN_LIMIT) ⊎ (MAX_LIMIT < limit))
+IsNoLimit (Some limit) why = IsOutOfRange limit why

@@ -1,5 +1,5 @@
 -- What a running command writes to standard output. All of this is our own.
-use Rattle.std.specs.Prelude.{◌≡◌, ◌≢◌, ◌≤◌, Bool, true, false, ℕ, List, [], ◌++◌, flat_map, length, Option}
+use Rattle.std.specs.Prelude.{◌≡◌, ◌≢◌, ◌≤◌, Bool, true, false, ℕ, List, [], ◌++◌, length, Option}
 use Rattle.std.specs.Io.KnownBytes.{Appends}
 use Rattle.script_io.specs.Fused.{written}
 use Rattle.summary_codec.specs.Reading.{IsSaved}
@@ -37,33 +37,15 @@ abbrev pub reply_on_output : (is_piped : Bool) → Reply → List ℕ
 reply_on_output true reply = []
 reply_on_output false reply = said_text reply
 
--- and of replies, one after the other
-abbrev pub replies_on_output : (is_piped : Bool) → List Reply → List ℕ
-replies_on_output is_piped replies = flat_map (reply_on_output is_piped) replies
-
 -- what standard output gets of a summary file: all of it, where OUT is standard output
 abbrev pub file_on_output : (is_piped : Bool) → (file : List ℕ) → List ℕ
 file_on_output true file = file
 file_on_output false file = []
 
--- some replies were written, at most so many, and nothing else
-pub record RepliesFew {W E : Type 0} (contents : W → Option (List ℕ)) (most : ℕ) (old new : Reporter W E) : Type 0 where
-  pub replies : List Reply
-  pub few : length replies ≤ most
-  pub printed : Prints contents old new (replies_on_output old.is_piped replies)
-
 -- the reply was written that a command was refused, which ends as its refusal tells
 pub record StopsBy {W E : Type 0} (contents : W → Option (List ℕ)) (why : Refusal) (exit : ExitKind) (old new : Reporter W E) : Type 0 where
   pub ended : exit ≡ ending_of why
   pub printed : Prints contents old new (reply_on_output old.is_piped (Refused why))
-
--- and that was behind replies to files
-pub record RefusedAfter {W E : Type 0} (contents : W → Option (List ℕ)) (most : ℕ) (exit : ExitKind) (old new : Reporter W E) : Type 0
-  where
-    pub mid : Reporter W E
-    pub why : Refusal
-    pub replied : RepliesFew contents most old mid
-    pub stops : StopsBy contents why exit mid new
 
 -- a replica was saved: its file, where OUT is standard output, and else the reply that says how long the file is
 pub record Saves {W E : Type 0} (contents : W → Option (List ℕ)) (held : Held) (old new : Reporter W E) : Type 0 where

@@ -1,6 +1,6 @@
 -- What a command on files does, from the replica that it begins with to what it prints. All of this is our own.
-use Rattle.std.specs.Prelude.{◌≡◌, ◌⊎◌, ◌-◌, ◌≤◌, ℕ, Bool, List, ◌++◌, length, codes, Option, Some, None, is_none, IsSome}
-use Rattle.std.specs.Io.KnownBytes.{Appends, Keeps}
+use Rattle.std.specs.Prelude.{◌≡◌, ◌-◌, ◌≤◌, ℕ, Bool, List, ◌++◌, length, codes, Option, Some, is_none}
+use Rattle.std.specs.Io.KnownBytes.{Appends}
 use Rattle.clap.specs.declared.parser.matches.ArgMatches.{ArgMatches}
 use Rattle.grouping_model.specs.Replies.{known_list}
 use Rattle.grouping_model.specs.declared.limits.TheConstants.{MAX_INPUT_LEN}
@@ -14,11 +14,7 @@ use Rattle.summary_codec.specs.Reading.{IsSaved}
 use Rattle.replica_merge.specs.Replicas.{Held, told}
 use Rattle.replica_merge.specs.Results.{IsLoaded}
 use Rattle.replies.specs.KnownTables.{known_in}
-use Rattle.replies.specs.declared.ending.ExitKind.{ExitKind}
-use Rattle.replies.specs.declared.ending.ExitKind.TheVariants.{BadUsage}
-use Rattle.replies.specs.declared.refusal.Refusal.{Refusal}
-use Rattle.replies.specs.declared.reply.Reply.{Reply}
-use Rattle.replies.specs.declared.reply.Reply.TheVariants.{Refused, Saved}
+use Rattle.replies.specs.declared.reply.Reply.TheVariants.{Saved}
 use Rattle.replies.specs.Printed.{PrintsAnswer}
 use Rattle.replies.specs.declared.showing.Format.{Format}
 use Rattle.command_replicas.specs.Commands.{IsNew}
@@ -26,15 +22,13 @@ use Rattle.holding_sentences.specs.Waiting.{waiting}
 use Rattle.file_sentences.specs.declared.reasons.FileKind.{FileKind}
 use Rattle.file_sentences.specs.declared.reasons.FileKind.TheVariants.{Batch, Summary}
 use Rattle.command_streams.specs.Disks.{is_in_memory}
-use Rattle.command_streams.specs.Stopping.{ending_of}
-use Rattle.command_words.specs.Told.{is_out_stream, limit_told, out_told, spill_told, value_told, values_told}
+use Rattle.command_words.specs.Told.{is_out_stream, limit_told, spill_told, value_told, values_told}
 use Rattle.command_words.specs.declared.subcommands.Subcommand.{Subcommand}
 use Rattle.command_words.specs.declared.subcommands.Subcommand.TheVariants.{New, Feed, Merge, Known, Answer}
-use Rattle.command_files.specs.Ending.{ending_beside, lacking}
-use Rattle.command_files.specs.Fates.{IsUnforced, KeepsFiles}
+use Rattle.command_files.specs.Ending.{lacking}
 use Rattle.command_files.specs.Formats.{format_told, known_format_told}
 use Rattle.command_files.specs.Limits.{limit_of}
-use Rattle.command_files.specs.Reporting.{file_on_output, output_of, replies_on_output, reply_on_output, IsFoot}
+use Rattle.command_files.specs.Reporting.{file_on_output, output_of, reply_on_output, IsFoot}
 use Rattle.command_files.specs.Texts.{AreTextsTold}
 use Rattle.command_files.specs.Taking.{CommandState, Manner, TakesAll, manner_of, state_of}
 use Rattle.command_files.specs.declared.reporter.Reporter.{Reporter}
@@ -156,30 +150,6 @@ pub record IsDone (F : Type 0) (subcommand : Subcommand) (matches : ArgMatches) 
   pub stands : StandsAsTold subcommand matches from
   pub begun : from.output ≡ old
   pub runs : RunsCommand subcommand matches means from passed new
-
--- a command was refused: standard output got replies to some of the files that it takes, and the reply that says so, and nothing else
-pub record IsRefused (subcommand : Subcommand) (matches : ArgMatches) (exit : ExitKind) (old new : Option (List ℕ)) : Type 0 where
-  pub replies : List Reply
-  pub why : Refusal
-  pub few : length replies ≤ files_told subcommand matches
-  pub ended : exit ≡ ending_of why
-  pub printed : Appends old new
-      (replies_on_output (is_out_stream subcommand matches) replies ++ reply_on_output (is_out_stream subcommand matches) (Refused why))
-
--- a command may have an OUT that stays: it is told to keep a file there, or not forced to write a foreign one or a terminal
-abbrev pub MayStay : Subcommand → ArgMatches → Type 0
-MayStay subcommand matches = IsSome (out_told subcommand matches) × (KeepsFiles matches ⊎ IsUnforced matches)
-
--- the limit that it tells is no number of bytes, or its OUT stays. Standard output got nothing
-abbrev pub IsMisused : Subcommand → ArgMatches → (exit : ExitKind) → (old new : Option (List ℕ)) → Type 0
-IsMisused subcommand matches exit old new =
-    (exit ≡ BadUsage) × Keeps old new × ((limit_of (limit_told subcommand matches) ≡ None) ⊎ MayStay subcommand matches)
-
--- a command did its work, but for files that it passed over, or it stopped
-abbrev pub IsDoneOrStopped : (F : Type 0) → Subcommand → ArgMatches → (exit : ExitKind) → (old new : Option (List ℕ)) → Type 0
-IsDoneOrStopped F subcommand matches exit old new =
-    ((passed : ℕ) × (exit ≡ ending_beside passed) × IsDone F subcommand matches passed old new)
-    ⊎ IsRefused subcommand matches exit old new ⊎ IsMisused subcommand matches exit old new
 
 -- what standard output holds in a session, if that is known
 abbrev pub session_output : {R I W E A B : Type 0} → (W → Option (List ℕ)) → Session R I W E A B → Option (List ℕ)

@@ -1,5 +1,9 @@
 //! The files that a command reads and writes.
 
+ghost use Rattle.std.specs.Prelude.{◌≡◌, ◌⊎◌, IfErr};
+ghost use Rattle.replies.specs.declared.refusal.Refusal.TheVariants.{NoMemory, Run};
+ghost use Rattle.command_files.specs.Causes.{IsFailure};
+
 use clap::ArgMatches;
 use command_replicas::SummaryFile;
 use command_streams::Problem;
@@ -15,7 +19,9 @@ use std::io::ErrorKind;
 use std::rt::Files;
 
 /// A fault of a file, or `NoMemory` where the system says that it has none.
-fn fault_of(path: &str, error: RunError, cause: io::Error) -> Problem<'_> {
+fn fault_of(path: &str, error: RunError, cause: io::Error) -> Problem<'_>
+    ensures { (result.why ≡ NoMemory) ⊎ (result.why ≡ Run error) }
+{
     if cause.kind() == ErrorKind::OutOfMemory {
         Problem::refused(path, Refusal::NoMemory)
     } else {
@@ -33,7 +39,9 @@ pub(crate) fn occupant_of_out<'p, R: Files + AllocGlobal>(
     subcommand: Subcommand,
     matches: &ArgMatches<'p>,
     out: &'p str,
-) -> Result<Occupant, Problem<'p>> {
+) -> Result<Occupant, Problem<'p>>
+    ensures why { IfErr result (λ problem. IsFailure problem.why) }
+{
     let Ok(mut paths) = subcommand.files_read(rt.alloc(), matches) else {
         return Err(Problem::refused(out, Refusal::NoMemory));
     };
@@ -49,7 +57,9 @@ pub(crate) fn occupant_of_out<'p, R: Files + AllocGlobal>(
 }
 
 /// What the first bytes of a file tell of it.
-pub(crate) fn front_kind<'p, R: Files>(rt: &R, path: &'p str) -> Result<FrontKind, Problem<'p>> {
+pub(crate) fn front_kind<'p, R: Files>(rt: &R, path: &'p str) -> Result<FrontKind, Problem<'p>>
+    ensures why { IfErr result (λ problem. IsFailure problem.why) }
+{
     let mut front = [0u8; FRONT_BYTES];
     match front_of(rt, path, &mut front) {
         Ok(count) => Ok(FrontKind::of_front(front.get(..count).unwrap_or_default())),
@@ -64,7 +74,9 @@ pub(crate) fn try_files<'p, R: Files + AllocGlobal>(
     subcommand: Subcommand,
     matches: &ArgMatches<'p>,
     out: &'p str,
-) -> Result<Place, Problem<'p>> {
+) -> Result<Place, Problem<'p>>
+    ensures why { IfErr result (λ problem. IsFailure problem.why) }
+{
     let Ok(paths) = subcommand.files_read(rt.alloc(), matches) else {
         return Err(Problem::refused(out, Refusal::NoMemory));
     };
@@ -86,7 +98,9 @@ pub(crate) fn try_files<'p, R: Files + AllocGlobal>(
 }
 
 /// That OUT was not written.
-fn unwritten<'p, R: AllocGlobal>(rt: &R, path: &'p str, why: Unwritten) -> Problem<'p> {
+fn unwritten<'p, R: AllocGlobal>(rt: &R, path: &'p str, why: Unwritten) -> Problem<'p>
+    ensures { IsFailure result.why }
+{
     match why {
         Unwritten::Failed(cause) => fault_of(path, RunError::WriteFault, cause),
         Unwritten::Changed => {
@@ -107,7 +121,9 @@ pub(crate) fn write_out<'p, R: Files + AllocGlobal>(
     file: &SummaryFile,
     is_new: bool,
     old: Option<&[u8]>,
-) -> Result<Place, Problem<'p>> {
+) -> Result<Place, Problem<'p>>
+    ensures why { IfErr result (λ problem. IsFailure problem.why) }
+{
     let written = if is_new {
         match write_new_file(rt, path, file.bytes()) {
             Ok(()) => Ok(Place::Beside),

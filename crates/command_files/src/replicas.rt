@@ -9,10 +9,12 @@ ghost use Rattle.replica_merge.specs.Results.{IsLoaded};
 ghost use Rattle.replies.specs.declared.refusal.Refusal.TheVariants.{NoMemory};
 ghost use Rattle.command_replicas.specs.Commands.{IsNew, IsNotNew, IsNoSummary, IsTooLong};
 ghost use Rattle.command_words.specs.Streams.{is_stream};
+ghost use Rattle.command_words.specs.declared.subcommands.Subcommand.TheVariants.{New};
 ghost use Rattle.command_streams.specs.Inputs.{IsUnread};
 ghost use Rattle.key_hashes.specs.Hashes.{fnv_1a};
 ghost use Rattle.hash_agg.specs.Ran.{Ran};
 ghost use Rattle.replies.specs.Refusals.{refusal_ended};
+ghost use Rattle.command_files.specs.Causes.{HasNoReplica};
 ghost use Rattle.command_files.specs.Running.{IsNewAsTold};
 ghost use Rattle.command_files.specs.Taking.{Takes, TakeIsCounted};
 
@@ -93,6 +95,7 @@ pub(crate) fn new_replica<'p, R: Files + AllocGlobal, I: Read>(
     matches: &ArgMatches<'p>,
 ) -> Result<Replica, Problem<'p>>
     ensures made { IfOk result (IsNewAsTold matches.now) }
+    ensures why { IfErr result (λ problem. HasNoReplica New matches.now problem.why) }
 {
     let columns = read_text(inputs, matches, COLUMNS_TEXT)?;
     let query = read_text(inputs, matches, QUERY_TEXT)?;

@@ -1,27 +1,29 @@
 //! The commands on files.
 
-ghost use Rattle.std.specs.Prelude.{◌≡◌, ◌≢◌, ◌⊎◌, ◌+◌, ◌-◌, ◌^◌, ◌<◌, ◌≤◌, ℕ, true, false, List, Option, Some, codes, length};
-ghost use Rattle.std.specs.Prelude.{is_none, Ok, IfNone, IfSome, IfOk, IfErr, OnOk};
+ghost use Rattle.std.specs.Prelude.{◌≡◌, ◌≢◌, ◌⊎◌, ◌+◌, ◌-◌, ◌^◌, ◌<◌, ℕ, true, false, List, Option, Some, codes, length};
+ghost use Rattle.std.specs.Prelude.{Ok, IfNone, IfSome, IfOk, IfErr, OnOk};
 ghost use Rattle.grouping_model.specs.Replies.{known_list};
 ghost use Rattle.replica_merge.specs.Replicas.{told};
 ghost use Rattle.hash_agg.specs.Means.{AreMeans};
 ghost use Rattle.script_io.specs.Fused.{written};
 ghost use Rattle.replies.specs.KnownTables.{known_in};
 ghost use Rattle.replies.specs.declared.ending.ExitKind.TheVariants.{BadUsage, Done, Fault};
-ghost use Rattle.replies.specs.declared.refusal.Refusal.TheVariants.{BadCommand};
+ghost use Rattle.replies.specs.declared.refusal.Refusal.TheVariants.{BadCommand, NoMemory};
 ghost use Rattle.replies.specs.declared.reply.Reply.TheVariants.{Refused};
+ghost use Rattle.command_replicas.specs.Commands.{IsTooLong};
 ghost use Rattle.command_streams.specs.Disks.{is_in_memory};
 ghost use Rattle.command_streams.specs.Stopping.{ending_of, EndsRefused};
-ghost use Rattle.command_words.specs.Told.{is_flag_told, is_out_stream, limit_told, spill_told, values_told};
+ghost use Rattle.command_words.specs.Told.{is_flag_told, is_out_stream, limit_told, values_told};
+ghost use Rattle.command_files.specs.Causes.{HasNoReplica, IsDoneOrStopped, IsFailure, IsRefusedFor, RefusesOut, StopsCommand};
+ghost use Rattle.command_files.specs.Causes.{StopsAtOut, StopsTaking, StopsWork};
 ghost use Rattle.command_files.specs.Ending.{ending_beside, lacking, lacking_of};
 ghost use Rattle.file_sentences.specs.Standing.{stops};
 ghost use Rattle.command_files.specs.Fates.{is_stopped, IsUnforced};
 ghost use Rattle.command_files.specs.Formats.{format_told, known_format_told};
 ghost use Rattle.command_files.specs.Limits.{limit_of};
-ghost use Rattle.command_files.specs.Reporting.{output_of, file_on_output, reply_on_output, OnlySays, Prints, PrintsTable, RefusedAfter};
-ghost use Rattle.command_files.specs.Reporting.{RepliesFew, Saves, StopsBy};
-ghost use Rattle.command_files.specs.Running.{files_told, format_name, session_failed, session_output, session_shown, standpoint_of};
-ghost use Rattle.command_files.specs.Running.{BeginsWith, IsDone, IsDoneOrStopped, Performs, RunsCommand, StandsAsTold, TakesAndSaves};
+ghost use Rattle.command_files.specs.Reporting.{output_of, file_on_output, reply_on_output, OnlySays, Prints, PrintsTable, Saves, StopsBy};
+ghost use Rattle.command_files.specs.Running.{format_name, session_failed, session_output, session_shown, standpoint_of};
+ghost use Rattle.command_files.specs.Running.{BeginsWith, IsDone, Performs, RunsCommand, StandsAsTold, TakesAndSaves};
 ghost use Rattle.command_files.specs.Taking.{manner_of, state_of, taken, RanFile, StopsAt, TakesFile, TakesAll};
 
 use crate::limit::{means_of, said_of_limit};
@@ -138,7 +140,9 @@ fn stopping<'p>(looked: &Result<Option<Standing<'p>>, Problem<'p>>) -> Option<St
 }
 
 /// That there was no memory for what the summary IN has.
-fn no_memory_for<'p>(matches: &ArgMatches<'p>) -> Problem<'p> {
+fn no_memory_for<'p>(matches: &ArgMatches<'p>) -> Problem<'p>
+    ensures { result.why ≡ NoMemory }
+{
     Problem::refused(input_name(value(matches, IN)), Refusal::NoMemory)
 }
 
@@ -194,7 +198,8 @@ impl<'c, R: Files + AllocGlobal + RandomSource, I: Read, W: Write, E: Write> Ses
         ensures disk { self.new.disk ≡ self.old.disk }
         ensures work { self.new.executor ≡ self.old.executor }
         ensures target { self.new.target ≡ self.old.target }
-        ensures unput { IfErr result (λ stopped. ending_of stopped.why ≢ Fault → OnlySays self.old.reporter self.new.reporter) }
+        ensures why { IfErr result (λ stopped. ending_of stopped.why ≢ Fault → (stopped.why ≡ problem.entry.why)
+            × OnlySays self.old.reporter self.new.reporter) }
     {
         if problem.is_fault() || self.target.is_at(place) {
             return Err(problem);
@@ -224,7 +229,8 @@ impl<'c, R: Files + AllocGlobal + RandomSource, I: Read, W: Write, E: Write> Ses
         ensures put { OnOk result (Prints W.contents self.old.reporter self.new.reporter
             (file_on_output self.old.reporter.is_piped file.now)) }
         ensures passed { self.new.passed ≡ self.old.passed }
-        ensures unput { IfErr result (λ problem. ending_of problem.why ≢ Fault → OnlySays self.old.reporter self.new.reporter) }
+        ensures why { IfErr result (λ problem. ending_of problem.why ≢ Fault → (problem.why ≡ NoMemory)
+            × OnlySays self.old.reporter self.new.reporter) }
     {
         if self.reporter.is_piped() {
             self.reporter.print_summary(file)?;
@@ -241,7 +247,8 @@ impl<'c, R: Files + AllocGlobal + RandomSource, I: Read, W: Write, E: Write> Ses
     fn save<'p>(&mut self, replica: &Replica, path: &'p str) -> Result<(), Problem<'p>>
         ensures saves { OnOk result (Saves W.contents replica.now self.old.reporter self.new.reporter) }
         ensures passed { self.new.passed ≡ self.old.passed }
-        ensures unput { IfErr result (λ problem. ending_of problem.why ≢ Fault → OnlySays self.old.reporter self.new.reporter) }
+        ensures why { IfErr result (λ problem. ending_of problem.why ≢ Fault → IsTooLong replica.now problem.why
+            × OnlySays self.old.reporter self.new.reporter) }
     {
         let file = summary_of(self.inputs.rt.alloc(), replica, path)?;
         self.put_file(&file, path)?;
@@ -319,11 +326,12 @@ impl<'c, R: Files + AllocGlobal + RandomSource, I: Read, W: Write, E: Write> Ses
             (state_of replica.old self.old.disk self.old.executor (output_of W.contents self.old.reporter))
             (state_of replica.new self.new.disk self.new.executor (output_of W.contents self.new.reporter))
             self.old.passed self.new.passed) }
-        ensures stops { IfErr result (λ stopped. StopsAt self.old.target.listed place stopped.why) }
         ensures disk { is_in_memory self.new.disk ≡ is_in_memory self.old.disk }
         ensures piped { OnOk result (self.new.reporter.is_piped ≡ self.old.reporter.is_piped) }
         ensures listed { self.new.target.listed ≡ self.old.target.listed }
-        ensures unput { IfErr result (λ stopped. ending_of stopped.why ≢ Fault → OnlySays self.old.reporter self.new.reporter) }
+        ensures why { IfErr result (λ stopped. ending_of stopped.why ≢ Fault → RefusesOut (manner_of kind means.now self.old.disk
+            self.old.reporter.is_piped self.old.target.listed) place replica.old stopped.why
+            × OnlySays self.old.reporter self.new.reporter) }
     {
         let reply = match self.take_file(kind, replica, path, place, means, spill) {
             Ok(reply) => reply,
@@ -347,11 +355,12 @@ impl<'c, R: Files + AllocGlobal + RandomSource, I: Read, W: Write, E: Write> Ses
             (state_of replica.old self.old.disk self.old.executor (output_of W.contents self.old.reporter))
             (state_of replica.new self.new.disk self.new.executor (output_of W.contents self.new.reporter))
             self.old.passed self.new.passed) }
-        ensures stops { IfErr result (λ stopped. (place : ℕ) × (place ≤ length paths.now)
-            × StopsAt self.old.target.listed place stopped.why) }
         ensures piped { OnOk result (self.new.reporter.is_piped ≡ self.old.reporter.is_piped) }
-        ensures unput { IfErr result (λ stopped. ending_of stopped.why ≢ Fault
-            → RepliesFew W.contents (length paths.now) self.old.reporter self.new.reporter) }
+        ensures why { IfErr result (λ stopped. ending_of stopped.why ≢ Fault
+            → (self.new.reporter.is_piped ≡ self.old.reporter.is_piped) × StopsAtOut (manner_of kind means.now self.old.disk
+            self.old.reporter.is_piped self.old.target.listed) (length paths.now)
+            (state_of replica.old self.old.disk self.old.executor (output_of W.contents self.old.reporter))
+            self.old.passed (output_of W.contents self.new.reporter) stopped.why) }
     {
         self.reporter.set_files(paths.len());
         let mut place: usize = 0;
@@ -402,7 +411,8 @@ impl<'c, R: Files + AllocGlobal + RandomSource, I: Read, W: Write, E: Write> Ses
         ensures listed { OnOk result (Prints W.contents self.old.reporter self.new.reporter
             (known_in format (known_list (told replica.now.parts)))) }
         ensures passed { self.new.passed ≡ self.old.passed }
-        ensures unput { IfErr result (λ problem. ending_of problem.why ≢ Fault → OnlySays self.old.reporter self.new.reporter) }
+        ensures why { IfErr result (λ problem. ending_of problem.why ≢ Fault → (problem.why ≡ NoMemory)
+            × OnlySays self.old.reporter self.new.reporter) }
     {
         let Ok(lines) = known_table(self.inputs.rt.alloc(), replica, format) else {
             return Err(no_memory_for(matches));
@@ -422,7 +432,8 @@ impl<'c, R: Files + AllocGlobal + RandomSource, I: Read, W: Write, E: Write> Ses
     ) -> Result<(), Problem<'p>>
         ensures answered { OnOk result (PrintsTable W.contents format replica.now self.old.reporter self.new.reporter) }
         ensures lacking { OnOk result (self.new.passed ≡ lacking matches.now replica.now) }
-        ensures unput { IfErr result (λ problem. ending_of problem.why ≢ Fault → OnlySays self.old.reporter self.new.reporter) }
+        ensures why { IfErr result (λ problem. ending_of problem.why ≢ Fault → (problem.why ≡ NoMemory)
+            × OnlySays self.old.reporter self.new.reporter) }
     {
         let alloc = self.inputs.rt.alloc();
         // Nothing is printed before there was memory for all.
@@ -452,8 +463,11 @@ impl<'c, R: Files + AllocGlobal + RandomSource, I: Read, W: Write, E: Write> Ses
             self.old.reporter.is_piped self.old.target.listed) (length paths.now) (state_of replica.old self.old.disk self.old.executor
             (output_of W.contents self.old.reporter))
             self.old.passed self.new.passed (output_of W.contents self.new.reporter)) }
-        ensures unput { IfErr result (λ problem. ending_of problem.why ≢ Fault
-            → RepliesFew W.contents (length paths.now) self.old.reporter self.new.reporter) }
+        ensures why { IfErr result (λ problem. ending_of problem.why ≢ Fault
+            → (self.new.reporter.is_piped ≡ self.old.reporter.is_piped) × StopsTaking (manner_of kind means.now self.old.disk
+            self.old.reporter.is_piped self.old.target.listed) (length paths.now)
+            (state_of replica.old self.old.disk self.old.executor (output_of W.contents self.old.reporter))
+            self.old.passed (output_of W.contents self.new.reporter) problem.why) }
     {
         let spill = subcommand.spill(matches);
         self.take_files(kind, replica, paths, means, spill)?;
@@ -474,8 +488,10 @@ impl<'c, R: Files + AllocGlobal + RandomSource, I: Read, W: Write, E: Write> Ses
         ensures performs { OnOk result (Performs subcommand matches.now means.now replica.old
             (standpoint_of W.contents self.old.disk self.old.executor self.old.target.listed self.old.passed self.old.reporter)
             self.new.passed (output_of W.contents self.new.reporter)) }
-        ensures unput { IfErr result (λ problem. ending_of problem.why ≢ Fault
-            → RepliesFew W.contents (files_told subcommand matches.now) self.old.reporter self.new.reporter) }
+        ensures why { IfErr result (λ problem. ending_of problem.why ≢ Fault
+            → (self.new.reporter.is_piped ≡ self.old.reporter.is_piped) × StopsWork subcommand matches.now means.now replica.old
+            (standpoint_of W.contents self.old.disk self.old.executor self.old.target.listed self.old.passed self.old.reporter)
+            (output_of W.contents self.new.reporter) problem.why) }
     {
         let is_told = is_flag_told(matches, EXPLAIN);
         match subcommand {
@@ -508,6 +524,7 @@ impl<'c, R: Files + AllocGlobal + RandomSource, I: Read, W: Write, E: Write> Ses
         matches: &ArgMatches<'p>,
     ) -> Result<Replica, Problem<'p>>
         ensures begins { IfOk result (BeginsWith subcommand matches.now) }
+        ensures why { IfErr result (λ problem. IsFailure problem.why ⊎ HasNoReplica subcommand matches.now problem.why) }
         ensures says { OnlySays self.old.reporter self.new.reporter }
         ensures disk { self.new.disk ≡ self.old.disk }
         ensures work { self.new.executor ≡ self.old.executor }
@@ -536,8 +553,10 @@ impl<'c, R: Files + AllocGlobal + RandomSource, I: Read, W: Write, E: Write> Ses
         ensures ran { OnOk result (RunsCommand subcommand matches.now means.now
             (standpoint_of W.contents self.old.disk self.old.executor self.old.target.listed self.old.passed self.old.reporter)
             self.new.passed (output_of W.contents self.new.reporter)) }
-        ensures unput { IfErr result (λ problem. ending_of problem.why ≢ Fault
-            → RepliesFew W.contents (files_told subcommand matches.now) self.old.reporter self.new.reporter) }
+        ensures why { IfErr result (λ problem. ending_of problem.why ≢ Fault
+            → (self.new.reporter.is_piped ≡ self.old.reporter.is_piped) × StopsCommand subcommand matches.now means.now
+            (standpoint_of W.contents self.old.disk self.old.executor self.old.target.listed self.old.passed self.old.reporter)
+            (output_of W.contents self.new.reporter) problem.why) }
     {
         let mut replica = self.first_replica(subcommand, matches)?;
         let done = self.perform(&mut replica, subcommand, matches, means);
@@ -585,7 +604,7 @@ impl<'c, R: Files + AllocGlobal + RandomSource, I: Read, W: Write, E: Write> Ses
         why: Refusal,
     ) -> ExitKind
         ensures ends { result ≢ Done }
-        ensures stops { result ≢ Fault → StopsBy W.contents why result self.old.reporter self.new.reporter
+        ensures stops { result ≢ Fault → ((why ≢ BadCommand) × StopsBy W.contents why result self.old.reporter self.new.reporter)
             ⊎ ((result ≡ BadUsage) × (why ≡ BadCommand) × OnlySays self.old.reporter self.new.reporter) }
     {
         let alloc = self.inputs.rt.alloc();
@@ -645,6 +664,7 @@ impl<'c, R: Files + AllocGlobal + RandomSource, I: Read, W: Write, E: Write> Ses
         matches: &ArgMatches<'_>,
         looked: Result<Option<Standing<'_>>, Problem<'_>>,
     ) -> ExitKind
+        requires failed { IfErr looked (λ problem. IsFailure problem.why) }
         requires piped { self.old.reporter.is_piped ≡ is_out_stream subcommand matches.now }
         requires fresh { self.old.passed ≡ 0 }
         ensures done { result ≡ Done → IsDone R.File subcommand matches.now 0 (output_of W.contents self.old.reporter)
@@ -691,6 +711,7 @@ impl<'c, R: Files + AllocGlobal + RandomSource, I: Read, W: Write, E: Write> Ses
         means: Means<Fnv1a>,
     ) -> Result<Means<Fnv1a>, Problem<'static>>
         ensures limit { IfOk result (λ seeded. seeded.limit ≡ means.limit) }
+        ensures why { IfErr result (λ problem. IsFailure problem.why) }
     {
         if !subcommand.aggregates() {
             return Ok(means);
@@ -711,6 +732,7 @@ impl<'c, R: Files + AllocGlobal + RandomSource, I: Read, W: Write, E: Write> Ses
         ensures work { self.new.executor ≡ self.old.executor }
         ensures listed { self.new.target.listed ≡ self.old.target.listed }
         ensures passed { self.new.passed ≡ self.old.passed }
+        ensures why { IfErr result (λ problem. IsFailure problem.why) }
     {
         let Some(out) = subcommand.out(matches) else {
             return Ok(());
@@ -732,6 +754,7 @@ impl<'c, R: Files + AllocGlobal + RandomSource, I: Read, W: Write, E: Write> Ses
     ) -> Result<(), Problem<'p>>
         ensures says { OnlySays self.old.reporter self.new.reporter }
         ensures passed { self.new.passed ≡ self.old.passed }
+        ensures why { IfErr result (λ problem. IsFailure problem.why) }
     {
         if !subcommand.aggregates() {
             return Ok(());
@@ -864,7 +887,9 @@ impl<'c, R: Files + AllocGlobal + RandomSource, I: Read, W: Write, E: Write> Ses
         ensures stopped { result ≢ Fault → RunsCommand subcommand matches.now means.now
             (standpoint_of W.contents self.old.disk self.old.executor self.old.target.listed self.old.passed self.old.reporter)
             self.new.passed (output_of W.contents self.new.reporter) × (result ≡ ending_beside self.new.passed)
-            ⊎ RefusedAfter W.contents (files_told subcommand matches.now) result self.old.reporter self.new.reporter }
+            ⊎ IsRefusedFor (StopsCommand subcommand matches.now means.now
+            (standpoint_of W.contents self.old.disk self.old.executor self.old.target.listed self.old.passed self.old.reporter))
+            self.old.reporter.is_piped result (output_of W.contents self.new.reporter) }
     {
         let done = self.run_command(subcommand, matches, means);
         let is_told = done.is_ok() && subcommand.aggregates() && is_flag_told(matches, EXPLAIN);

@@ -1,13 +1,14 @@
 //! OUT, beside the files that a command reads.
 
 ghost use Rattle.std.specs.Prelude.{◌≡◌, ◌≢◌, ◌↔◌, ◌⊎◌, ℕ, None, Some, true, false, codes, Result, Ok};
-ghost use Rattle.std.specs.Prelude.{IfOk, IfSome, IsOkAnd, IsSome, IsTrue};
+ghost use Rattle.std.specs.Prelude.{IfErr, IfOk, IfSome, IsOkAnd, IsSome, IsTrue};
 ghost use Rattle.file_sentences.specs.Standing.{is_foreign, stops};
 ghost use Rattle.file_sentences.specs.declared.out.Fate.TheVariants.{Forced, Kept, Replaced, Shown, Spared};
 ghost use Rattle.out_files.specs.declared.occupant.Occupant.TheVariants.{Another, Listed, Nothing, Special};
 ghost use Rattle.file_sentences.specs.declared.out.FrontKind.{FrontKind};
 ghost use Rattle.command_streams.specs.declared.problem.Problem.{Problem};
 ghost use Rattle.command_words.specs.Told.{is_flag_told, is_out_stream, out_told};
+ghost use Rattle.command_files.specs.Causes.{IsFailure};
 ghost use Rattle.command_files.specs.Fates.{fate_by, fate_by_force, fate_where_read, IsFateBy, IsFile, IsUnforced, KeepsFiles};
 
 use crate::files::{front_kind, occupant_of_out, try_files, write_out};
@@ -79,7 +80,9 @@ fn fate_by(kind: FrontKind, is_forced: bool, listed: Option<usize>) -> Option<Fa
 
 impl Target {
     /// Nothing is known of it yet.
-    pub(crate) fn new() -> Target {
+    pub(crate) fn new() -> Target
+        ensures listed { result.listed ≡ None }
+    {
         Target {
             is_new: false,
             listed: None,
@@ -113,6 +116,7 @@ impl Target {
         is_forced: bool,
     ) -> Result<Option<Fate>, Problem<'p>>
         ensures fate { IsFateBy front.entry is_forced self.now.listed result }
+        ensures why { IfErr front.entry (λ problem. IsFailure problem.why) → IfErr result (λ problem. IsFailure problem.why) }
         ensures unforced { is_forced ≡ false → IfOk result (λ fate. fate ≢ Some Forced) }
         ensures read { (place : ℕ) → self.now.listed ≡ Some place → IfOk result (λ fate. fate ≢ Some Replaced) }
         ensures goes_on { is_forced ≡ true → IfOk result (λ found. IfSome found (λ fate. stops fate ≡ false)) }
@@ -139,10 +143,12 @@ impl Target {
         ensures unreplaced { IsTrue keeps → IfOk result (λ fate. fate ≢ Some Replaced) }
         ensures goes_on { keeps ≡ false → is_forced ≡ true → IfOk result (λ found. IfSome found (λ fate. stops fate ≡ false)) }
         ensures listed { (place : ℕ) → occupant ≡ Listed place → self.new ≡ record self.old { listed = Some place } }
+        ensures unlisted { ((place : ℕ) → occupant ≢ Listed place) → self.new.listed ≡ self.old.listed }
         ensures new { occupant ≡ Nothing → self.new ≡ record self.old { is_new = keeps } }
         ensures untold { (occupant ≡ Nothing) ⊎ (occupant ≡ Special) → result ≡ Ok None }
         ensures found { IsFile occupant keeps → (front : Result FrontKind Problem) × IsFateBy front is_forced self.new.listed result }
         ensures bytes { self.new.bytes ≡ self.old.bytes }
+        ensures why { IfErr result (λ problem. IsFailure problem.why) }
     {
         match occupant {
             Occupant::Nothing => {
@@ -172,6 +178,7 @@ impl Target {
         ensures goes_on { is_flag_told matches.now (codes "no-clobber") ≡ false → is_flag_told matches.now (codes "force") ≡ true
             → IfOk result (λ found. IfSome found (λ standing. stops standing.fate ≡ false)) }
         ensures bytes { self.new.bytes ≡ self.old.bytes }
+        ensures why { IfErr result (λ problem. IsFailure problem.why) }
     {
         let keeps = is_flag_told(matches, NO_CLOBBER);
         let occupant = match occupant_of_out(rt, subcommand, matches, out) {
@@ -206,6 +213,7 @@ impl Target {
         ensures kept { KeepsFiles matches.now → IfOk result (λ found. IfSome found (λ standing. standing.fate ≢ Replaced)) }
         ensures goes_on { is_flag_told matches.now (codes "no-clobber") ≡ false → is_flag_told matches.now (codes "force") ≡ true
             → IfOk result (λ found. IfSome found (λ standing. stops standing.fate ≡ false)) }
+        ensures why { IfErr result (λ problem. IsFailure problem.why) }
     {
         let Some(out) = subcommand.out(matches) else {
             return Ok(None);
@@ -234,6 +242,7 @@ impl Target {
         out: &'p str,
     ) -> Result<bool, Problem<'p>>
         ensures listed { self.new.listed ≡ self.old.listed }
+        ensures why { IfErr result (λ problem. IsFailure problem.why) }
     {
         self.is_over = try_files(rt, subcommand, matches, out)? == Place::Over;
         Ok(self.is_over)
@@ -245,7 +254,9 @@ impl Target {
         rt: &R,
         path: &'p str,
         file: &SummaryFile,
-    ) -> Result<bool, Problem<'p>> {
+    ) -> Result<bool, Problem<'p>>
+        ensures why { IfErr result (λ problem. IsFailure problem.why) }
+    {
         let place = write_out(rt, path, file, self.is_new, self.bytes.as_deref())?;
         Ok(place == Place::Over && !self.is_over)
     }

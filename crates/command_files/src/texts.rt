@@ -1,13 +1,12 @@
 //! The texts of a command line that a file may have in their place.
 
-ghost use Rattle.std.specs.Prelude.{◌≡◌, ◌⊎◌, ℕ, List, true, IfOk, IfErr, string_bytes};
+ghost use Rattle.std.specs.Prelude.{◌≡◌, ◌⊎◌, ℕ, List, Some, true, IfOk, IfErr, IsUtf8, string_bytes};
 ghost use Rattle.std.specs.Io.KnownBytes.{Consumes, IsAtEnd};
 ghost use Rattle.script_io.specs.Fused.{unread};
 ghost use Rattle.replies.specs.declared.refusal.Refusal.TheVariants.{BadCommand, NoMemory};
 ghost use Rattle.command_words.specs.LineEnd.{DropsLineEnd};
 ghost use Rattle.command_words.specs.Streams.{is_stream};
-ghost use Rattle.command_streams.specs.Inputs.{IsUnread};
-ghost use Rattle.command_files.specs.Texts.{IsTextTold};
+ghost use Rattle.command_files.specs.Texts.{IsNoText, IsNoTextOf, IsTextTold};
 
 use clap::ArgMatches;
 use command_streams::{Inputs, Problem, reason_of};
@@ -42,7 +41,7 @@ fn no_text(alloc: Global, place: usize) -> Result<String, AllocError> {
 /// The text that the bytes of a file are, without the line end behind it.
 fn text_of<'p>(alloc: Global, subject: &'p str, bytes: &[u8]) -> Result<Told<'p>, Problem<'p>>
     ensures text { IfOk result (λ told. DropsLineEnd bytes.now (string_bytes told.text)) }
-    ensures why { IfErr result (λ problem. (problem.why ≡ BadCommand) ⊎ (problem.why ≡ NoMemory)) }
+    ensures why { IfErr result (λ problem. ((problem.why ≡ BadCommand) × (¬ (IsUtf8 bytes.now))) ⊎ (problem.why ≡ NoMemory)) }
 {
     match str::from_utf8(bytes) {
         Ok(text) => copied(alloc, subject, without_line_end(text)),
@@ -83,7 +82,7 @@ fn read_text_of<'p, R: Files + AllocGlobal, I: Read>(
     ensures text { IfOk result (λ told. (file : List ℕ) × DropsLineEnd file (string_bytes told.text)
         × (is_stream path.entry.now ≡ true → Consumes (unread I.remaining inputs.old.reader.now)
         (unread I.remaining inputs.new.reader.now) file × IsAtEnd (unread I.remaining inputs.new.reader.now))) }
-    ensures why { IfErr result (λ problem. (problem.why ≡ BadCommand) ⊎ IsUnread problem.why) }
+    ensures why { IfErr result (λ problem. IsNoTextOf (Some path.entry.now) problem.why) }
 {
     let bytes = inputs.read(path)?;
     text_of(inputs.rt.alloc(), input_name(path), &bytes)
@@ -96,7 +95,7 @@ pub(crate) fn read_text<'p, R: Files + AllocGlobal, I: Read>(
     option: TextOption,
 ) -> Result<Told<'p>, Problem<'p>>
     ensures told { IfOk result (λ told. IsTextTold matches.now option.file.now option.id.now (string_bytes told.text)) }
-    ensures why { IfErr result (λ problem. (problem.why ≡ BadCommand) ⊎ IsUnread problem.why) }
+    ensures why { IfErr result (λ problem. IsNoText matches.now option.file.now problem.why) }
 {
     match matches.get_str(option.file) {
         Some(path) => read_text_of(inputs, path),

@@ -26,5 +26,5 @@ returns-in_ok-tell_waiting-in-Ok-Ok g c =
           }) c.explain_answer.ensures.says;
       lacking = c.lacking-self.ensures ∙ ap (λ n. lacking_of (is_flag_told c.args.matches.now (codes "complete")) n)
           (ap length c.deref-in-Ok-Ok-2.ensures.value) ∙ lacking_few _ _ _ c.in-Ok-Ok.ensures.told;
-      unput = tt;
+      why = tt;
     }

@@ -1,7 +1,7 @@
 use Rattle.std.specs.Prelude.{ℕ, Some}
 use Rattle.std.proofs.Common.{◌∙◌, ap, sym}
 use Rattle.command_files.proofs.ReportingLaws.{says_nothing}
-use Rattle.command_files.proofs.RunningLaws.{refused_said, stopped_as}
+use Rattle.command_files.proofs.RunningLaws.{failure_said, stopped_as}
 use Rattle.command_files.proofs.session.Session.run_seeded.Goals as goal
 
 pub returns-in-Ok-clause-stopped : goal.returns-in-Ok-clause-stopped
@@ -15,5 +15,5 @@ returns-in-Ok-clause-stopped g c sound =
 pub returns-in-Err-clause-stopped : goal.returns-in-Err-clause-stopped
 returns-in-Err-clause-stopped g c =
     let old = c.args.self.now.reporter in
-    refused_said _ g.W.Write.contents c.args.subcommand c.args.matches.now c.in-Err.problem.why c.refuse.result old old
-    c.refuse.new.self.reporter (says_nothing old) c.requires.stands.piped c.refuse.ensures.stops
+    failure_said _ g.W.Write.contents c.args.subcommand c.args.matches.now c.in-Err.problem.why c.refuse.result old old
+    c.refuse.new.self.reporter (says_nothing old) c.requires.stands.piped c.in-Err.ensures.why c.refuse.ensures.stops

@@ -3,8 +3,7 @@ use Rattle.std.proofs.Common.{◌∙◌, arith, rules, subst}
 use Rattle.std.proofs.lemmas.Result.{err_from_is_err_and}
 use Rattle.command_files.specs.Reporting.{output_of}
 use Rattle.command_files.specs.Taking.{TakesAll, manner_of, state_of}
-use Rattle.command_files.proofs.ReportingLaws.{replies_before, replies_fewer}
-use Rattle.command_files.proofs.TakingLaws.{replies_taken, takes_as, takes_more, takes_none_yet}
+use Rattle.command_files.proofs.TakingLaws.{refuses_as, stops_at, takes_as, takes_more, takes_none_yet}
 use Rattle.command_files.proofs.session.Session.take_files.Goals as goal
 
 pub loop-path-init : goal.loop-path-init
@@ -54,17 +53,22 @@ returns-clause-takes g c =
     (state_of c.loop-path.replica c.loop-path.self.disk c.loop-path.self.executor (output_of g.W.Write.contents c.loop-path.self.reporter))
     c.args.self.now.passed c.loop-path.self.passed) all c.loop-path.invariant.taken
 
-pub returns-in_err-take_or_pass-clause-unput : goal.returns-in_err-take_or_pass-clause-unput
-returns-in_err-take_or_pass-clause-unput g c =
+pub returns-in_err-take_or_pass-clause-why : goal.returns-in_err-take_or_pass-clause-why
+returns-in_err-take_or_pass-clause-why g c =
     let before = c.loop-path.invariant in
     let low = c.loop-path-test.true in
-    let manner = manner_of c.args.kind c.args.means.now c.args.self.now.disk c.args.self.now.reporter.is_piped
-    c.args.self.now.target.listed in
-    let old = c.args.self.now.reporter in
-    let told = replies_taken g.W.Write.contents manner 1 c.loop-path.path-index _ _ _ _ _ _ _ _ old c.loop-path.self.reporter
-    before.taken refl before.piped in
+    let old = c.args.self.now in
+    let manner = manner_of c.args.kind c.args.means.now old.disk old.reporter.is_piped old.target.listed in
+    let room : length c.args.paths.now < 2 ^ 64 = search rules in
+    let next : c.saturating_add-place.result ≡ c.loop-path.path-index + 1 =
+    omega (arith, low, before.place, c.saturating_add-place.ensures, room) in
     let p = err_from_is_err_and c.from_residual.result c.from_residual.ensures.1 in
-    rw (p.1, p.2) (λ sound. replies_fewer g.W.Write.contents c.loop-path.path-index (length c.args.paths.now) old
-    c.take_or_pass.new.self.reporter (omega (arith, low))
-    (replies_before g.W.Write.contents c.loop-path.path-index old c.loop-path.self.reporter c.take_or_pass.new.self.reporter told
-    (c.in_err-take_or_pass.ensures.unput sound)))
+    rw (p.1, p.2) (λ sound. let stopped = c.in_err-take_or_pass.ensures.why sound in (
+      stopped.1.piped ∙ before.piped,
+      stops_at g.W.Write.contents manner (length c.args.paths.now) c.loop-path.path-index c.saturating_add-place.result _
+          c.loop-path.replica c.loop-path.self.disk c.loop-path.self.executor _ _ c.loop-path.self.reporter
+          c.take_or_pass.new.self.reporter _ before.taken low next
+          (refuses_as c.args.kind c.args.means.now c.loop-path.self.disk old.disk c.loop-path.self.reporter.is_piped
+          old.reporter.is_piped c.loop-path.self.target.listed old.target.listed c.saturating_add-place.result c.loop-path.replica _
+          before.disk before.listed stopped.0) stopped.1,
+    ))
