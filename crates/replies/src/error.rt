@@ -13,7 +13,7 @@ use thiserror::Error;
 /// Why a run stopped before the end of its script, or why a whole file was not read or not written.
 #[derive(Clone, Copy, Debug, PartialEq, Eq, Error)]
 pub enum RunError {
-    /// Memory ran out for the script or for its next command. The commands before were answered.
+    /// Memory ran out for the script, for a command of it, or for the one behind that. The commands before were answered.
     #[error("out of memory")]
     NoMemory,
     /// The script, or the file, has more than 67,108,864 bytes. Nothing was written.
