@@ -196,11 +196,11 @@ stops_command {F} contents subcommand matches means held disk first work begun l
     )
 
 -- it could not begin, since memory ran out or it had no replica
-pub barred : (subcommand : Subcommand) (matches : ArgMatches) (why : Refusal)
+pub cannot_begin : (subcommand : Subcommand) (matches : ArgMatches) (why : Refusal)
     → IsFailure why ⊎ HasNoReplica subcommand matches why → ending_of why ≢ Fault → CannotBegin subcommand matches why
-barred subcommand matches why (inl (inl memory)) sound = inl memory
-barred subcommand matches why (inl (inr fault)) sound = absurd (sound fault)
-barred subcommand matches why (inr none) sound = inr (inr none)
+cannot_begin subcommand matches why (inl (inl memory)) sound = inl memory
+cannot_begin subcommand matches why (inl (inr fault)) sound = absurd (sound fault)
+cannot_begin subcommand matches why (inr none) sound = inr (inr none)
 
 -- a command that could not begin was refused, when something had been said
 refused_said : {W E : Type 0} (F : Type 0) (contents : W → Option (List ℕ)) (subcommand : Subcommand) (matches : ArgMatches)

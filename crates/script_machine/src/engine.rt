@@ -49,7 +49,7 @@ fn tell<O: Observer>(
 }
 
 /// Answers the commands that are left, one after the other, where nothing is there. The next command is read before the one at hand is
-/// replied to, so a run that replied to commands, and to every one, does not stop for memory.
+/// replied to. So a run that has replied to all commands, if there are any, does not stop for memory.
 fn answer_all<W: Write, O: Observer, D: TapeDisk>(
     records: &mut Records<'_>,
     session: &mut Session,

@@ -1,7 +1,7 @@
 use Rattle.std.proofs.Common.{ap, inl}
 use Rattle.std.proofs.lemmas.Result.{err_from_is_err_and}
 use Rattle.script_io.specs.Fused.{written}
-use Rattle.command_files.proofs.RunningLaws.{barred, runs_command, stops_command}
+use Rattle.command_files.proofs.RunningLaws.{cannot_begin, runs_command, stops_command}
 use Rattle.command_files.proofs.session.Session.run_command.Goals as goal
 
 pub returns : goal.returns
@@ -22,5 +22,5 @@ returns-in_err-replica-clause-why g c =
     let p = err_from_is_err_and c.from_residual.result c.from_residual.ensures.1 in
     rw (p.1, p.2) (λ sound. (
       first.says.piped,
-      inl (ap (written g.W.Write.contents) first.says.output, barred c.args.subcommand c.args.matches.now _ first.why sound),
+      inl (ap (written g.W.Write.contents) first.says.output, cannot_begin c.args.subcommand c.args.matches.now _ first.why sound),
     ))
