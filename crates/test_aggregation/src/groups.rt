@@ -122,17 +122,6 @@ impl<H: KeyHash + Drop> Groups<H> {
         let slot = self.table.insert(&mut self.tree, key, state)?;
         Ok(self.table.find(&self.tree, key) == Some(slot))
     }
-
-    /// Writes over the state of a key, and tells whether there is one.
-    pub(crate) fn write(&mut self, key: &[u8], state: &State) -> bool {
-        match self.table.find(&self.tree, key) {
-            Some(slot) => {
-                GroupTable::state_mut(&mut self.tree, &self.table, slot).copy_from_slice(state);
-                true
-            }
-            None => false,
-        }
-    }
 }
 
 /// The key and the state of a number.

@@ -11,7 +11,6 @@ use having_filter::Query;
 use hex::encode;
 use std::test::*;
 use test_cases::{expect, expect_lines};
-use test_tapes::failing;
 
 /// A hash function by which all keys have the same hash.
 #[derive(Clone, Copy)]
@@ -26,7 +25,7 @@ impl KeyHash for Constant {
 }
 
 /// So many rows of towns, packed.
-pub(crate) fn rows_of(rt: HostRuntime, query: &Query, towns: u32) -> Result<PackedRows, Fail>
+fn rows_of(rt: HostRuntime, query: &Query, towns: u32) -> Result<PackedRows, Fail>
     ensures { IfOk result (λ packed. (rows : List Row)
         × ArePackings (meaning query.now).kinds packed rows
         × (length packed ≡ towns)) }
@@ -142,17 +141,6 @@ fn a_group_too_many_is_spilled(rt: HostRuntime) -> Result<(), Fail> {
     expect_lines(rt, LIMITS, within)
 }
 
-/// Whether a number is a limit.
-fn is_limit(number: u64) -> bool {
-    Means::new(number, Fnv1a).is_ok()
-}
-
-#[test]
-fn limits_have_a_range(rt: HostRuntime) {
-    assert!(rt; !is_limit(0) && !is_limit(65_535) && is_limit(65_536));
-    assert!(rt; is_limit(1_099_511_627_776) && !is_limit(1_099_511_627_777));
-}
-
 /// Why the groups of rows are refused over a disk.
 fn refused_rows<D: TapeDisk>(
     rt: HostRuntime,
@@ -178,25 +166,4 @@ pub(crate) fn refused<D: TapeDisk>(
     let told = refused_rows(rt, query, &rows, disk);
     drop(rows);
     told
-}
-
-/// The same of the groups of the query over a disk of which a call fails.
-fn refusal(rt: HostRuntime, call: &str) -> Result<String, Fail> {
-    let mut disk = failing(rt.alloc(), call.parse()?);
-    let query = query(rt, COLUMNS, TOWNS)?;
-    let told = refused(rt, &query, &mut disk);
-    drop(query);
-    drop(disk);
-    told
-}
-
-/// Which call of a disk fails, the write of the one page or the read behind it, and why the groups are refused over it.
-const REFUSALS: &str = "\
-0 => Some(TapeFault)
-1 => Some(TapeFault)
-2 => None";
-
-#[test]
-fn faults_of_disks_are_told(rt: HostRuntime) -> Result<(), Fail> {
-    expect_lines(rt, REFUSALS, refusal)
 }

@@ -2,11 +2,11 @@
 
 use crate::groups::{Groups, WIDTH, has_numbers, key, put_numbers, state};
 use crate::seeded_hashes::{OF_PYTHON, RISING};
-use context_tree::{ContextId, Kind, Tree, TreeError};
+use context_tree::{Kind, Tree, TreeError};
 use group_table::{Fnv1a, GroupTable, KeyHash, SipHash};
 use std::alloc::{AllocError, Global};
 use std::test::*;
-use test_cases::{Answered, expect_told, expect_told_lines};
+use test_cases::{Answered, expect_told_lines};
 
 /// A hash function by which all keys are alike.
 #[derive(Drop)]
@@ -32,29 +32,10 @@ fn hashes_are_those_of_fnv_1a(rt: HostRuntime) {
     assert!(rt; hashes(&[b"a", b"", b"foobar"]) == [3826002220, 2166136261, 3214735720]);
 }
 
-/// Tells whether there is room for one group within each of two limits.
-fn tell_room(groups: &Groups<Fnv1a>, told: &mut Answered) -> Result<(), AllocError> {
-    told.tell(groups.room_for(b"k", 32767))?;
-    told.tell(groups.room_for(b"k", 32768))
-}
-
 /// Tells what is held, and how many groups there are.
 fn tell_held(groups: &Groups<Fnv1a>, told: &mut Answered) -> Result<(), AllocError> {
     told.tell(groups.held())?;
     told.tell(groups.len())
-}
-
-/// Tells one group in a table, before and after it is given up.
-fn tell_one_group(groups: &mut Groups<Fnv1a>, told: &mut Answered) -> Result<(), AllocError> {
-    tell_room(groups, told)?;
-    told.tell(groups.put(b"k", b"a state!")?)?;
-    tell_held(groups, told)?;
-    told.tell(groups.finds(b"k", b"a state!"))?;
-    told.tell(groups.is_entry(0, b"k", b"a state!"))?;
-    groups.clear();
-    tell_held(groups, told)?;
-    told.tell(groups.has(b"k"))?;
-    tell_room(groups, told)
 }
 
 /// Puts the groups of numbers, and tells whether each is a new one and is found.
@@ -99,46 +80,6 @@ fn told_of_numbers<H: KeyHash + Drop>(
     drop(groups);
     outcome?;
     Ok(text_of(told))
-}
-
-/// Tells whether keys that begin alike are new ones, the empty one among them, which is put twice.
-fn tell_alike_put(groups: &mut Groups<Fnv1a>, told: &mut Answered) -> Result<(), AllocError> {
-    told.tell(groups.put(b"", b"nothing.")?)?;
-    told.tell(groups.put(b"a", b"a letter")?)?;
-    told.tell(groups.put(b"a\0", b"a zero..")?)?;
-    told.tell(groups.put(b"", b"nothing!")?)
-}
-
-/// Tells whether keys that begin alike are found with their states, and two others are.
-fn tell_alike_found(groups: &Groups<Fnv1a>, told: &mut Answered) -> Result<(), AllocError> {
-    told.tell(groups.finds(b"", b"nothing."))?;
-    told.tell(groups.finds(b"a", b"a letter"))?;
-    told.tell(groups.finds(b"a\0", b"a zero.."))?;
-    told.tell(groups.is_entry(2, b"a\0", b"a zero.."))?;
-    told.tell(groups.has(b"\0"))?;
-    told.tell(groups.has(b"aa"))
-}
-
-/// Tells keys that begin alike.
-fn tell_alike(groups: &mut Groups<Fnv1a>, told: &mut Answered) -> Result<(), AllocError> {
-    tell_alike_put(groups, told)?;
-    tell_alike_found(groups, told)
-}
-
-/// Tells a state that is written over: whether there is one, and whether the new one is found by its key and at its place.
-fn tell_changed(groups: &mut Groups<Fnv1a>, told: &mut Answered) -> Result<(), AllocError> {
-    told.tell(groups.write(&key(77), b"changed!"))?;
-    told.tell(groups.finds(&key(77), b"changed!"))?;
-    told.tell(groups.is_entry(77, &key(77), b"changed!"))
-}
-
-/// Tells one state of many that is written over, and then written back, and one that there is not.
-fn tell_written(groups: &mut Groups<Fnv1a>, told: &mut Answered) -> Result<(), AllocError> {
-    told.tell(put_numbers(groups, 200)?)?;
-    tell_changed(groups, told)?;
-    told.tell(groups.write(&key(77), &state(77)))?;
-    told.tell(has_numbers(groups, 200))?;
-    told.tell(groups.write(&key(200), b"changed!"))
 }
 
 /// The least limit within which one more group with a key keeps.
@@ -216,60 +157,10 @@ fn tell_needs(groups: &mut Groups<Fnv1a>, told: &mut Answered) -> Result<(), All
     tell_need(groups, 512, told)
 }
 
-/// Puts the group of a number, again if memory is refused for it: whether it is a new one, and the others were those from before
-/// after the refusal.
-fn put_again(groups: &mut Groups<Fnv1a>, number: u32) -> Result<bool, AllocError> {
-    let (key, state) = (key(number), state(number));
-    match groups.put(&key, &state) {
-        Ok(put) => Ok(put),
-        Err(_) => Ok(has_numbers(groups, number) && groups.put(&key, &state)?),
-    }
-}
-
-/// Puts the groups of the first numbers, each again if memory is refused for it.
-fn put_all_again(groups: &mut Groups<Fnv1a>, count: u32) -> Result<bool, AllocError> {
-    for number in 0..count {
-        if !put_again(groups, number)? {
-            return Ok(false);
-        }
-    }
-    Ok(true)
-}
-
-/// Under `rt try --test --fail-alloc N` one of these groups is refused its memory, from the first N at which the table was made.
-fn tell_put_again(groups: &mut Groups<Fnv1a>, told: &mut Answered) -> Result<(), AllocError> {
-    told.tell(put_all_again(groups, 200)?)?;
-    told.tell(has_numbers(groups, 200))
-}
-
-/// The stamps of the contexts that there are beside a root with a stamp: looked for in the slots that three can have.
-fn stamps_behind(tree: &Tree, first: u64) -> u32 {
-    let mut number: u32 = 0;
-    for slot in 1..4 {
-        for step in 1..4 {
-            let stamp = first.saturating_add(step);
-            if tree.is_live(ContextId { slot, stamp }) {
-                number = number.saturating_add(1);
-            }
-        }
-    }
-    number
-}
-
 /// Why no table is made below the root of a tree, if none is.
 fn refusal(alloc: Global, tree: &mut Tree) -> Option<TreeError> {
     let root = tree.root();
     GroupTable::new(alloc, tree, root, WIDTH, Fnv1a).err()
-}
-
-/// What is told of a tree whose root has a stamp: why no table is made there, if none is, and how many contexts there are below the root
-/// then.
-fn told_of_stamps(alloc: Global, first: u64) -> Result<String, TreeError> {
-    let mut tree = Tree::with_stamp(alloc, first);
-    let refused = refusal(alloc, &mut tree);
-    let contexts = stamps_behind(&tree, first);
-    drop(tree);
-    Ok(format!(in alloc; "{refused:?} {contexts}")?)
 }
 
 /// The stamp of the context that is made next behind a table.
@@ -294,12 +185,8 @@ fn tell_case(
     told: &mut Answered,
 ) -> Result<(), AllocError> {
     match case {
-        "one group" => tell_one_group(groups, told),
-        "keys that begin alike" => tell_alike(groups, told),
-        "a written state" => tell_written(groups, told),
         "rooms" => tell_rooms(groups, told),
         "needs" => tell_needs(groups, told),
-        "refused groups" => tell_put_again(groups, told),
         "what is held" => tell_held_by_many(groups, told),
         _ => tell_numbers(groups, 2000, told),
     }
@@ -327,8 +214,6 @@ fn told(alloc: Global, case: &str) -> Result<String, TreeError> {
         "greatest hash" => told_of_numbers(alloc, Alike { hash: u32::MAX }, 300),
         "rising seed" => told_of_numbers(alloc, SipHash::new(RISING), 2000),
         "seed of Python" => told_of_numbers(alloc, SipHash::new(OF_PYTHON), 2000),
-        "no three stamps" => told_of_stamps(alloc, u64::MAX - 2),
-        "three stamps" => told_of_stamps(alloc, u64::MAX - 3),
         "no fourth stamp" => told_of_next_stamp(alloc),
         "what is held beside a chunk" => {
             told_of_table(alloc, Groups::beside_a_chunk(alloc, Fnv1a), "what is held")
@@ -337,34 +222,23 @@ fn told(alloc: Global, case: &str) -> Result<String, TreeError> {
     }
 }
 
-/// One group is put and given up. Groups are found, and found again behind a clearing, also those of one hash and by any seed. Equal
-/// bytes alone are one key. A state is written. Room is what is held on the way, and a group needs what is counted. No array that was
-/// doubled stays held, whatever else is held below the parent: here a block of 8,192 bytes. A table takes three stamps, and no fourth.
+/// Groups are found, and found again behind a clearing, also those of one hash and by any seed. Room is what is held on the way, and a
+/// group needs what is counted. No array that was doubled stays held, whatever else is held below the parent: here a block of 8,192 bytes. A table takes three stamps, and no fourth.
 const TOLD: &str = "\
-one group => false true true Some(32768) 1 true true Some(16384) 0 false false true
 many groups => true true true false true true
 least hash => true true true false true true
 greatest hash => true true true false true true
 rising seed => true true true false true true
 seed of Python => true true true false true true
-keys that begin alike => true true true false true true true true false false
-a written state => true true true true true true false
 rooms => None None
 needs => true Some(32768) Some(0) true Some(32768) Some(32768) true Some(49160) Some(32768) true Some(81936) Some(49160) \
     true Some(73736) Some(65544)
 what is held => true Some(196616) 2000
 what is held beside a chunk => true Some(204808) 2000
-three stamps => None 3
-no three stamps => Some(StampsSpent) 0
 no fourth stamp => None 4
 ";
 
 #[test]
 fn groups_are_put_and_found(rt: HostRuntime) -> Result<(), Fail> {
     expect_told_lines(rt, TOLD, told)
-}
-
-#[test]
-fn a_refused_group_changes_none(rt: HostRuntime) -> Result<(), Fail> {
-    expect_told(told(rt.alloc(), "refused groups"), "true true")
 }

@@ -1,10 +1,8 @@
 use hex::{decode, encode};
 use packed_rows::{
-    RowError, Schema, Value, ValueKind, compare, pack_key, pack_row, pack_value, read_value, same,
-    unpack_into, unpack_key, unpack_row,
+    Schema, Value, ValueKind, pack_key, pack_row, pack_value, read_value, unpack_key, unpack_row,
 };
 use std::alloc::Global;
-use std::cmp::Ordering;
 use std::test::*;
 use test_cases::{expect, expect_lines, halves};
 
@@ -47,18 +45,6 @@ fn field(rt: HostRuntime, case: &str) -> Result<String, Fail> {
 #[test]
 fn fields_are_read(rt: HostRuntime) -> Result<(), Fail> {
     expect_lines(rt, FIELDS, field)
-}
-
-/// Whether bytes are those of a text.
-fn is_text(bytes: &[u8]) -> bool {
-    read_value(bytes, ValueKind::Text).is_some()
-}
-
-#[test]
-fn texts_are_utf8_of_255_bytes(rt: HostRuntime) {
-    let long = [b'x'; 256];
-    assert!(rt; is_text(&long[..255]) && !is_text(&long) && !is_text(b"\xc3"));
-    assert!(rt; read_value(b"\xc3\xa9", ValueKind::Text) == Some(Value::Text("\u{e9}")));
 }
 
 /// Columns and fields, and the bytes of their row, or why there are none.
@@ -212,84 +198,4 @@ fn keys_are_packed_and_unpacked(rt: HostRuntime) -> Result<(), Fail> {
     expect(packed_values(rt.alloc()), PACKED)?;
     assert!(rt; is_unpacked(rt.alloc())?);
     Ok(())
-}
-
-/// Bytes, and the key of a text and a number whose packing they are, or no values.
-const KEYS: [(&[u8], &[Value<'static>]); 5] = [
-    (b"\x02\x02", &[Value::Null, Value::Null]),
-    (b"\x02\x01", &[]),
-    (
-        b"\x01ab\x00\x01\x80\x00\x00\x00\x00\x00\x00\x00",
-        &[Value::Text("ab"), Value::Bigint(0)],
-    ),
-    (b"\x02\x02\x02", &[]),
-    (b"\x01\x00\x02", &[Value::Text(""), Value::Null]),
-];
-
-/// Whether the values are found that are wanted, or none are wanted and the bytes are no packing.
-fn are_wanted(unpacked: Result<(), RowError>, found: &[Value<'_>], wanted: &[Value<'_>]) -> bool {
-    match unpacked {
-        Ok(()) => same(found, wanted),
-        Err(error) => error == RowError::BadPacked && wanted.is_empty(),
-    }
-}
-
-/// Whether bytes are unpacked to the values that are wanted.
-fn is_key(alloc: Global, bytes: &[u8], wanted: &[Value<'_>]) -> bool {
-    match unpack_key(alloc, &[ValueKind::Text, ValueKind::Bigint], bytes) {
-        Ok(key) => are_wanted(Ok(()), &key, wanted),
-        Err(error) => are_wanted(Err(error), &[], wanted),
-    }
-}
-
-/// The same into a vector that serves for many keys.
-fn is_key_in(found: &mut Vec<Value<'static>>, bytes: &'static [u8], wanted: &[Value<'_>]) -> bool {
-    let unpacked = unpack_into(&[ValueKind::Text, ValueKind::Bigint], bytes, found);
-    are_wanted(unpacked, found, wanted)
-}
-
-#[test]
-fn keys_are_unpacked(rt: HostRuntime) {
-    let mut found = Vec::new(rt.alloc());
-    for (bytes, wanted) in KEYS {
-        assert!(rt; is_key(rt.alloc(), bytes, wanted) && is_key_in(&mut found, bytes, wanted));
-    }
-}
-
-/// Values of all kinds, from the least on.
-const RISING: [Value<'static>; 8] = [
-    Value::Bigint(i64::MIN),
-    Value::Bigint(-1),
-    Value::Bigint(i64::MAX),
-    Value::Boolean(false),
-    Value::Boolean(true),
-    Value::Text("a"),
-    Value::Text("ab"),
-    Value::Null,
-];
-
-/// Whether a value is in order with those of all kinds, and is the same as one alone.
-fn stands(place: usize, value: Value<'_>) -> bool {
-    for (other_place, other) in RISING.iter().enumerate() {
-        if compare(&[value], &[*other]) != place.cmp(&other_place) {
-            return false;
-        }
-        if same(&[value], &[*other]) != (place == other_place) {
-            return false;
-        }
-    }
-    true
-}
-
-/// Whether a value comes before a longer list, and a null behind it comes last.
-fn is_front(value: Value<'_>) -> bool {
-    compare(&[value], &[value, Value::Null]) == Ordering::Less
-        && compare(&[value, Value::Null], &[value, Value::Bigint(0)]) == Ordering::Greater
-}
-
-#[test]
-fn values_are_in_order(rt: HostRuntime) {
-    for (place, value) in RISING.iter().enumerate() {
-        assert!(rt; stands(place, *value) && is_front(*value));
-    }
 }

@@ -101,35 +101,3 @@ fn columns_are_told(rt: HostRuntime) -> Result<(), Fail> {
         "c Text Some(0) d Bigint Some(1) e Boolean Some(2) [Text, Bigint, Boolean] None",
     )
 }
-
-/// Appends the name and the kind of a column.
-fn push_column(alloc: Global, column: u32, text: &mut String) -> Result<(), AllocError> {
-    let comma = if column == 0 { "" } else { ", " };
-    let told = format!(in alloc; "{comma}c{column} text")?;
-    text.push_str(&told)
-}
-
-/// The text of so many columns, `c0 text, c1 text` and so on.
-fn wide(alloc: Global, columns: u32) -> Result<String, Fail> {
-    let mut text = String::new(alloc);
-    for column in 0..columns {
-        push_column(alloc, column, &mut text)?;
-    }
-    Ok(text)
-}
-
-/// How the schema of so many columns is printed, if otherwise than it was written.
-fn printed_of_wide(rt: HostRuntime, columns: u32) -> Result<String, Fail> {
-    let text = wide(rt.alloc(), columns)?;
-    let printed = printed(rt, &text)?;
-    if printed == text {
-        return Ok(String::new(rt.alloc()));
-    }
-    Ok(printed)
-}
-
-#[test]
-fn schemas_have_32_columns(rt: HostRuntime) -> Result<(), Fail> {
-    expect(printed_of_wide(rt, 32), "")?;
-    expect(printed_of_wide(rt, 33), "BadSchema")
-}

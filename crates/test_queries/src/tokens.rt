@@ -1,4 +1,4 @@
-use query_tokens::{Fault, Token, TokenError, Word, is_reserved, tokens, tokens_up_to};
+use query_tokens::{Fault, Token, TokenError, Word, tokens};
 use std::alloc::AllocError;
 use std::test::*;
 use test_cases::{expect, expect_lines};
@@ -84,34 +84,6 @@ fn texts_have_tokens_or_a_first_fault(rt: HostRuntime) -> Result<(), Fail> {
     expect_lines(rt, TEXTS, told_of_lines)
 }
 
-/// The tokens of a text, if it has two at most, or the first fault among its first two.
-fn two_told(rt: HostRuntime, text: &str) -> Result<String, Fail> {
-    match tokens_up_to(rt.alloc(), text, 2) {
-        Ok(Some(tokens)) => all_shown(rt, &tokens),
-        Ok(None) => Ok(String::from_str(rt.alloc(), "more ")?),
-        Err(error) => Ok(format!(in rt.alloc(); "{error:?}")?),
-    }
-}
-
-/// Texts, and what is told of their first two tokens.
-const FIRST_TWO: &str = "\
-a b => 0:a 2:b
-a b c => more
-a b ? => more
-a ? c => Fault(Syntax { at: 2 })
-? b c => Fault(Syntax { at: 0 })
-a 9223372036854775808 c => Fault(NumberTooLarge)";
-
-#[test]
-fn a_fault_is_told_before_what_is_too_much(rt: HostRuntime) -> Result<(), Fail> {
-    expect_lines(rt, FIRST_TWO, trimmed_two)
-}
-
-/// What is told of two tokens, without a space behind.
-fn trimmed_two(rt: HostRuntime, text: &str) -> Result<String, Fail> {
-    Ok(String::from_str(rt.alloc(), two_told(rt, text)?.trim_end())?)
-}
-
 /// What is said of all errors.
 fn all_messages(rt: HostRuntime) -> Result<String, Fail> {
     let memory = TokenError::NoMemory;
@@ -126,20 +98,4 @@ fn messages(rt: HostRuntime) -> Result<(), Fail> {
         all_messages(rt),
         "out of memory, syntax error at byte 7, integer out of the range of 64 bits",
     )
-}
-
-/// Whether all of some words are reserved, or none is.
-fn are_reserved(words: &[&str], wanted: bool) -> bool {
-    for word in words {
-        if is_reserved(word) != wanted {
-            return false;
-        }
-    }
-    true
-}
-
-#[test]
-fn reserved_words(rt: HostRuntime) {
-    assert!(rt; are_reserved(&["and", "select", "unknown", "nulls", "where"], true));
-    assert!(rt; are_reserved(&["", "count", "batches", "wher", "SELECT", "first"], false));
 }

@@ -47,23 +47,3 @@ fn a_saving(rt: HostRuntime) {
 fn a_loading(rt: HostRuntime) {
     assert!(rt; is_right(rt, Trial::Load) == Ok(true));
 }
-
-#[test]
-fn an_encoding(rt: HostRuntime) {
-    assert!(rt; is_right(rt, Trial::Encode) == Ok(true));
-}
-
-#[test]
-fn a_decoding(rt: HostRuntime) {
-    assert!(rt; is_right(rt, Trial::Decode) == Ok(true));
-}
-
-#[test]
-fn an_aggregation(rt: HostRuntime) {
-    assert!(rt; is_right(rt, Trial::Aggregate) == Ok(true));
-}
-
-#[test]
-fn a_joining(rt: HostRuntime) {
-    assert!(rt; is_right(rt, Trial::Join) == Ok(true));
-}

@@ -11,8 +11,6 @@ mod met;
 #[cfg(test)]
 mod nothing;
 #[cfg(test)]
-mod parts;
-#[cfg(test)]
 mod rooms;
 #[cfg(test)]
 mod sites;

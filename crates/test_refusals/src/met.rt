@@ -21,8 +21,6 @@ pub(crate) enum Met {
     NoGrowth,
     /// There was no end of rooms.
     NoEnd,
-    /// What it is made with is not there.
-    NoParts,
 }
 
 impl Met {

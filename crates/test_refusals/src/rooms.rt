@@ -114,26 +114,6 @@ fn loadings_are_refused(rt: HostRuntime) -> Result<(), Fail> {
 }
 
 #[test]
-fn encodings_are_refused(rt: HostRuntime) -> Result<(), Fail> {
-    expect(tried(rt, Trial::Encode), REFUSED)
-}
-
-#[test]
-fn decodings_are_refused(rt: HostRuntime) -> Result<(), Fail> {
-    expect(tried(rt, Trial::Decode), REFUSED)
-}
-
-#[test]
-fn aggregations_are_refused(rt: HostRuntime) -> Result<(), Fail> {
-    expect(tried(rt, Trial::Aggregate), REFUSED)
-}
-
-#[test]
-fn joinings_are_refused(rt: HostRuntime) -> Result<(), Fail> {
-    expect(tried(rt, Trial::Join), REFUSED)
-}
-
-#[test]
 fn deliveries_that_spill_are_refused(rt: HostRuntime) -> Result<(), Fail> {
     expect(tried_spilling(rt, Trial::Deliver), REFUSED)
 }

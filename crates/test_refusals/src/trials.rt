@@ -2,7 +2,6 @@
 
 use crate::calls::{answer, deliver, keep, merge, read};
 use crate::met::Met;
-use crate::parts::{aggregate_rows, decode_file, encode_file, join_parts};
 use crate::sites::Site;
 use replies::Refusal;
 use test_cases::Room;
@@ -20,14 +19,6 @@ pub(crate) enum Trial {
     Save,
     /// A replica is loaded.
     Load,
-    /// A summary is written.
-    Encode,
-    /// A summary is read.
-    Decode,
-    /// Rows are aggregated.
-    Aggregate,
-    /// Parts of an origin are joined.
-    Join,
 }
 
 impl Trial {
@@ -45,10 +36,6 @@ impl Trial {
             Trial::Answer => answer(rt, site, room),
             Trial::Save => keep(rt, site, room),
             Trial::Load => read(rt, site, room),
-            Trial::Encode => encode_file(rt, site, room),
-            Trial::Decode => decode_file(rt, site, room),
-            Trial::Aggregate => aggregate_rows(rt, site, limit, room),
-            Trial::Join => join_parts(rt, site, limit, room),
         }
     }
 }

@@ -1,12 +1,6 @@
-//! Tests of batches, of the runs of groups that aggregation gives, and of summary files, by their crates' public calls alone.
+//! Tests of the runs of groups that aggregation gives, and of summary files, by their crates' public calls alone.
 #![tactic(auto)]
 
-#[cfg(test)]
-mod batches;
-#[cfg(test)]
-mod fixtures;
-#[cfg(test)]
-mod longest;
 #[cfg(test)]
 mod runs;
 #[cfg(test)]

@@ -1,22 +1,12 @@
-use crate::fixtures::of_towns;
-use having_filter::Query;
 use hex::decode as read_hex;
 use std::alloc::Global;
 use std::test::*;
-use summary_codec::{SummaryError, decode, decode_sharing, encode};
+use summary_codec::{SummaryError, decode, encode};
 use test_cases::{expect, expect_lines, halves};
 
-/// The bytes of what was read from a file, which may be of a query that is known.
-fn read_and_written(
-    alloc: Global,
-    known: Option<&Query>,
-    bytes: &[u8],
-) -> Result<Vec<u8>, SummaryError> {
-    let read = match known {
-        Some(_) => decode_sharing(alloc, known, bytes),
-        None => decode(alloc, bytes),
-    };
-    match read {
+/// The bytes of what was read from a file.
+fn read_and_written(alloc: Global, bytes: &[u8]) -> Result<Vec<u8>, SummaryError> {
+    match decode(alloc, bytes) {
         Ok((query, parts)) => {
             let written = encode(alloc, &query, &parts);
             drop(parts);
@@ -47,17 +37,12 @@ fn how_written(bytes: &[u8], written: &[u8]) -> &'static str {
     "false"
 }
 
-/// Whether bytes are a file, which may be of a query that is known, and how it is written again, or why they are none.
-fn told_by(rt: HostRuntime, known: Option<&Query>, bytes: &[u8]) -> Result<String, Fail> {
-    match read_and_written(rt.alloc(), known, bytes) {
+/// Whether bytes are a file, and how it is written again, or why they are none.
+fn told(rt: HostRuntime, bytes: &[u8]) -> Result<String, Fail> {
+    match read_and_written(rt.alloc(), bytes) {
         Ok(written) => Ok(String::from_str(rt.alloc(), how_written(bytes, &written))?),
         Err(error) => Ok(format!(in rt.alloc(); "{error:?}")?),
     }
-}
-
-/// The same where no query is known.
-fn told(rt: HostRuntime, bytes: &[u8]) -> Result<String, Fail> {
-    told_by(rt, None, bytes)
 }
 
 /// The same of bytes that words tell.
@@ -421,60 +406,4 @@ fn told_of_texts(rt: HostRuntime, texts: &str) -> Result<String, Fail> {
 #[test]
 fn texts_are_canonical(rt: HostRuntime) -> Result<(), Fail> {
     expect_lines(rt, TEXTS, told_of_texts)
-}
-
-/// The same of a file's words where the query of towns is known.
-fn told_by_towns(rt: HostRuntime, query: &Query, words: &str) -> Result<String, Fail> {
-    let bytes = bytes_of(rt, words)?;
-    told_by(rt, Some(query), &bytes)
-}
-
-/// What becomes of a file's words where the query of towns is known.
-fn told_sharing(rt: HostRuntime, words: &str) -> Result<String, Fail> {
-    of_towns(rt, words, told_by_towns)
-}
-
-/// The same of columns and a query.
-fn told_of_texts_sharing(rt: HostRuntime, texts: &str) -> Result<String, Fail> {
-    let (schema, query) = halves(texts, "|")?;
-    let bytes = file_of(rt, schema, query)?;
-    of_towns(rt, "", |rt, query, _| told_by(rt, Some(query), &bytes))
-}
-
-#[test]
-fn a_known_query_changes_nothing_that_is_read(rt: HostRuntime) -> Result<(), Fail> {
-    expect_lines(rt, FILES, told_sharing)?;
-    expect_lines(rt, FIRST, told_sharing)?;
-    expect_lines(rt, TEXTS, told_of_texts_sharing)
-}
-
-/// Which of the numbers 1 to 5 the first origin's part of a file knows.
-fn known_numbers(alloc: Global, bytes: &[u8]) -> Result<String, SummaryError> {
-    let (query, parts) = decode(alloc, bytes)?;
-    let mut known = String::new(alloc);
-    if let Some(part) = parts.get(&0) {
-        for number in 1..6 {
-            known.push(if part.knows(number) { '+' } else { '-' })?;
-        }
-    }
-    drop(parts);
-    drop(query);
-    Ok(known)
-}
-
-/// Files of one origin, and which of the numbers 1 to 5 are known of it.
-const KNOWN: &str = "\
-two towns 0001 0000 00000002 0000000000000001 oslo 00000000 => ++---
-two towns 0001 0000 00000000 0000000000000000 00000002 00000002 00000000 00000005 00000001 row => -+--+
-two towns 0001 0000 00000001 0000000000000001 oslo 00000001 00000004 00000001 row => +--+-";
-
-/// The numbers that are known of a file's words.
-fn told_known(rt: HostRuntime, words: &str) -> Result<String, Fail> {
-    let bytes = bytes_of(rt, words)?;
-    Ok(known_numbers(rt.alloc(), &bytes)?)
-}
-
-#[test]
-fn a_part_knows_its_prefix_and_what_is_early(rt: HostRuntime) -> Result<(), Fail> {
-    expect_lines(rt, KNOWN, told_known)
 }

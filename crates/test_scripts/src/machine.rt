@@ -7,8 +7,7 @@ use std::alloc::{AllocError, Global};
 use std::io;
 use std::io::{Error, ErrorKind, Read};
 use std::test::*;
-use test_cases::{expect_told, expect_told_lines};
-use test_tapes::{FailingReader, FailingWriter};
+use test_cases::{FailingReader, FailingWriter, expect_told, expect_told_lines};
 
 /// A reader without an end, which counts the bytes that were taken.
 #[derive(Drop)]

@@ -10,7 +10,7 @@ use script_io::Fused;
 use script_machine::{Observer, run_observed};
 use std::alloc::Global;
 use std::test::*;
-use test_tapes::same_pages;
+use test_cases::same_pages;
 
 /// Two seeds beside the usual one.
 const SEEDS: [Seed; 2] = [

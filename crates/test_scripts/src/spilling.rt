@@ -8,8 +8,7 @@ use spill_tapes::{FailDisk, FileDisk};
 use std::alloc::{AllocError, Global};
 use std::test::*;
 use std::{fs, process};
-use test_cases::{cut, expect, expect_told, expect_told_lines};
-use test_tapes::{failing, flipping};
+use test_cases::{cut, expect, expect_told, expect_told_lines, failing, flipping};
 
 /// Appends a row of each of so many towns, `k0000` and on.
 pub(crate) fn push_rows(alloc: Global, rows: &mut String, towns: u32) -> Result<(), AllocError> {

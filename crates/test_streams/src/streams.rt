@@ -1,5 +1,4 @@
-use csv::ByteRecord;
-use script_io::{Fused, InputError, Records, put_all, read_input};
+use script_io::{Fused, InputError, put_all, read_input};
 use std::alloc::{AllocError, Global};
 use std::io;
 use std::io::{Error, ErrorKind, Read, Write};
@@ -149,85 +148,6 @@ fn stops_at_each(alloc: Global, sound: usize) -> bool {
         && stops(alloc, sound, ErrorKind::UnexpectedEof)
 }
 
-/// Tells the fields of a record, with `|` after each.
-fn tell_record(record: &ByteRecord, text: &mut String) -> Result<(), AllocError> {
-    for place in 0..record.len() {
-        let field = record.get(place).unwrap_or(b"no field");
-        text.push_str(str::from_utf8(field).unwrap_or("not UTF-8"))?;
-        text.push('|')?;
-    }
-    Ok(())
-}
-
-/// Tells the records that are left, up to nine, with `;` after each. They are read into one place.
-fn tell_records(
-    records: &mut Records<'_>,
-    record: &mut ByteRecord,
-    text: &mut String,
-) -> Result<(), AllocError> {
-    for _ in 0..9 {
-        if !records.read(record)? {
-            break;
-        }
-        tell_record(record, text)?;
-        text.push(';')?;
-    }
-    Ok(())
-}
-
-/// Tells the records that are left, up to nine, and whether one comes behind the last.
-fn tell_all(alloc: Global, records: &mut Records<'_>, text: &mut String) -> Result<(), AllocError> {
-    let mut record = ByteRecord::new(alloc);
-    let told = tell_records(records, &mut record, text);
-    drop(record);
-    told?;
-    if records.next()?.is_some() {
-        return text.push_str("a record behind the last");
-    }
-    Ok(())
-}
-
-/// The records of a script.
-fn records_told(alloc: Global, script: &str) -> Result<String, AllocError> {
-    let mut records = Records::new(alloc, script.as_bytes());
-    let mut text = String::new(alloc);
-    let told = tell_all(alloc, &mut records, &mut text);
-    drop(records);
-    told?;
-    text.replace(alloc, "\n", "/")
-}
-
-/// The records of a script, in which `/` stands for the end of a line.
-fn records_of(alloc: Global, script: &str) -> Result<String, AllocError> {
-    let script = script.replace(alloc, "/", "\n")?;
-    records_told(alloc, &script)
-}
-
-/// Tells the records that are left where so many are passed over, and then so many again.
-fn tell_left(
-    alloc: Global,
-    records: &mut Records<'_>,
-    first: usize,
-    second: usize,
-    text: &mut String,
-) -> Result<(), AllocError> {
-    records.skip(first)?;
-    records.skip(second)?;
-    tell_all(alloc, records, text)
-}
-
-/// The records that are left of five.
-fn left(alloc: Global, case: &str) -> Result<String, AllocError> {
-    let (first, second) = cut(case, " ");
-    let (first, second) = (first.parse().unwrap_or(7), second.parse().unwrap_or(7));
-    let mut records = Records::new(alloc, b"a\nb\n\nc\nd\ne");
-    let mut text = String::new(alloc);
-    let told = tell_left(alloc, &mut records, first, second, &mut text);
-    drop(records);
-    told?;
-    Ok(text)
-}
-
 /// Whether a text is written to a writer with so much room, or else its front, and a fault is told then, and stays.
 fn fills(rt: HostRuntime, text: &[u8], room: usize, a_call: usize, at_room: AtRoom) -> bool {
     let mut short = ShortWriter::new(rt.alloc(), room, a_call, at_room);
@@ -300,8 +220,6 @@ fn told(rt: HostRuntime, line: &str) -> Result<String, Fail> {
     let (what, case) = cut(line, ": ");
     let told = match what {
         "reads" => taken(alloc, case),
-        "records" => records_of(alloc, case),
-        "left" => left(alloc, case),
         "endless" => format!(in alloc; "{}", is_refused(alloc, case.parse().unwrap_or(7))),
         "stops" => format!(in alloc; "{}", stops_at_each(alloc, case.parse().unwrap_or(7))),
         _ => told_of_writer(rt, what, case),
@@ -330,27 +248,6 @@ stops: 0 => true
 stops: 1 => true
 stops: 5 => true";
 
-/// Scripts and their records. Then how many of five records are passed over in turn, and which are left.
-const RECORDS: &str = "\
-records: /\r// => 
-records:  => 
-records: a,b/c/ => a|b|;c|;
-records: a,b\r/c,d,e\r/\r/f => a|b|;c|d|e|;f|;
-records: a\rb => a|;b|;
-records: ,/ => ||;
-records: \"\"/ => |;
-records: \"a,\"\"b\"\"/c\",d/ => a,\"b\"/c|d|;
-records: a\"b\",\" c \"/ => a\"b\"| c |;
-records: \"open,//to the end => open,//to the end|;
-records: \u{feff}a,b/ => a|b|;
-records: a/\u{feff}b/ => a|;\u{feff}b|;
-left: 0 0 => a|;b|;c|;d|;e|;
-left: 2 0 => c|;d|;e|;
-left: 2 2 => e|;
-left: 2 9 => 
-left: 5 1 => 
-left: 18446744073709551615 18446744073709551615 => ";
-
 /// How many bytes a writer takes at a call: it takes all or the front. A flush is asked for twice, of a writer that has room and of one
 /// that has none; one that failed is not tried again. A writer that takes nothing is not asked for nothing, and once it failed no more.
 const WRITTEN: &str = "\
@@ -365,6 +262,5 @@ asks: x => ([false, false, false, false], 1)";
 #[test]
 fn streams_give_and_take(rt: HostRuntime) -> Result<(), Fail> {
     expect_lines(rt, READ, told)?;
-    expect_lines(rt, RECORDS, told)?;
     expect_lines(rt, WRITTEN, told)
 }

@@ -1,9 +1,9 @@
 //! Tapes over a disk. Each call is made where its condition holds; else it answers `NoMemory`, which no test wants.
 
-use crate::disks::Marks;
 use spill_tapes::{MemDisk, TapeDisk, TapeError, TapeId, Tapes};
 use std::alloc::Global;
 use std::test::*;
+use test_cases::Marks;
 
 /// A disk in memory that keeps how far it was written.
 pub(crate) fn marks(alloc: Global) -> Marks {

@@ -1,15 +1,11 @@
-//! Tests of tapes over disks, and of the partitions that passes spill to tapes, by public calls alone; and disks and streams for tests,
-//! which tests of other crates take too.
+//! Tests of tapes over disks, and of the partitions that passes spill to tapes, by public calls alone.
 #![tactic(auto)]
 
 #[cfg(test)]
 mod calls;
-mod disks;
 #[cfg(test)]
 mod files;
 #[cfg(test)]
 mod partitions;
 #[cfg(test)]
 mod tapes;
-
-pub use disks::{FailingReader, FailingWriter, Marks, failing, flipping, same_pages};

@@ -3,179 +3,15 @@
 ghost use Rattle.std.specs.Prelude.{◌+◌, ◌<◌, ◌^◌};
 
 use crate::calls::{Deck, marks};
-use crate::disks::{Marks, failing, flipping};
-use spill_tapes::{DiskError, FlipDisk, MemDisk, TapeDisk, TapeError, TapeId};
+use spill_tapes::{DiskError, MemDisk, TapeDisk, TapeError, TapeId};
 use std::alloc::{AllocError, Global};
 use std::test::*;
-use test_cases::{expect_lines, halves};
+use test_cases::{Marks, expect_lines};
 
 /// How many tapes there are at once, and how many records each has.
 const TAPES: u32 = 16;
 
 const RECORDS: u32 = 120;
-
-/// What is told of a record, or of the end of a tape, and of the bytes that came with it.
-fn record_told(
-    alloc: Global,
-    found: Result<Option<(u32, u8)>, TapeError>,
-    bytes: &[u8],
-) -> Result<String, Fail> {
-    let text = str::from_utf8(bytes)?;
-    Ok(format!(in alloc; "{found:?} {text}, ")?)
-}
-
-/// Tells what became of a call.
-fn tell_outcome(
-    alloc: Global,
-    outcome: Result<(), TapeError>,
-    text: &mut String,
-) -> Result<(), AllocError> {
-    let told = format!(in alloc; "{outcome:?}, ")?;
-    text.push_str(&told)
-}
-
-/// Tells how many writes there were.
-fn tell_writes(alloc: Global, writes: u64, text: &mut String) -> Result<(), AllocError> {
-    let told = format!(in alloc; ", {writes} written")?;
-    text.push_str(&told)
-}
-
-impl<D: TapeDisk + Drop> Deck<D> {
-    /// Tells the next record of a tape.
-    fn tell_next(&mut self, tape: TapeId, text: &mut String) -> Result<(), Fail> {
-        let mut bytes = Vec::new(self.alloc);
-        let found = self.next(tape, &mut bytes);
-        let told = record_told(self.alloc, found, &bytes);
-        drop(bytes);
-        Ok(text.push_str(&told?)?)
-    }
-
-    /// Tells whether one more tape can be opened, or why not.
-    fn tell_opened(&mut self, text: &mut String) -> Result<(), AllocError> {
-        let refused = self.open().err();
-        let told = format!(in self.alloc; "{refused:?}")?;
-        text.push_str(&told)
-    }
-
-    /// Rewinds a tape, and tells what became of that.
-    fn tell_rewound(&mut self, tape: TapeId, text: &mut String) -> Result<(), AllocError> {
-        let rewound = self.rewind(tape);
-        tell_outcome(self.alloc, rewound, text)
-    }
-
-    /// Opens a tape and appends two records to it.
-    fn append_two(&mut self) -> Result<TapeId, TapeError> {
-        let tape = self.open()?;
-        self.append(tape, 7, 0, b"ab")?;
-        self.append(tape, 9, 1, b"")?;
-        Ok(tape)
-    }
-
-    /// Tells three records of a tape, or their absence, and closes it.
-    fn tell_three(&mut self, tape: TapeId, text: &mut String) -> Result<(), Fail> {
-        self.tell_next(tape, text)?;
-        self.tell_next(tape, text)?;
-        self.tell_next(tape, text)?;
-        self.close(tape);
-        Ok(())
-    }
-
-    /// Tells a tape with two records: its rewind and the calls after it.
-    fn two_records(&mut self, text: &mut String) -> Result<(), Fail> {
-        let tape = self.append_two()?;
-        self.tell_rewound(tape, text)?;
-        self.tell_three(tape, text)?;
-        Ok(self.tell_opened(text)?)
-    }
-
-    /// Tells a tape whose first record is longer than a page: its append and the calls after it.
-    fn long_record(&mut self, text: &mut String) -> Result<(), Fail> {
-        let tape = self.open()?;
-        let appended = self.append(tape, 7, 0, &[b'x'; 9000]);
-        tell_outcome(self.alloc, appended, text)?;
-        let again = self.append(tape, 7, 0, b"ab");
-        tell_outcome(self.alloc, again, text)?;
-        self.tell_rewound(tape, text)?;
-        Ok(self.tell_opened(text)?)
-    }
-
-    /// Tells a tape with one record, and what comes behind it.
-    fn one_record(&mut self, text: &mut String) -> Result<(), Fail> {
-        let tape = self.open()?;
-        self.append(tape, 7, 0, b"ab")?;
-        self.rewind(tape)?;
-        self.tell_next(tape, text)?;
-        self.tell_next(tape, text)?;
-        self.close(tape);
-        Ok(())
-    }
-
-    /// Tells a tape without a record.
-    fn no_record(&mut self, text: &mut String) -> Result<(), Fail> {
-        let tape = self.open()?;
-        self.rewind(tape)?;
-        self.tell_next(tape, text)?;
-        self.close(tape);
-        Ok(())
-    }
-
-    /// Tells what a case names: a tape of two records, of a long one, of one or of none.
-    pub(crate) fn tell_case(&mut self, case: &str, text: &mut String) -> Result<(), Fail> {
-        match case {
-            "two" => self.two_records(text),
-            "long" => self.long_record(text),
-            "one" => self.one_record(text),
-            _ => self.no_record(text),
-        }
-    }
-}
-
-/// What was told of a case, and how many writes there were.
-fn with_writes(
-    alloc: Global,
-    told: Result<(), Fail>,
-    mut text: String,
-    writes: u64,
-) -> Result<String, Fail> {
-    told?;
-    tell_writes(alloc, writes, &mut text)?;
-    Ok(text)
-}
-
-/// What is told of a case over a disk of which a call fails, and how many writes there were.
-fn told_over_failing(alloc: Global, call: u64, case: &str) -> Result<String, Fail> {
-    let mut deck = Deck::new(alloc, failing(alloc, call));
-    let mut text = String::new(alloc);
-    let told = deck.tell_case(case, &mut text);
-    let writes = deck.disk.inner().writes();
-    drop(deck);
-    with_writes(alloc, told, text, writes)
-}
-
-/// The same over a disk that flips a bit.
-fn told_over_flipping(alloc: Global, disk: FlipDisk<MemDisk>, case: &str) -> Result<String, Fail> {
-    let mut deck = Deck::new(alloc, disk);
-    let mut text = String::new(alloc);
-    let told = deck.tell_case(case, &mut text);
-    let writes = deck.disk.inner().writes();
-    drop(deck);
-    with_writes(alloc, told, text, writes)
-}
-
-/// The same over a disk in memory.
-fn told_over_memory(alloc: Global, case: &str) -> Result<String, Fail> {
-    let mut deck = Deck::new(alloc, MemDisk::new(alloc));
-    let mut text = String::new(alloc);
-    let told = deck.tell_case(case, &mut text);
-    let writes = deck.disk.writes();
-    drop(deck);
-    with_writes(alloc, told, text, writes)
-}
-
-/// A disk by which the first record on each page, of two bytes, has none.
-fn shortening(alloc: Global) -> FlipDisk<MemDisk> {
-    FlipDisk::new(MemDisk::new(alloc), 8, 2)
-}
 
 /// The bytes of a record: of one length in a hundred and twenty, so that some records are longer than a page.
 fn record(alloc: Global, tape: u32, number: u32) -> Result<Vec<u8>, AllocError> {
@@ -377,44 +213,22 @@ fn told_of_places(alloc: Global) -> Result<String, Fail> {
     Ok(format!(in alloc; "{is_right}, {writes} written")?)
 }
 
-/// What is told of a case over a disk with a fault, or in memory where it has none: `FAULT CASE`.
-fn told(rt: HostRuntime, line: &str) -> Result<String, Fail> {
-    let alloc = rt.alloc();
-    let (fault, case) = halves(line, " ")?;
-    match fault {
-        "none" => told_over_memory(alloc, case),
-        "write" => told_over_failing(alloc, 0, case),
-        "read" => told_over_failing(alloc, 1, case),
-        "shorter" => told_over_flipping(alloc, shortening(alloc), case),
-        "flip" => told_over_flipping(alloc, flipping(alloc), case),
-        "places" => told_of_places(alloc),
-        _ => told_over_marks(alloc, case),
+/// What is told of a case.
+fn told(rt: HostRuntime, case: &str) -> Result<String, Fail> {
+    match case {
+        "places" => told_of_places(rt.alloc()),
+        _ => told_over_marks(rt.alloc(), case),
     }
 }
 
-/// Records come in order. A fault of writing or of reading, and damage, kill the tapes, which then take no record; bytes behind
-/// the last record are damage; an empty tape has no page. Pages of closed tapes are used again, and what was never written is zero.
-const TOLD: &str = "\
-none two => Ok(()), Ok(Some((7, 0))) ab, Ok(Some((9, 1))) , Ok(None) , None, 1 written
-write two => Err(TapeFault), Err(TapesDead) , Err(TapesDead) , Err(TapesDead) , Some(TapesDead), 0 written
-flip two => Ok(()), Err(TapeDamaged) , Err(TapesDead) , Err(TapesDead) , Some(TapesDead), 1 written
-shorter one => Err(TapeDamaged) , Err(TapesDead) , , 1 written
-read two => Ok(()), Err(TapeFault) , Err(TapesDead) , Err(TapesDead) , Some(TapesDead), 1 written
-write long => Err(TapeFault), Err(TapesDead), Err(TapesDead), Some(TapesDead), 0 written
-none none => Ok(None) , , 0 written
-marks closed => 8192
-places two => true, 2 written
-";
-
 /// Many tapes at once, twice: none of their records comes wrong, and both times they have the same pages, each of which is written once.
-const TURNS: &str = "marks turns => 0 true;true;0 true;";
+/// Pages of closed tapes are used again, and what was never written is zero.
+const TOLD: &str = "\
+turns => 0 true;true;0 true;
+closed => 8192
+places => true, 2 written";
 
 #[test]
-fn pages_are_used_again(rt: HostRuntime) -> Result<(), Fail> {
-    expect_lines(rt, TURNS, told)
-}
-
-#[test]
-fn tapes_give_what_they_took_or_die(rt: HostRuntime) -> Result<(), Fail> {
+fn tapes_give_what_they_took(rt: HostRuntime) -> Result<(), Fail> {
     expect_lines(rt, TOLD, told)
 }

@@ -22,15 +22,6 @@ fn write_twice(block: &mut RawBlock, at: usize, src: &[u8], second: u8) -> (u8, 
     (before, after)
 }
 
-/// Writes a word and reads it back.
-fn word_again(block: &mut RawBlock, at: usize, word: u64) -> u64
-    requires { at + 8 ≤ length block.old }
-    ensures { result ≡ word }
-{
-    block.set_word(at, word);
-    block.word(at)
-}
-
 #[test]
 fn bytes_stand_where_they_were_written(rt: HostRuntime) -> Result<(), AllocError> {
     let mut block = RawBlock::new(rt.alloc(), 8)?;
@@ -43,16 +34,6 @@ fn bytes_stand_where_they_were_written(rt: HostRuntime) -> Result<(), AllocError
     let (before, after) = write_twice(&mut block, 1, b"12345", b'x');
     assert!(rt; (before, after) == (b'2', b'x'));
     assert!(rt; block.bytes(1, 5) == b"1x345".as_slice());
-    Ok(())
-}
-
-#[test]
-fn words_have_their_highest_byte_first(rt: HostRuntime) -> Result<(), AllocError> {
-    let mut block = RawBlock::new(rt.alloc(), 16)?;
-    block.set_word(3, 0x0102_0304_0506_0708);
-    assert!(rt; block.bytes(3, 8) == [1, 2, 3, 4, 5, 6, 7, 8].as_slice());
-    assert!(rt; block.word(3) == 0x0102_0304_0506_0708);
-    assert!(rt; word_again(&mut block, 8, u64::MAX) == u64::MAX);
     Ok(())
 }
 

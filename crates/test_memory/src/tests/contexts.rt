@@ -48,60 +48,10 @@ fn put_all<C: ChunkContext>(
     Ok(context.held())
 }
 
-/// Takes a chunk that holds `bytes`, reads it and gives it up, again and again: whether the bytes were those each time.
-fn read_again<C: ChunkContext>(
-    context: &mut C,
-    bytes: &[u8],
-    turns: u32,
-) -> Result<bool, ContextError> {
-    let mut same = true;
-    for _ in 0..turns {
-        let name = context.alloc(bytes)?;
-        same &= context.get(name) == bytes;
-        context.free(name)?;
-    }
-    Ok(same)
-}
-
 /// How many bytes the context holds once all is given up.
 pub(crate) fn reset<C: ChunkContext>(context: &mut C) -> u64 {
     context.reset();
     context.held()
-}
-
-/// Makes a chunk shorter and then longer, and gives it up: whether it is right each time, and how many bytes the context
-/// holds each time.
-fn resize_twice<C: ChunkContext>(context: &mut C) -> Result<([bool; 2], [u64; 2]), ContextError> {
-    let name = context.alloc(b"abcdef")?;
-    let short = context.resize(name, 3)?;
-    let is_short = context.get(short) == b"abc".as_slice();
-    let shorter = context.held();
-    let long = context.resize(short, 20)?;
-    let is_long = context.get(long) == b"abc\0\0\0\0\0\0\0\0\0\0\0\0\0\0\0\0\0".as_slice();
-    let longer = context.held();
-    context.free(long)?;
-    Ok(([is_short, is_long], [shorter, longer]))
-}
-
-/// Writes over the first of two chunks: whether it has the new bytes, and the second its own.
-fn change_first<C: ChunkContext>(context: &mut C) -> Result<[bool; 2], ContextError> {
-    let first = context.alloc(b"first")?;
-    let second = context.alloc(b"second")?;
-    context.get_mut(first).copy_from_slice(b"other");
-    let changed = context.get(first) == b"other".as_slice();
-    Ok([changed, context.get(second) == b"second".as_slice()])
-}
-
-/// Makes a chunk longer than its room, and gives it up if that is asked: whether it was right, and how many bytes the context holds then.
-fn lengthen<C: ChunkContext>(context: &mut C, frees: bool) -> Result<(bool, u64), ContextError> {
-    let first = context.alloc(b"first")?;
-    let longer = context.resize(first, 20)?;
-    let wanted = b"first\0\0\0\0\0\0\0\0\0\0\0\0\0\0\0";
-    let same = context.get(longer) == wanted.as_slice();
-    if frees {
-        context.free(longer)?;
-    }
-    Ok((same, context.held()))
 }
 
 /// Takes two chunks of zeros and gives up the older one: how many bytes the context holds each time and one more would take, and how long
@@ -121,36 +71,6 @@ fn free_both<C: ChunkContext>(
     Ok((one, left, context.held()))
 }
 
-const FORTY: &[u8] = b"0123456789012345678901234567890123456789";
-
-/// Resizes a chunk of forty bytes to a byte less, and to as many: why the first is refused, and whether the chunk has its
-/// name and its bytes behind both.
-fn resize_forty<C: ChunkContext>(
-    context: &mut C,
-) -> Result<(Option<ContextError>, [bool; 2]), ContextError> {
-    let name = context.alloc(FORTY)?;
-    let Err(refused) = context.resize(name, 39) else {
-        return Ok((None, [false, false]));
-    };
-    let resized = context.resize(name, 40)?;
-    let same = context.get(resized) == FORTY;
-    Ok((Some(refused), [resized == name, same]))
-}
-
-/// Takes a chunk that cannot have `n` bytes, and gives it up: why it is not resized, whether it has its bytes then, and why it is not
-/// given up.
-fn keep<C: ChunkContext>(
-    context: &mut C,
-    n: u32,
-) -> Result<(Option<ContextError>, bool, Option<ContextError>), ContextError> {
-    let name = context.alloc(b"abc")?;
-    let Err(refused) = context.resize(name, n) else {
-        return Ok((None, false, None));
-    };
-    let same = context.get(name) == b"abc".as_slice();
-    Ok((Some(refused), same, context.free(name).err()))
-}
-
 /// Tells what becomes of one chunk or two.
 fn tell_few<C: ChunkContext>(
     context: &mut C,
@@ -163,13 +83,7 @@ fn tell_few<C: ChunkContext>(
         "take" => told.tell(take(context, number(n))),
         "take_and_free" => told.tell(take_and_free(context, number(n))),
         "refuse" => told.tell(context.alloc_zeroed(number(n)).err()),
-        "resize_twice" => told.tell(resize_twice(context)),
-        "change_first" => told.tell(change_first(context)),
-        "lengthen" => told.tell(lengthen(context, false)),
-        "lengthen_and_free" => told.tell(lengthen(context, true)),
         "free_both" => told.tell(free_both(context, number(n), number(other))),
-        "resize_forty" => told.tell(resize_forty(context)),
-        "keep" => told.tell(keep(context, number(n))),
         _ => tell_caller(context, name, number(n), told),
     }
 }
@@ -189,7 +103,6 @@ pub(crate) fn tell_step<C: ChunkContext>(
         "reset" => told.tell(reset(context)),
         "take_all" => told.tell(take_all(context, number(what), number(count))),
         "put_all" => told.tell(put_all(context, what.as_bytes(), number(count))),
-        "read_again" => told.tell(read_again(context, what.as_bytes(), number(count))),
         "even" | "take_and_reset" | "resize_and_free" => tell_use(rt, context, name, with, told),
         _ => tell_few(context, name, with, told),
     }
@@ -201,31 +114,26 @@ const TOLD: &str = "\
 alloc_set: held, take 0, growth 8192, take 8192, growth 4000 => 0 Ok((0, 8192)) 16384 Ok((8192, 24576)) 0
 alloc_set: take 0, take 8192, take_and_free 8193, refuse 1073741824, growth 1073741824, reset, growth 8192 => \
 Ok((0, 8192)) Ok((8192, 24576)) Ok([32784, 8208, 24576]) Some(TooLarge) 0 8192 16384
-alloc_set: resize_twice, take 32 => Ok(([true, true], [8192, 8192])) Ok((32, 8192))
-alloc_set: change_first => Ok([true, true])
 alloc_set: put_all 0123456789 1, reset => Ok(8192) 8192
-alloc_set: keep 1073741824, refuse 1073741824 => Ok((Some(TooLarge), true, None)) Some(TooLarge)
-alloc_set: newer_first, write_over, write_byte, longer 100, longer_and_free 100 => Ok(true) Ok((true, true)) Ok(7) Ok((97, true)) Ok(true)
-generation: take_and_free 8192, lengthen, refuse 1073741824 => Ok([8200, 8200, 0]) Ok((true, 8192)) Some(TooLarge)
+alloc_set: newer_first, write_over, write_byte, longer 100, longer_and_free 100, longer 1073741824 => \
+Ok(true) Ok((true, true)) Ok(7) Ok((97, true)) Ok(true) Err(TooLarge)
+generation: take_and_free 8192, refuse 1073741824 => Ok([8200, 8200, 0]) Some(TooLarge)
 generation: free_both 5 6 => Ok(([8192, 8192, 0], 6, 0))
-generation: lengthen_and_free => Ok((true, 0))
 generation: put_all 12345678 2000, take 10000, reset, growth 8 => Ok(32768) Ok((10000, 42776)) 0 8192
 generation: put_all 0123456789 1, reset => Ok(8192) 0
-generation: keep 1073741824, refuse 1073741824 => Ok((Some(TooLarge), true, None)) Some(TooLarge)
-generation: newer_first, write_over, write_byte, longer 100, longer_and_free 100 => Ok(true) Ok((true, true)) Ok(7) Ok((97, true)) Ok(true)
+generation: newer_first, write_over, write_byte, longer 100, longer_and_free 100, longer 1073741824 => \
+Ok(true) Ok((true, true)) Ok(7) Ok((97, true)) Ok(true) Err(TooLarge)
 slab 1073741824: held => TooLarge
 slab 40: held, take_all 40 170, held, growth 40, take_and_free 40 => 0 Ok(()) 8192 8192 Ok([16384, 0, 8192])
-slab 40: refuse 39, refuse 1073741824, growth 39, resize_forty => Some(WrongSize) Some(TooLarge) 0 Ok((Some(WrongSize), [true, true]))
-slab 3: put_all abc 1, read_again xyz 100000, held, reset => Ok(8192) Ok(true) 8192 0
+slab 40: refuse 39, refuse 1073741824, growth 39 => Some(WrongSize) Some(TooLarge) 0
+slab 3: put_all abc 1, held, reset => Ok(8192) 8192 0
 slab 10000: free_both 10000 10000 => Ok(([20016, 10008, 10008], 10000, 0))
 slab 10: put_all 0123456789 1, reset => Ok(8192) 0
-slab 3: keep 1073741824, refuse 1073741824 => Ok((Some(TooLarge), true, None)) Some(TooLarge)
 slab 3: newer_first, write_over, write_byte, longer 3, longer_and_free 3, longer 4 => \
 Ok(true) Ok((true, true)) Ok(7) Ok((97, true)) Ok(true) Err(WrongSize)
-bump: put_all 12345 1024, growth 5, keep 2, held, reset => Ok(8192) 8192 Ok((Some(NotSupported), true, Some(NotSupported))) 16384 0
+bump: put_all 12345 1024, growth 5, held, reset => Ok(8192) 8192 8192 0
 bump: put_all 0123456789 1, reset => Ok(8192) 0
-bump: keep 1073741824, refuse 1073741824 => Ok((Some(NotSupported), true, Some(NotSupported))) Some(TooLarge)
-bump: newer_first, write_over, write_byte => Err(NotSupported) Ok((true, true)) Ok(7)
+bump: newer_first, write_over, write_byte, longer 3 => Err(NotSupported) Ok((true, true)) Ok(7) Err(NotSupported)
 ";
 
 #[test]

@@ -1,5 +1,0 @@
-use Rattle.std.proofs.Common.{◌≡◌, false}
-use Rattle.test_tapes.proofs.partitions.Spool.spill_many.Given as goal
-
-abbrev pub invariant-loop-number : goal.invariant-loop-number
-invariant-loop-number g l = (l.self.partitions.tapes.is_dead ≡ false) × (l.self.partitions.reading ≡ l.fn.self.partitions.reading)
