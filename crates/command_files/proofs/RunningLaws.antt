@@ -20,10 +20,10 @@ use Rattle.replies.specs.declared.reply.Reply.TheVariants.{Refused}
 use Rattle.command_words.specs.declared.subcommands.Subcommand.{Subcommand}
 use Rattle.command_words.specs.declared.subcommands.Subcommand.TheVariants.{New, Feed, Merge, Known, Answer}
 use Rattle.command_words.specs.Told.{is_out_stream, limit_told}
-use Rattle.file_sentences.specs.Standing.{stops}
+use Rattle.out_files.specs.Standing.{stops}
 use Rattle.file_sentences.specs.declared.reasons.FileKind.{FileKind}
-use Rattle.file_sentences.specs.declared.out.Fate.TheVariants.{Shown}
-use Rattle.file_sentences.specs.declared.out.Standing.{Standing}
+use Rattle.out_files.specs.declared.out.Fate.TheVariants.{Shown}
+use Rattle.out_files.specs.declared.out.Standing.{Standing}
 use Rattle.command_streams.specs.Stopping.{ending_of}
 use Rattle.command_streams.specs.declared.problem.Problem.{Problem}
 use Rattle.key_hashes.specs.declared.hash.Fnv1a.{Fnv1a}

@@ -4,11 +4,11 @@ use Rattle.out_files.specs.declared.occupant.Occupant.{Occupant}
 use Rattle.out_files.specs.declared.occupant.Occupant.TheVariants.{Another, Listed}
 use Rattle.command_words.specs.Told.{is_flag_told}
 use Rattle.clap.specs.declared.parser.matches.ArgMatches.{ArgMatches}
-use Rattle.file_sentences.specs.Standing.{is_foreign, stops}
-use Rattle.file_sentences.specs.declared.out.Fate.{Fate}
-use Rattle.file_sentences.specs.declared.out.Fate.TheVariants.{Replaced, Spared, Forced}
-use Rattle.file_sentences.specs.declared.out.FrontKind.{FrontKind}
-use Rattle.file_sentences.specs.declared.out.Standing.{Standing}
+use Rattle.out_files.specs.Standing.{is_foreign, stops}
+use Rattle.out_files.specs.declared.out.Fate.{Fate}
+use Rattle.out_files.specs.declared.out.Fate.TheVariants.{Replaced, Spared, Forced}
+use Rattle.out_files.specs.declared.out.FrontKind.{FrontKind}
+use Rattle.out_files.specs.declared.out.Standing.{Standing}
 
 -- one that is no foreign file is replaced, which is told where it is none of those that are read
 abbrev pub fate_where_read : (listed : Option ℕ) → Option Fate

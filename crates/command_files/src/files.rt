@@ -8,10 +8,10 @@ use clap::ArgMatches;
 use command_replicas::SummaryFile;
 use command_streams::Problem;
 use command_words::{Subcommand, is_stream};
-use file_sentences::{FRONT_BYTES, FrontKind, replaced_reason};
+use file_sentences::replaced_reason;
 use out_files::{
-    Occupant, Place, Unwritten, front_of, occupant_of, try_place, try_reading, write_file,
-    write_new_file,
+    FRONT_BYTES, FrontKind, Occupant, Place, Unwritten, front_of, occupant_of, try_place,
+    try_reading, write_file, write_new_file,
 };
 use replies::{Refusal, RunError};
 use std::io;

@@ -6,10 +6,10 @@ ghost use Rattle.command_files.specs.Limits.{limit_of, IsNoLimit};
 
 use clap::ArgMatches;
 use command_words::{LIMIT, Subcommand, read_bytes};
-use fault_sentences::Quoted;
 use file_sentences::limit_reason;
 use hash_agg::{Fnv1a, LimitOutOfRange, MAX_LIMIT, Means};
 use replies::Refusal;
+use sentences::Quoted;
 use std::alloc::{AllocError, Global};
 
 /// The means of the limit that an option tells, or the usual ones where it is not told.

@@ -15,7 +15,8 @@ use command_replicas::SummaryFile;
 use command_streams::{
     Diagnostic, OutputStatus, Problem, Streams, Terminals, ending_of, remove_disk, reply_refused,
 };
-use file_sentences::{CutShort, Progress, text_of};
+use file_sentences::{Progress, text_of};
+use out_files::CutShort;
 use replica_merge::Delivered;
 use replies::{ExitKind, Format, Reply, put_reply};
 use script_io::{Fused, put_all};

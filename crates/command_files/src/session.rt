@@ -17,7 +17,7 @@ ghost use Rattle.command_words.specs.Told.{is_flag_told, is_out_stream, limit_to
 ghost use Rattle.command_files.specs.Causes.{HasNoReplica, IsDoneOrStopped, IsFailure, IsRefusedFor, RefusesOut, StopsCommand};
 ghost use Rattle.command_files.specs.Causes.{StopsAtOut, StopsTaking, StopsWork};
 ghost use Rattle.command_files.specs.Ending.{ending_beside, lacking, lacking_of};
-ghost use Rattle.file_sentences.specs.Standing.{stops};
+ghost use Rattle.out_files.specs.Standing.{stops};
 ghost use Rattle.command_files.specs.Fates.{is_stopped, IsUnforced};
 ghost use Rattle.command_files.specs.Formats.{format_told, known_format_told};
 ghost use Rattle.command_files.specs.Limits.{limit_of};
@@ -39,9 +39,10 @@ use command_words::{
     BATCH, COMPLETE, EXPLAIN, FORMAT, IN, OUT, PROGRESS, Subcommand, input_name, is_flag_told,
     is_stream, output_name, value, values,
 };
-use file_sentences::{Explained, FileKind, PassedOver, Standing, WrittenOver, file_reason};
+use file_sentences::{Explained, FileKind, PassedOver, file_reason};
 use hash_agg::{Executor, Fnv1a, Means};
 use holding_sentences::{answer_line, holding_lines, waiting_lines};
+use out_files::{Standing, WrittenOver};
 use replica_merge::Replica;
 use replies::{ExitKind, Format, KnownFormat, Refusal, Reply, known_table, table};
 use spill_tapes::{MemDisk, SpillDisk, SystemFile};

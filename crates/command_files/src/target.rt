@@ -2,10 +2,10 @@
 
 ghost use Rattle.std.specs.Prelude.{◌≡◌, ◌≢◌, ◌↔◌, ◌⊎◌, ℕ, None, Some, true, false, codes, Result, Ok};
 ghost use Rattle.std.specs.Prelude.{IfErr, IfOk, IfSome, IsOkAnd, IsSome, IsTrue};
-ghost use Rattle.file_sentences.specs.Standing.{is_foreign, stops};
-ghost use Rattle.file_sentences.specs.declared.out.Fate.TheVariants.{Forced, Kept, Replaced, Shown, Spared};
+ghost use Rattle.out_files.specs.Standing.{is_foreign, stops};
+ghost use Rattle.out_files.specs.declared.out.Fate.TheVariants.{Forced, Kept, Replaced, Shown, Spared};
 ghost use Rattle.out_files.specs.declared.occupant.Occupant.TheVariants.{Another, Listed, Nothing, Special};
-ghost use Rattle.file_sentences.specs.declared.out.FrontKind.{FrontKind};
+ghost use Rattle.out_files.specs.declared.out.FrontKind.{FrontKind};
 ghost use Rattle.command_streams.specs.declared.problem.Problem.{Problem};
 ghost use Rattle.command_words.specs.Told.{is_flag_told, is_out_stream, out_told};
 ghost use Rattle.command_files.specs.Causes.{IsFailure};
@@ -16,8 +16,7 @@ use clap::ArgMatches;
 use command_replicas::SummaryFile;
 use command_streams::Problem;
 use command_words::{FORCE, NO_CLOBBER, Subcommand, is_flag_told, is_stream, output_name};
-use file_sentences::{Fate, FrontKind, Standing};
-use out_files::{Occupant, Place};
+use out_files::{Fate, FrontKind, Occupant, Place, Standing};
 use replies::Refusal;
 use std::rt::Files;
 

@@ -2,7 +2,7 @@
 
 use clap::error::ErrorKind;
 use command_words::STREAM;
-use fault_sentences::Plain;
+use sentences::Plain;
 use std::fmt;
 
 /// What is said before the sentence of the command line parser.

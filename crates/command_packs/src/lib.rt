@@ -1,8 +1,8 @@
 //! The command `pack`, which makes a batch file from a plain CSV.
 #![tactic(auto)]
 
+mod faults;
 mod options;
-mod sentences;
 
 ghost use Rattle.std.specs.Prelude.{◌≡◌, ◌≢◌, ◌≤◌, ℕ, List, false, IfOk, IfErr};
 ghost use Rattle.std.specs.Io.KnownBytes.{Appends};
@@ -20,13 +20,14 @@ ghost use Rattle.command_packs.specs.Options.{IsHeadOf, IsLayoutOf};
 ghost use Rattle.command_packs.specs.Packing.{pack_refusal, AreOfSummary, IsGivenCsv, IsNotPacked, IsPacked, IsPackedAsTold};
 ghost use Rattle.command_packs.specs.Packing.{IsWithoutColumns, StopsAsTold, StopsPacking};
 
+use crate::faults::PlainText;
 use crate::options::{Words, head_of, layout_of, words_of};
-use crate::sentences::PlainText;
 use batch_reader::BatchError;
 use clap::ArgMatches;
 use command_streams::{Inputs, Problem, Streams, reason_of, reply_refused, say};
 use command_words::{ALLOW_EMPTY, input_name};
-use file_sentences::{CutShort, summary_reason};
+use file_sentences::summary_reason;
+use out_files::CutShort;
 use packed_rows::Schema;
 use plain_batches::{Layout, PackError, pack_batch};
 use replies::{ExitKind, Refusal, RunError};

@@ -12,11 +12,11 @@ use command_words::{
     ALLOW_EMPTY, DELIMITER, HEADER, IN, NULL, NUMBER, ORIGIN, PLAIN, SKIP_COLUMNS, STREAM,
     is_flag_told, value,
 };
-use fault_sentences::Quoted;
 use grouping_model::limits::{LAST_NUMBER, LAST_ORIGIN};
 use plain_batches::Layout;
 use replies::Refusal;
 use script_io::read_digits;
+use sentences::Quoted;
 use std::alloc::{AllocError, Global};
 
 /// The most digits of an origin or a number, leading zeros included.

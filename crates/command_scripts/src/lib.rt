@@ -15,11 +15,12 @@ use command_streams::{
     system_seed, tape_reason,
 };
 use csv::ByteRecord;
-use fault_sentences::{Reason, ScriptPlace, say_columns, say_disagreement, say_limit, say_taken};
+use fault_sentences::{ScriptPlace, say_columns, say_disagreement, say_limit, say_taken};
 use hash_agg::{Seed, TapeDisk};
 use replies::{ExitKind, Outcome, Refusal, RunError, refusal_ending, run_ending};
 use script_io::Fused;
 use script_machine::{Observer, run_observed};
+use sentences::Reason;
 use std::alloc::{AllocError, Global};
 use std::io::{Read, Write};
 use std::random::RandomSource;

@@ -11,10 +11,10 @@ ghost use Rattle.replies.specs.declared.refusal.Refusal.TheVariants.{Run};
 
 use crate::problem::Problem;
 use command_words::{input_name, is_stream};
-use fault_sentences::Reason;
 use grouping_model::limits::MAX_INPUT_LEN;
 use replies::{Refusal, RunError};
 use script_io::{Fused, InputError, Unread, read_file, read_input};
+use sentences::Reason;
 use std::alloc::{AllocError, Global};
 use std::io::Read;
 use std::rt::Files;

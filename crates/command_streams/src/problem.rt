@@ -6,8 +6,8 @@ ghost use Rattle.replies.specs.declared.error.RunError.TheVariants.{WriteFault};
 ghost use Rattle.replies.specs.declared.refusal.Refusal.TheVariants.{Run};
 ghost use Rattle.command_streams.specs.Stopping.{ending_of};
 
-use fault_sentences::{Plain, Reason};
 use replies::{Refusal, RunError};
+use sentences::{Plain, Reason};
 use std::alloc::Global;
 use std::io::ErrorKind;
 use std::{fmt, io};

@@ -5,9 +5,9 @@ ghost use Rattle.replies.specs.declared.error.RunError.TheVariants.{ReadFault};
 ghost use Rattle.replies.specs.declared.refusal.Refusal.TheVariants.{Run};
 
 use crate::problem::Problem;
-use fault_sentences::Reason;
 use hash_agg::Seed;
 use replies::{Refusal, RunError};
+use sentences::Reason;
 use std::alloc::{AllocError, Global};
 use std::io;
 use std::random::RandomSource;

@@ -7,9 +7,9 @@ ghost use Rattle.command_streams.specs.Disks.{is_in_memory};
 
 use crate::problem::Problem;
 use crate::streams::say;
-use fault_sentences::{Plain, Reason};
 use out_files::append_fault;
 use replies::{Refusal, RunError};
+use sentences::{Plain, Reason};
 use spill_tapes::{FileDisk, MemDisk, SpillDisk, SystemFile};
 use std::alloc::{AllocError, Global};
 use std::io::Write;

@@ -9,7 +9,7 @@ use Rattle.engine.specs.declared.status.Status.TheVariants.{NotOpen, AlreadyOpen
 use Rattle.engine_calls.specs.Calls.{OnOpen, OnClosed, Asks, last_after}
 use Rattle.engine_calls.specs.Keeping.{IsOfCall, ReasonOnOpen, ReasonOnClosed, ReasonOnAsking, ReasonState, reason_made}
 use Rattle.engine_calls.specs.declared.last.Asked.{Asked}
-use Rattle.fault_sentences.specs.declared.reason.Reason.{Reason}
+use Rattle.sentences.specs.declared.reason.Reason.{Reason}
 use Rattle.std.specs.declared.alloc.AllocError.{AllocError}
 
 module _ {T : Type 0} (does : SessionState → SessionState → Result T Refusal → Type 0) where

@@ -3,7 +3,7 @@ use Rattle.std.specs.Prelude.{◌≡◌, ℕ, List, [], ◌++◌, Option, Some, 
 use Rattle.std.specs.declared.alloc.AllocError.{AllocError}
 use Rattle.engine.specs.Calls.{Refusal}
 use Rattle.engine.specs.Sessions.{SessionState}
-use Rattle.fault_sentences.specs.declared.reason.Reason.{Reason}
+use Rattle.sentences.specs.declared.reason.Reason.{Reason}
 use Rattle.engine_calls.specs.declared.last.Asked.{Asked}
 use Rattle.engine_calls.specs.declared.last.Asked.TheVariants.{Merge}
 use Rattle.engine_calls.specs.declared.last.CallReason.{CallReason}

@@ -12,8 +12,8 @@ ghost use Rattle.engine_calls.specs.declared.last.Asked.TheVariants.{Create, Fee
 use crate::last::{Asked, CallReason, Last};
 use crate::reasons::{merging_reason, opening_reason, rows_reason, sentence};
 use engine::{Delivered, Format, Place, Refusal, Seed, Session, Status};
-use fault_sentences::Reason;
 use file_sentences::{FileKind, file_reason, saving_reason, summary_reason};
+use sentences::Reason;
 use std::alloc::{AllocError, Global};
 use std::marker::Model;
 

@@ -1,7 +1,7 @@
 //! The last refusal, and its reason.
 
 use engine::Refusal;
-use fault_sentences::Reason;
+use sentences::Reason;
 
 /// What a call asked that was refused for a reason.
 #[derive(Clone, Copy, PartialEq, Eq)]

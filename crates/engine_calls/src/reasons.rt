@@ -5,8 +5,8 @@ ghost use Rattle.engine_calls.specs.Keeping.{text_of};
 
 use crate::last::Last;
 use engine::{Refusal, Replica};
-use fault_sentences::Reason;
 use file_sentences::{FileKind, columns_reason, file_reason, query_reason};
+use sentences::Reason;
 use std::alloc::{AllocError, Global};
 use std::str::from_utf8;
 

@@ -3,12 +3,12 @@
 use crate::field::FieldFault;
 use crate::foreign::{is_header, is_header_line, known_by_front, other_separator};
 use crate::lines::{count_records, first_line, line_of, open_quote, record_at};
-use crate::said::Said;
 use batch_reader::BatchError;
 use csv::ByteRecord;
 use grouping_model::limits::{LAST_NUMBER, LAST_ORIGIN, MAX_ROWS};
 use packed_rows::Schema;
 use script_io::{read_digits, read_row_count};
+use sentences::Said;
 use std::alloc::{AllocError, Global};
 
 /// The records of a batch: its head is the first of a text.

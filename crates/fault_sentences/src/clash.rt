@@ -1,8 +1,8 @@
 //! Kinds that don't fit, and what asks for a truth value.
 
-use crate::said::Said;
 use agg_protocol::{AggKind, Argument};
 use packed_rows::ValueKind;
+use sentences::Said;
 
 /// What asks for a truth value.
 #[derive(Clone, Copy)]

@@ -1,8 +1,8 @@
 //! What an unexpected file is.
 
-use crate::said::Said;
 use csv::ByteRecord;
 use packed_rows::Schema;
+use sentences::Said;
 use std::alloc::{AllocError, Global};
 use std::str;
 

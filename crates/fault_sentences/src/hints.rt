@@ -1,8 +1,8 @@
 //! What a query cannot have, and what to use instead.
 
-use crate::said::Said;
 use agg_protocol::{AggKind, Argument};
 use packed_rows::ValueKind;
+use sentences::Said;
 
 /// What is said of a word or a name.
 #[derive(Clone, Copy)]

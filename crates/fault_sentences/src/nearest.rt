@@ -1,7 +1,7 @@
 //! Names that are near to another.
 
-use crate::said::Said;
 use packed_rows::Schema;
+use sentences::Said;
 use std::alloc::{AllocError, Global};
 use strsim::levenshtein;
 

@@ -3,8 +3,6 @@
 use crate::hints::of_word;
 use crate::nearest::{nearest_column, say_near};
 use crate::places::tokens_before;
-use crate::reason::Reason;
-use crate::said::Said;
 use crate::syntax::{say_large, say_syntax};
 use crate::tour::{Mention, Role, Tour};
 use group_parser::{ParseError, count_begun, read};
@@ -15,6 +13,7 @@ use having_filter::{Item, OrderBy, QueryError, RawQuery};
 use packed_rows::Schema;
 use query_checks::{is_same_call, label};
 use query_tokens::Token;
+use sentences::{Reason, Said};
 use std::alloc::{AllocError, Global};
 
 /// A query that was read from a text, and that a check refused.

@@ -1,12 +1,11 @@
 //! Why a text is not a schema.
 
 use crate::places::{Lexed, Sign, piece_at, sign_of};
-use crate::reason::Reason;
-use crate::said::Said;
 use crate::syntax::say_found;
 use grouping_model::limits::{MAX_COLUMNS, MAX_QUERY_LEN};
 use packed_rows::ValueKind;
 use query_tokens::{Symbol, Token, is_reserved};
+use sentences::{Reason, Said};
 use std::alloc::{AllocError, Global};
 
 /// The kinds, as a sentence lists them.

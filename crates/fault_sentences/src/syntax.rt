@@ -2,12 +2,12 @@
 
 use crate::hints::{ARGUMENT, CALL_TERM, FRACTION, Hint, KEY_PLACE, of_function, of_star, of_word};
 use crate::places::{Lexed, Sign, piece_at, sign_of, tokens_before};
-use crate::said::Said;
 use crate::wanted::say_wanted;
 use group_parser::{begins, goes_on};
 use grouping_model::limits::MAX_NAME_LEN;
 use having_filter::Comparison;
 use query_tokens::{Symbol, Token, is_reserved};
+use sentences::Said;
 use std::alloc::{AllocError, Global};
 
 /// Says what is wrong with a piece that is not a token, if that is known.

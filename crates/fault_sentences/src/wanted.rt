@@ -1,7 +1,7 @@
 //! What may stand next in a query: what the parser goes on with.
 
-use crate::said::Said;
 use group_parser::goes_on;
+use sentences::Said;
 use std::alloc::{AllocError, Global};
 
 /// Names that may stand next, the first that fits: what the query goes on with, and what the name is then.

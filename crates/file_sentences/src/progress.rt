@@ -1,8 +1,8 @@
 //! The progress of a command, and what it took.
 
-use fault_sentences::Plain;
 use replies::{Reply, put_reply};
 use script_io::Fused;
+use sentences::Plain;
 use std::alloc::{AllocError, Global};
 use std::{fmt, str};
 

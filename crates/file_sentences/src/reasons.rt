@@ -1,11 +1,10 @@
 //! Why a command's files and texts are refused.
 
-use fault_sentences::{
-    BatchText, Plain, Quoted, Reason, no_summary, say_disagreement, say_query, say_schema,
-};
+use fault_sentences::{BatchText, no_summary, say_disagreement, say_query, say_schema};
 use packed_rows::Schema;
 use replica_merge::{KnownOrigin, Replica, SummaryError};
 use replies::{Refusal, RunError};
+use sentences::{Plain, Quoted, Reason};
 use std::alloc::{AllocError, Global};
 
 /// Says why a text is not a schema.

@@ -1,10 +1,10 @@
 //! What a summary holds, and what its answer is made of.
 
 use crate::waiting::Missing;
-use fault_sentences::Plain;
 use having_filter::Query;
 use origin_prefix::OriginPart;
 use replica_merge::{KnownOrigin, Replica};
+use sentences::Plain;
 use std::alloc::{AllocError, Global};
 use std::collections::BTreeMap;
 use std::fmt;

@@ -1,2 +1,4 @@
 pub mod Reading
 pub mod Writing
+pub mod Standing
+pub mod Fronts

@@ -1,6 +1,6 @@
 use Rattle.std.specs.Prelude.{Option, Result, IfErr}
 use Rattle.std.proofs.Common.{subst}
-use Rattle.file_sentences.specs.declared.out.Standing.{Standing}
+use Rattle.out_files.specs.declared.out.Standing.{Standing}
 use Rattle.command_streams.specs.declared.problem.Problem.{Problem}
 use Rattle.command_files.specs.Causes.{IsFailure}
 use Rattle.command_files.proofs.ReportingLaws.{says_nothing}

@@ -8,7 +8,7 @@ use Rattle.engine_calls.proofs.last.Asked.TheSendSync as asking
 use Rattle.engine_calls.proofs.last.CallReason.TheSendSync as call_reason
 use Rattle.engine_calls.proofs.last.Last.TheSendSync as last
 use Rattle.engine_calls.specs.contracts.kept.Kept as Kept
-use Rattle.fault_sentences.proofs.reason.Reason.TheSendSync as reason
+use Rattle.sentences.proofs.reason.Reason.TheSendSync as reason
 use Rattle.hash_agg.proofs.means.Means.TheSendSync as means
 use Rattle.having_filter.proofs.plan.Source.TheSendSync as source
 use Rattle.having_filter.proofs.texts.Texts.TheSendSync as texts

@@ -1,9 +1,9 @@
 -- Which files in the place of OUT stay. All of this is our own.
 use Rattle.std.specs.Prelude.{Bool, true, false}
-use Rattle.file_sentences.specs.declared.out.Fate.{Fate}
-use Rattle.file_sentences.specs.declared.out.Fate.TheVariants as fate
-use Rattle.file_sentences.specs.declared.out.FrontKind.{FrontKind}
-use Rattle.file_sentences.specs.declared.out.FrontKind.TheVariants as front
+use Rattle.out_files.specs.declared.out.Fate.{Fate}
+use Rattle.out_files.specs.declared.out.Fate.TheVariants as fate
+use Rattle.out_files.specs.declared.out.FrontKind.{FrontKind}
+use Rattle.out_files.specs.declared.out.FrontKind.TheVariants as front
 
 -- a file that has bytes is foreign, unless it begins as a summary that is read
 abbrev pub is_foreign : FrontKind → Bool

@@ -15,7 +15,7 @@ pub struct Reason {
 
 impl Reason {
     /// The reason that a sentence tells, with the place in a text, if that is known.
-    pub(crate) fn of(
+    pub fn of(
         alloc: Global,
         said: Said,
         text: &str,
@@ -30,7 +30,7 @@ impl Reason {
     }
 
     /// The same, if anything is said.
-    pub(crate) fn of_any(
+    pub fn of_any(
         alloc: Global,
         said: Said,
         text: &str,

@@ -1,10 +1,11 @@
 //! Why a plain CSV is not a batch.
 
 use csv::{ByteRecord, ReaderBuilder};
-use fault_sentences::{FieldFault, Quoted, Reason};
+use fault_sentences::FieldFault;
 use grouping_model::limits::{MAX_INPUT_LEN, MAX_ROWS};
 use packed_rows::Schema;
 use plain_batches::{Layout, PackError};
+use sentences::{Quoted, Reason};
 use std::alloc::{AllocError, Global};
 
 /// Bytes that often stand between fields, and how one tells them.

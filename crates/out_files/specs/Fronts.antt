@@ -1,8 +1,8 @@
 -- What the first bytes of a file tell of it: the openings of the two kinds of file that commands read. All of this is our own.
 use Rattle.std.specs.Prelude.{Bool, ◌||◌, ◌&&◌, ℕ, List, [], ◌∷◌, length, nat_eq, nat_le, codes, if◌then◌else◌}
 use Rattle.std.specs.List.{starts_with}
-use Rattle.file_sentences.specs.declared.out.FrontKind.{FrontKind}
-use Rattle.file_sentences.specs.declared.out.FrontKind.TheVariants as front
+use Rattle.out_files.specs.declared.out.FrontKind.{FrontKind}
+use Rattle.out_files.specs.declared.out.FrontKind.TheVariants as front
 
 -- a summary file of a version that is read begins with a word and the version
 abbrev pub begins_as_summary : List ℕ → Bool

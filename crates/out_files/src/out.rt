@@ -1,10 +1,10 @@
 //! Sentences on OUT: an existing file, and how it is written.
 
 ghost use Rattle.std.specs.Prelude.{◌≡◌};
-ghost use Rattle.file_sentences.specs.Fronts.{begins_as_batch, begins_as_summary, begins_as_version, kind_by_opening, kind_of_front};
-ghost use Rattle.file_sentences.specs.Standing.{is_foreign, stops};
+ghost use Rattle.out_files.specs.Fronts.{begins_as_batch, begins_as_summary, begins_as_version, kind_by_opening, kind_of_front};
+ghost use Rattle.out_files.specs.Standing.{is_foreign, stops};
 
-use fault_sentences::Plain;
+use sentences::Plain;
 use std::fmt;
 
 /// How many bytes of a file tell whether it begins as a summary does.
@@ -103,6 +103,29 @@ impl Fate {
     {
         matches!(self, Fate::Kept | Fate::Spared(_) | Fate::Shown)
     }
+
+    /// What is said of OUT, behind its name.
+    fn words(self) -> &'static str {
+        match self {
+            Fate::Kept => "exists: --no-clobber keeps it; nothing was read or written",
+            Fate::Replaced => {
+                "exists, is not an input, and will be REPLACED (--no-clobber keeps it)"
+            }
+            Fate::Spared(FrontKind::Batch) => {
+                "exists and is a batch file, not a summary: OUT comes first; nothing was read or written (--force replaces it)"
+            }
+            Fate::Spared(FrontKind::OtherVersion) => {
+                "exists and is a summary file of another version: nothing was read or written (--force replaces it)"
+            }
+            Fate::Spared(_) => {
+                "exists and is not a summary: nothing was read or written (--force replaces it)"
+            }
+            Fate::Forced => "exists, is not a summary, and will be REPLACED (--force)",
+            Fate::Shown => {
+                "is a terminal, and a summary is binary: nothing was read or written (--force writes it there)"
+            }
+        }
+    }
 }
 
 /// An existing OUT, and what happens to it.
@@ -114,37 +137,8 @@ pub struct Standing<'p> {
 
 impl fmt::Display for Standing<'_> {
     fn fmt<W: fmt::Write>(&self, f: &mut fmt::Formatter<W>) -> fmt::Result {
-        let out = Plain(self.out);
-        match self.fate {
-            Fate::Kept => write!(
-                f,
-                "{out} exists: --no-clobber keeps it; nothing was read or written"
-            ),
-            Fate::Replaced => write!(
-                f,
-                "{out} exists, is not an input, and will be REPLACED (--no-clobber keeps it)"
-            ),
-            Fate::Spared(FrontKind::Batch) => write!(
-                f,
-                "{out} exists and is a batch file, not a summary: OUT comes first; nothing was read or written (--force replaces it)"
-            ),
-            Fate::Spared(FrontKind::OtherVersion) => write!(
-                f,
-                "{out} exists and is a summary file of another version: nothing was read or written (--force replaces it)"
-            ),
-            Fate::Spared(_) => write!(
-                f,
-                "{out} exists and is not a summary: nothing was read or written (--force replaces it)"
-            ),
-            Fate::Forced => write!(
-                f,
-                "{out} exists, is not a summary, and will be REPLACED (--force)"
-            ),
-            Fate::Shown => write!(
-                f,
-                "{out} is a terminal, and a summary is binary: nothing was read or written (--force writes it there)"
-            ),
-        }
+        let (out, words) = (Plain(self.out), self.fate.words());
+        write!(f, "{out} {words}")
     }
 }
 
