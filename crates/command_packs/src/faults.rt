@@ -1,7 +1,7 @@
 //! Why a plain CSV is not a batch.
 
 use csv::{ByteRecord, ReaderBuilder};
-use fault_sentences::FieldFault;
+use fault_sentences::{FieldFault, line_of};
 use grouping_model::limits::{MAX_INPUT_LEN, MAX_ROWS};
 use packed_rows::Schema;
 use plain_batches::{Layout, PackError};
@@ -25,27 +25,6 @@ pub(crate) struct PlainText<'p> {
     pub(crate) layout: Layout<'p>,
     /// Its bytes.
     pub(crate) csv: &'p [u8],
-}
-
-/// Whether a byte ends a line.
-fn ends_line(byte: u8) -> bool {
-    byte == b'\r' || byte == b'\n'
-}
-
-/// The line of the first byte from a place on that ends no line, the first line being 1.
-fn line_from(text: &[u8], place: u64) -> u64 {
-    let mut line = 1u64;
-    let mut is_behind_return = false;
-    for (at, byte) in text.iter().enumerate() {
-        if at as u64 >= place && !ends_line(*byte) {
-            break;
-        }
-        if *byte == b'\r' || *byte == b'\n' && !is_behind_return {
-            line = line.saturating_add(1);
-        }
-        is_behind_return = *byte == b'\r';
-    }
-    line
 }
 
 /// Whether a record has this name in any case of letters.
@@ -96,14 +75,6 @@ impl PlainText<'_> {
     fn row_at(&self, alloc: Global, row: usize) -> Result<Option<ByteRecord>, AllocError> {
         let before = usize::from(self.layout.has_header);
         self.record_at(alloc, row.saturating_add(before))
-    }
-
-    /// The line at which a record begins.
-    fn line_of(&self, record: &ByteRecord) -> u64 {
-        match record.position() {
-            Some(position) => line_from(self.csv, position.byte()),
-            None => 1,
-        }
     }
 
     /// Whether the schema has a column of this name.
@@ -197,7 +168,7 @@ impl PlainText<'_> {
         let Some(record) = self.row_at(alloc, row)? else {
             return Ok(String::new(alloc));
         };
-        let (line, found) = (self.line_of(&record), record.len());
+        let (line, found) = (line_of(self.csv, &record), record.len());
         let mut said = if self.layout.has_header {
             let wanted = match self.record_at(alloc, 0)? {
                 Some(header) => header.len(),
@@ -235,7 +206,7 @@ impl PlainText<'_> {
         if column >= self.schema.width() {
             return Ok(String::new(alloc));
         }
-        let (line, kind) = (self.line_of(&record), self.schema.kind(column));
+        let (line, kind) = (line_of(self.csv, &record), self.schema.kind(column));
         let field = record.get(place).unwrap_or_default();
         let (name, shown) = (self.schema.name(column), Quoted(field));
         let (fault, kind) = (FieldFault::of(field, kind), kind.as_str());

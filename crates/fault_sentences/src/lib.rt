@@ -21,6 +21,7 @@ pub use batch::BatchText;
 pub use disagreement::say_disagreement;
 pub use field::FieldFault;
 pub use foreign::no_summary;
+pub use lines::line_of;
 pub use query::say_query;
 pub use schema::say_schema;
 pub use script::{ScriptPlace, say_columns, say_limit, say_taken};

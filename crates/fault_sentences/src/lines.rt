@@ -26,8 +26,8 @@ pub(crate) fn line_from(text: &[u8], place: u64) -> u64 {
     line
 }
 
-/// The line at which a record of a text begins.
-pub(crate) fn line_of(text: &[u8], record: &ByteRecord) -> u64 {
+/// The line at which a record of a text begins, the first line being 1.
+pub fn line_of(text: &[u8], record: &ByteRecord) -> u64 {
     match record.position() {
         // It is where the record before ended: empty lines, or the second byte of a line end, may come first.
         Some(position) => line_from(text, position.byte()),

@@ -8,7 +8,7 @@ use Rattle.grouping_model.specs.Aggregates.{Partial, Outcome, Plain, outcome}
 use Rattle.grouping_model.specs.Condition.{is_met}
 use Rattle.grouping_model.specs.Query.{Query}
 use Rattle.grouping_model.specs.Grouping.{Group, partials}
-use Rattle.grouping_model.specs.Parts.{functions}
+use Rattle.grouping_model.specs.Parts.{functions, key_kinds}
 use Rattle.grouping_model.specs.Answer.{outcome_at, source_in, answered_of_none, answered, rows_of}
 use Rattle.packed_rows.specs.Packing.{packing}
 use Rattle.packed_rows.specs.View.{row_of}
@@ -17,7 +17,6 @@ use Rattle.agg_protocol.specs.States as states
 use Rattle.agg_protocol.specs.declared.kind.AggKind.{AggKind}
 use Rattle.agg_protocol.specs.Kinds.{kind_shape, kind_width}
 use Rattle.agg_library.specs.StateRows.{DenotesAll}
-use Rattle.having_filter.specs.Kept.{key_kinds}
 use Rattle.group_runs.specs.Runs.{Entry}
 use Rattle.group_runs.specs.Standing.{AreStates, StandsFor, AreGroups}
 use Rattle.agg_library.specs.StateRowLaws.{first_and_rest}

@@ -10,7 +10,7 @@ ghost use Rattle.packed_rows.specs.View.{row_of};
 ghost use Rattle.agg_protocol.specs.Results.{outcome_of};
 ghost use Rattle.agg_protocol.specs.States.{most_rows};
 ghost use Rattle.agg_library.specs.StateRows.{DenotesAll};
-ghost use Rattle.having_filter.specs.Kept.{key_kinds};
+ghost use Rattle.grouping_model.specs.Parts.{key_kinds};
 ghost use Rattle.having_filter.specs.Meaning.{meaning};
 ghost use Rattle.having_filter.specs.Plans.{source_of};
 ghost use Rattle.group_runs.specs.Standing.{StandsFor, AreGroups};
@@ -149,7 +149,7 @@ fn rows_of_none<S: RowSink>(alloc: Global, query: &Query, rows: &mut S) -> Resul
     if !query.keys().is_empty() {
         return Ok(());
     }
-    let states = initial_states(alloc, query)?;
+    let states = initial_states(alloc, query.agg_kinds())?;
     push_group(query, &[], &states, &mut Scratch::new(alloc), rows)
 }
 

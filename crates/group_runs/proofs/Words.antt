@@ -6,10 +6,8 @@ pub use Rattle.grouping_model.specs.Aggregates.{Function, Partial, partial}
 pub use Rattle.grouping_model.specs.Combining.{combine, combine_all}
 pub use Rattle.grouping_model.specs.Datum.{HasKinds, Kind, Row, row_cmp, same_row}
 pub use Rattle.grouping_model.specs.Grouping.{Group, argument, arguments, column_of, partials}
-pub use Rattle.grouping_model.specs.Parts.{advanced, functions, keys_of, partials_at}
+pub use Rattle.grouping_model.specs.Parts.{advanced, functions, keys_of, partials_at, key_kinds}
 pub use Rattle.grouping_model.specs.Query.{Aggregate, Query}
-pub use Rattle.having_filter.specs.Kept.{TakesRows, key_kinds}
-pub use Rattle.having_filter.specs.Meaning.{meaning}
 pub use Rattle.list_laws.specs.Each.{each_append, each_behind, each_front, each_weaker}
 pub use Rattle.packed_rows.specs.ConcatenatedRows.{concatenated}
 pub use Rattle.group_runs.specs.Adding.{group_added, groups_added, merged, partial_after_row}
@@ -19,5 +17,4 @@ pub use Rattle.group_runs.specs.Places.{AllAbove, AreUpTo, CombinesAt, HasKey, H
 pub use Rattle.group_runs.specs.Places.{IsPlaceOf}
 pub use Rattle.group_runs.specs.Runs.{Entry, LieAs, Rises, packed_keys}
 pub use Rattle.group_runs.specs.Standing.{AreGroups, AreStates, StandsFor}
-pub use Rattle.group_runs.specs.Steps.{AddsGroup, AddsRun, AreAdvanced, CombineWith, HasRoomForGroup, HasRoomForRun, HaveRoomForMore}
-pub use Rattle.group_runs.specs.Steps.{HaveRoomForRow}
+pub use Rattle.group_runs.specs.Steps.{AddsGroup, AddsRun, AddsRunOf, CanAddRun, CombineWith, EachQuery, HasRoomForGroup, HasRoomForRun, HaveRoomForMore}

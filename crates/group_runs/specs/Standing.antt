@@ -4,13 +4,12 @@ use Rattle.grouping_model.specs.Datum.{HasKinds}
 use Rattle.grouping_model.specs.Aggregates.{Function, Partial}
 use Rattle.grouping_model.specs.Query.{Query}
 use Rattle.grouping_model.specs.Grouping.{Group}
-use Rattle.grouping_model.specs.Parts.{functions}
+use Rattle.grouping_model.specs.Parts.{functions, key_kinds}
 use Rattle.packed_rows.specs.Packing.{packing}
 use Rattle.agg_protocol.specs.States.{shape_of, width_of}
 use Rattle.agg_protocol.specs.declared.kind.AggKind.{AggKind}
 use Rattle.agg_protocol.specs.Kinds.{function_of}
 use Rattle.agg_library.specs.StateRows.{ArePartials, DenotesAll, state_bytes}
-use Rattle.having_filter.specs.Kept.{key_kinds}
 use Rattle.group_runs.specs.Runs.{Entry, Rises}
 
 -- the bytes denote these partial results, one of each of the functions, that count at most this many rows each

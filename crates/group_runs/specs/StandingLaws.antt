@@ -5,20 +5,19 @@ use Rattle.std.specs.List.{AllByRecursion}
 use Rattle.std.proofs.lemmas.List.{length-map}
 use Rattle.std.proofs.lemmas.Option.{none-some, same_Some}
 use Rattle.std.proofs.Math.Nat.{le_trans, mul-le-mul_right}
-use Rattle.grouping_model.specs.Aggregates.{Function, Partial}
+use Rattle.grouping_model.specs.Aggregates.{Function, Partial, partial}
 use Rattle.grouping_model.specs.Datum.{HasKinds}
-use Rattle.grouping_model.specs.Query.{Query}
-use Rattle.grouping_model.specs.Grouping.{Group}
-use Rattle.grouping_model.specs.Parts.{functions, keys_of}
+use Rattle.grouping_model.specs.Query.{Aggregate, Query}
+use Rattle.grouping_model.specs.Grouping.{Group, arguments, partials}
+use Rattle.grouping_model.specs.Parts.{functions, keys_of, key_kinds}
 use Rattle.packed_rows.specs.Packing.{packing}
 use Rattle.agg_protocol.specs.States as states
 use Rattle.agg_protocol.specs.States.{shape_of}
 use Rattle.agg_protocol.specs.declared.kind.AggKind.{AggKind}
-use Rattle.agg_protocol.specs.Kinds.{functions_of, kind_for}
-use Rattle.agg_library.specs.StateRows.{ArePartials, DenotesAll}
+use Rattle.agg_protocol.specs.Kinds.{function_of, functions_of, kind_for}
+use Rattle.agg_library.specs.StateRows.{ArePartials, DenotesAll, initial_partials}
 use Rattle.agg_library.specs.StateRowLaws.{all_raised, by_functions, bytes_states, name_all, narrow, states_bytes, states_wide}
 use Rattle.agg_library.specs.StateRowLaws.{widths_named}
-use Rattle.having_filter.specs.Kept.{IsWellFormed, key_kinds}
 use Rattle.group_runs.specs.Runs.{Entry, packed_keys}
 use Rattle.group_runs.specs.Standing.{AreStates, StandsFor, AreGroups, IsGroupOf, group_bytes, run_bytes, states_width}
 
@@ -46,13 +45,29 @@ states_long q m bytes ps are = states_wide m are.kinds bytes ps are.denote ∙ w
     ∙ ap (λ these. sum_by (λ function. states.width_of (shape_of function)) these) are.named
 
 -- states are not too long for a table
-pub states_short : (q : Query) (m : ℕ) (bytes : List ℕ) (ps : List Partial) → IsWellFormed q → AreStates (functions q) m bytes ps
+pub states_short : (q : Query) (m : ℕ) (bytes : List ℕ) (ps : List Partial) → length q.aggregates ≤ 32 → AreStates (functions q) m bytes ps
     → length bytes ≤ 8184
-states_short q m bytes ps formed are =
+states_short q m bytes ps some are =
     let many : length are.kinds ≡ length q.aggregates = sym (length-map are.kinds _) ∙ ap length are.named ∙ length-map q.aggregates _ in
-    let few : length are.kinds ≤ 32 = subst (λ n. n ≤ 32) (sym many) formed.few_aggregates in
+    let few : length are.kinds ≤ 32 = subst (λ n. n ≤ 32) (sym many) some in
     subst (λ n. n ≤ 8184) (sym (states_wide m are.kinds bytes ps are.denote))
     (le_trans (narrow are.kinds) (le_trans (mul-le-mul_right 24 few) (leb-true 768 8184 refl)))
+
+-- what the functions of a query begin with is what it has over no rows
+initial_are : (kinds : List AggKind) (aggregates : List Aggregate) → functions_of kinds ≡ map (λ (a : Aggregate). a.function) aggregates
+    → initial_partials kinds ≡ map (λ (a : Aggregate). partial a.function (arguments a [])) aggregates
+initial_are [] [] named = refl
+initial_are (k ∷ ks) (a ∷ calls) named =
+    let one : function_of k ≡ a.function = cc in
+    let rest : functions_of ks ≡ map (λ (a : Aggregate). a.function) calls = cc in
+    λ i. partial (one i) [] ∷ initial_are ks calls rest i
+initial_are _ _ named = absurd cc
+
+pub initial_of : (q : Query) (kinds : List AggKind) (bytes : List ℕ) → functions_of kinds ≡ functions q
+    → AreStates (functions_of kinds) 0 bytes (initial_partials kinds) → AreStates (functions q) 0 bytes (partials q [])
+initial_of q kinds bytes named are =
+    subst (AreStates (functions q) 0 bytes) (initial_are kinds q.aggregates named)
+    (subst (λ these. AreStates these 0 bytes (initial_partials kinds)) named are)
 
 -- ---- the groups of a run
 

@@ -1,11 +1,11 @@
 -- What the steps of an aggregation require of the groups that bytes stand for, and what they make of them. A step requires that there are
 -- such groups, and speaks of all that the bytes stand for. All of this is our own.
-use Rattle.std.specs.Prelude.{ℕ, ◌+◌, ◌<◌, ◌≤◌, List, map, IfSome}
+use Rattle.std.specs.Prelude.{◌≡◌, ℕ, ◌+◌, ◌<◌, ◌≤◌, List, map, IfSome}
 use Rattle.grouping_model.specs.Aggregates.{Function, Partial}
 use Rattle.grouping_model.specs.Combining.{combine_all}
 use Rattle.grouping_model.specs.Datum.{Row}
 use Rattle.grouping_model.specs.Grouping.{Group}
-use Rattle.grouping_model.specs.Parts.{advanced, partials_at}
+use Rattle.grouping_model.specs.Parts.{advanced, functions, partials_at}
 use Rattle.grouping_model.specs.Query.{Query, Aggregate}
 use Rattle.agg_protocol.specs.States.{most_rows}
 use Rattle.agg_library.specs.StateRows.{AllWithin}
@@ -43,6 +43,25 @@ AddsRun query old run new =
     → AreGroups query m old groups
     → AreGroups query n run more
     → AreGroups query (m + n) new (groups_added query groups more)
+
+-- for some query of these functions, or for each: a step knows the functions alone
+abbrev pub SomeQuery : List Function → (Query → Type 0) → Type 0
+SomeQuery these Holds = (query : Query) × (functions query ≡ these) × Holds query
+
+abbrev pub EachQuery : List Function → (Query → Type 0) → Type 0
+EachQuery these Holds = (query : Query) → functions query ≡ these → Holds query
+
+abbrev pub CanAddGroup : List Function → List Entry → Entry → Type 0
+CanAddGroup these old entry = SomeQuery these (λ query. HasRoomForGroup query old entry)
+
+abbrev pub AddsGroupOf : List Function → List Entry → Entry → List Entry → Type 0
+AddsGroupOf these old entry new = EachQuery these (λ query. AddsGroup query old entry new)
+
+abbrev pub CanAddRun : List Function → List Entry → List Entry → Type 0
+CanAddRun these old run = SomeQuery these (λ query. HasRoomForRun query old run)
+
+abbrev pub AddsRunOf : List Function → List Entry → List Entry → List Entry → Type 0
+AddsRunOf these old run new = EachQuery these (λ query. AddsRun query old run new)
 
 -- states of these functions that count at most this many rows
 abbrev pub AreWithin : List Function → ℕ → List ℕ → Type 0

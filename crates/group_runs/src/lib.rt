@@ -10,4 +10,4 @@ mod segments;
 mod states;
 
 pub use run::Run;
-pub use states::{advance_slice, combine_within, initial_states};
+pub use states::{combine_within, initial_states};

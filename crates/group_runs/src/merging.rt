@@ -1,17 +1,17 @@
 //! Merging groups into a segment.
 
 ghost use Rattle.std.specs.Prelude.{◌≡◌, ◌+◌, ◌^◌, ◌<◌, ◌≤◌, ◌++◌, ◌↔◌, IfOk, IsTrue, OnOk, length, drop, slice_range};
-ghost use Rattle.having_filter.specs.Meaning.{meaning};
+ghost use Rattle.agg_protocol.specs.Kinds.{functions_of};
 ghost use Rattle.group_runs.specs.Runs.{Rises};
 ghost use Rattle.group_runs.specs.Places.{AllBelow, AreUpTo, HasKeyAt, IsPlaceOf};
-ghost use Rattle.group_runs.specs.Steps.{HasRoomForGroup, AddsGroup, HasRoomForRun, AddsRun};
+ghost use Rattle.group_runs.specs.Steps.{CanAddGroup, AddsGroupOf, CanAddRun, AddsRunOf};
 ghost use Rattle.group_runs.specs.Segments.{ArePiecesOf};
 ghost use Rattle.packed_rows.specs.ConcatenatedRows.{concatenated};
 
 use crate::seeking::{gap, is_below};
 use crate::segment::Segment;
 use crate::segments::{MAX_GROUPS, Segments};
-use having_filter::Query;
+use agg_library::AggKind;
 use std::alloc::{AllocError, Global};
 
 /// Where the piece that begins at a place ends, among `count` groups. It has half as many groups as a segment may have, and the last
@@ -64,7 +64,7 @@ impl Segment {
     /// is a guess of how many come here.
     fn merge_group(
         &mut self,
-        query: &Query,
+        kinds: &[AggKind],
         old: &Segment,
         from: usize,
         step: usize,
@@ -74,18 +74,17 @@ impl Segment {
         requires below { AllBelow key.now self.old }
         requires within { from ≤ length old.now }
         requires rises { Rises (self.old ++ drop from old.now) }
-        requires room { HasRoomForGroup (meaning query.now) (self.old ++ drop from old.now)
-            (key.now, states.now) }
+        requires room { CanAddGroup (functions_of kinds.now) (self.old ++ drop from old.now) (key.now, states.now) }
         ensures within { IfOk result (λ next. next ≤ length old.now) }
         ensures rises { IfOk result (λ next. Rises (self.new ++ drop next old.now)) }
         ensures up_to { OnOk result (AreUpTo key.now self.new) }
-        ensures added { IfOk result (λ next. AddsGroup (meaning query.now)
+        ensures added { IfOk result (λ next. AddsGroupOf (functions_of kinds.now)
             (self.old ++ drop from old.now) (key.now, states.now) (self.new ++ drop next old.now)) }
     {
         let place = old.seek(from, step, key);
         if old.has_at(place, key) {
             self.push_range(old, from, place + 1)?;
-            self.combine_at(query, self.len() - 1, states);
+            self.combine_at(kinds, self.len() - 1, states);
             return Ok(place + 1);
         }
         self.push_range(old, from, place)?;
@@ -97,16 +96,15 @@ impl Segment {
     pub(crate) fn merged(
         &self,
         alloc: Global,
-        query: &Query,
+        kinds: &[AggKind],
         more: &Segments,
         from: usize,
         to: usize,
     ) -> Result<Segment, AllocError>
         requires order { from ≤ to }
         requires within { to ≤ length (concatenated more.now) }
-        requires room { HasRoomForRun (meaning query.now) self.now
-            (slice_range (concatenated more.now) from to) }
-        ensures { IfOk result (AddsRun (meaning query.now) self.now
+        requires room { CanAddRun (functions_of kinds.now) self.now (slice_range (concatenated more.now) from to) }
+        ensures { IfOk result (AddsRunOf (functions_of kinds.now) self.now
             (slice_range (concatenated more.now) from to)) }
     {
         let count = self.len();
@@ -115,7 +113,7 @@ impl Segment {
         let mut left = 0;
         for place in 0..to - from {
             let (key, states) = more.group(from + place);
-            left = merged.merge_group(query, self, left, step, key, states)?;
+            left = merged.merge_group(kinds, self, left, step, key, states)?;
         }
         merged.push_range(self, left, count)?;
         Ok(merged)

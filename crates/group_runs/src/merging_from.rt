@@ -2,17 +2,17 @@
 
 ghost use Rattle.std.specs.Prelude.{◌≡◌, ◌+◌, ◌<◌, ◌≤◌, IfOk, IsTrue, OnOk, OnErr, length, take};
 ghost use Rattle.std.specs.List.{AllByRecursion};
-ghost use Rattle.having_filter.specs.Meaning.{meaning};
+ghost use Rattle.agg_protocol.specs.Kinds.{functions_of};
 ghost use Rattle.group_runs.specs.Runs.{packed_keys};
 ghost use Rattle.group_runs.specs.Places.{AllBelow, AreUpTo, HasKey};
-ghost use Rattle.group_runs.specs.Steps.{HasRoomForGroup, AddsGroup, HasRoomForRun, AddsRun};
+ghost use Rattle.group_runs.specs.Steps.{EachQuery, CanAddGroup, AddsGroupOf, CanAddRun, AddsRunOf};
 ghost use Rattle.packed_rows.specs.ConcatenatedRows.{concatenated};
 ghost use Rattle.group_runs.specs.Segments.{AddSegments};
 
 use crate::seeking::gap;
 use crate::segment::Segment;
 use crate::segments::Segments;
-use having_filter::Query;
+use agg_library::AggKind;
 use std::alloc::{AllocError, Global};
 
 impl Segments {
@@ -37,7 +37,7 @@ impl Segments {
     /// more. The result is how many groups there are up to it.
     fn combine_group(
         &mut self,
-        query: &Query,
+        kinds: &[AggKind],
         from: usize,
         step: usize,
         key: &[u8],
@@ -46,28 +46,28 @@ impl Segments {
         requires there { HasKey (concatenated self.old) key.now }
         requires within { from ≤ length (concatenated self.old) }
         requires below { AllBelow key.now (take from (concatenated self.old)) }
-        requires room { HasRoomForGroup (meaning query.now) (concatenated self.old) (key.now, states.now) }
-        ensures added { AddsGroup (meaning query.now) (concatenated self.old) (key.now, states.now) (concatenated self.new) }
+        requires room { CanAddGroup (functions_of kinds.now) (concatenated self.old) (key.now, states.now) }
+        ensures added { AddsGroupOf (functions_of kinds.now) (concatenated self.old) (key.now, states.now) (concatenated self.new) }
         ensures keys { packed_keys (concatenated self.new) ≡ packed_keys (concatenated self.old) }
         ensures within { result ≤ length (concatenated self.new) }
         ensures up_to { AreUpTo key.now (take result (concatenated self.new)) }
     {
         let place = self.seek(from, step, key);
-        self.combine_at(query, place, states);
+        self.combine_at(kinds, place, states);
         place + 1
     }
 
     /// Combines the groups with those of another run, all of whose keys are there.
-    fn combine_all(&mut self, query: &Query, more: &Segments)
+    fn combine_all(&mut self, kinds: &[AggKind], more: &Segments)
         requires there { AllByRecursion (HasKey (concatenated self.old)) (packed_keys (concatenated more.now)) }
-        requires room { HasRoomForRun (meaning query.now) (concatenated self.old) (concatenated more.now) }
-        ensures { AddsRun (meaning query.now) (concatenated self.old) (concatenated more.now) (concatenated self.new) }
+        requires room { CanAddRun (functions_of kinds.now) (concatenated self.old) (concatenated more.now) }
+        ensures { AddsRunOf (functions_of kinds.now) (concatenated self.old) (concatenated more.now) (concatenated self.new) }
     {
         let step = gap(self.len(), more.len());
         let mut from = 0;
         for place in 0..more.len() {
             let (key, states) = more.group(place);
-            from = self.combine_group(query, from, step, key, states);
+            from = self.combine_group(kinds, from, step, key, states);
         }
     }
 
@@ -75,12 +75,13 @@ impl Segments {
     fn merged(
         &self,
         alloc: Global,
-        query: &Query,
+        kinds: &[AggKind],
         more: &Segments,
     ) -> Result<Vec<(usize, Segment)>, AllocError>
         requires some { 0 < length (concatenated self.now) }
-        requires room { HasRoomForRun (meaning query.now) (concatenated self.now) (concatenated more.now) }
-        ensures { IfOk result (λ fresh. AddSegments (meaning query.now) self.now (concatenated more.now) fresh.items) }
+        requires room { CanAddRun (functions_of kinds.now) (concatenated self.now) (concatenated more.now) }
+        ensures { IfOk result (λ fresh. EachQuery (functions_of kinds.now) (λ query.
+            AddSegments query self.now (concatenated more.now) fresh.items)) }
     {
         let _few_segments = self.count();
         let mut fresh = Vec::new(alloc);
@@ -88,7 +89,7 @@ impl Segments {
         let mut from = 0;
         while from < more.len() {
             let (at, to) = self.part(first, more, from);
-            let segment = self.segment(at).merged(alloc, query, more, from, to)?;
+            let segment = self.segment(at).merged(alloc, kinds, more, from, to)?;
             fresh.push((at, segment))?;
             first = at + 1;
             from = to;
@@ -103,15 +104,16 @@ impl Segments {
     pub(crate) fn merge_from(
         &mut self,
         alloc: Global,
-        query: &Query,
+        kinds: &[AggKind],
         more: &Segments,
     ) -> Result<(), AllocError>
-        requires { HasRoomForRun (meaning query.now) (concatenated self.old) (concatenated more.now) }
-        ensures added { OnOk result (AddsRun (meaning query.now) (concatenated self.old) (concatenated more.now) (concatenated self.new)) }
+        requires { CanAddRun (functions_of kinds.now) (concatenated self.old) (concatenated more.now) }
+        ensures added { OnOk result (AddsRunOf (functions_of kinds.now) (concatenated self.old) (concatenated more.now)
+            (concatenated self.new)) }
         ensures refused { OnErr result (concatenated self.new ≡ concatenated self.old) }
     {
         if self.has_all(more) {
-            self.combine_all(query, more);
+            self.combine_all(kinds, more);
             return Ok(());
         }
         if self.len() == 0 {
@@ -122,7 +124,7 @@ impl Segments {
             return Err(AllocError); // No memory has so many groups.
         }
         self.cut_large()?;
-        let fresh = self.merged(alloc, query, more)?;
+        let fresh = self.merged(alloc, kinds, more)?;
         self.replace(fresh);
         Ok(())
     }

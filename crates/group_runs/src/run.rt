@@ -2,13 +2,13 @@
 
 ghost use Rattle.std.specs.Prelude.{◌≡◌, ◌^◌, ◌<◌, ◌≤◌, ◌++◌, ◌∷◌, [], length, slice_get, slice_range, Some, IsTrue, ◌↔◌};
 ghost use Rattle.std.specs.Prelude.{IfOk, OnOk, OnErr};
-ghost use Rattle.having_filter.specs.Meaning.{meaning};
+ghost use Rattle.agg_protocol.specs.Kinds.{functions_of};
 ghost use Rattle.group_runs.specs.Runs.{Rises};
 ghost use Rattle.group_runs.specs.Places.{IsPlaceOf};
-ghost use Rattle.group_runs.specs.Steps.{HasRoomForRun, AddsRun};
+ghost use Rattle.group_runs.specs.Steps.{CanAddRun, AddsRunOf};
 
 use crate::segments::Segments;
-use having_filter::Query;
+use agg_library::AggKind;
 use std::alloc::{AllocError, Global};
 use std::marker::Model;
 
@@ -136,13 +136,18 @@ impl Run {
         true
     }
 
-    /// Adds the groups of another run. If all its keys are there, this takes no memory. The only error is a failed
-    /// allocation, which leaves the run as it was.
-    pub fn merge_from(&mut self, alloc: Global, query: &Query, more: &Run) -> Result<(), AllocError>
-        requires { HasRoomForRun (meaning query.now) self.old more.now }
-        ensures added { OnOk result (AddsRun (meaning query.now) self.old more.now self.new) }
+    /// Adds the groups of another run, of a query with these functions. If all its keys are there, this takes no memory. The only
+    /// error is a failed allocation, which leaves the run as it was.
+    pub fn merge_from(
+        &mut self,
+        alloc: Global,
+        kinds: &[AggKind],
+        more: &Run,
+    ) -> Result<(), AllocError>
+        requires { CanAddRun (functions_of kinds.now) self.old more.now }
+        ensures added { OnOk result (AddsRunOf (functions_of kinds.now) self.old more.now self.new) }
         ensures refused { OnErr result (self.new ≡ self.old) }
     {
-        self.segments.merge_from(alloc, query, &more.segments)
+        self.segments.merge_from(alloc, kinds, &more.segments)
     }
 }

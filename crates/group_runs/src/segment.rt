@@ -3,14 +3,13 @@
 ghost use Rattle.std.specs.Prelude.{◌≡◌, ℕ, ◌+◌, ◌-◌, ◌^◌, ◌<◌, ◌≤◌, ◌++◌, ◌∷◌, List, [], length, map, take, drop, slice_get};
 ghost use Rattle.std.specs.Prelude.{slice_index_or, slice_range, Some, IsTrue, ◌↔◌, IfOk, OnOk, OnErr};
 ghost use Rattle.std.specs.List.{AllByRecursion};
-ghost use Rattle.grouping_model.specs.Parts.{functions};
-ghost use Rattle.having_filter.specs.Meaning.{meaning};
+ghost use Rattle.agg_protocol.specs.Kinds.{functions_of};
 ghost use Rattle.group_runs.specs.Runs.{Rises, all_cut, LieAs, keys_concatenated, states_concatenated, IsEndFrom, moved};
 ghost use Rattle.group_runs.specs.Steps.{HaveRoomForMore, CombineWith};
 ghost use Rattle.group_runs.specs.Places.{HasStatesFor, CombinesAt};
 
 use crate::states::combine_slice;
-use having_filter::Query;
+use agg_library::AggKind;
 use std::alloc::{AllocError, Global};
 use std::marker::Model;
 
@@ -128,18 +127,18 @@ fn push_ends(
 }
 
 /// Combines the states from a place to another with others, which come after.
-fn combine_part(query: &Query, states: &mut Vec<u8>, from: usize, to: usize, more: &[u8])
+fn combine_part(kinds: &[AggKind], states: &mut Vec<u8>, from: usize, to: usize, more: &[u8])
     requires order { from ≤ to }
     requires within { to ≤ length states.old.items }
-    requires room { HaveRoomForMore (functions (meaning query.now))
+    requires room { HaveRoomForMore (functions_of kinds.now)
         (slice_range states.old.items from to) more.now }
     ensures { (part : List ℕ)
         × (states.new.items ≡ take from states.old.items ++ (part ++ drop to states.old.items))
         × (length part ≡ to - from)
-        × CombineWith (functions (meaning query.now)) (slice_range states.old.items from to)
+        × CombineWith (functions_of kinds.now) (slice_range states.old.items from to)
         more.now part }
 {
-    combine_slice(query, &mut states[from..to], more);
+    combine_slice(kinds, &mut states[from..to], more);
 }
 
 impl Segment {
@@ -237,13 +236,13 @@ impl Segment {
     }
 
     /// Combines the states of a group with others of its key, which come after.
-    pub(crate) fn combine_at(&mut self, query: &Query, place: usize, more: &[u8])
-        requires { HasStatesFor (functions (meaning query.now)) self.old place more.now }
-        ensures { CombinesAt (functions (meaning query.now)) self.old place more.now self.new }
+    pub(crate) fn combine_at(&mut self, kinds: &[AggKind], place: usize, more: &[u8])
+        requires { HasStatesFor (functions_of kinds.now) self.old place more.now }
+        ensures { CombinesAt (functions_of kinds.now) self.old place more.now self.new }
     {
         let from = bound(&self.ends, place);
         let to = bound(&self.ends, place + 1);
-        combine_part(query, &mut self.states, from.1, to.1, more);
+        combine_part(kinds, &mut self.states, from.1, to.1, more);
     }
 
     /// A copy of the groups. The only error is a failed allocation.

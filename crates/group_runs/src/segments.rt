@@ -5,15 +5,14 @@ ghost use Rattle.std.specs.Prelude.{IsTrue, ◌↔◌, slice_range};
 ghost use Rattle.std.specs.Prelude.{IfOk, OnOk, OnErr};
 ghost use Rattle.std.specs.List.{AllByRecursion, Any};
 ghost use Rattle.std.specs.Vec.{vec_len, vec_capacity};
-ghost use Rattle.grouping_model.specs.Parts.{functions};
-ghost use Rattle.having_filter.specs.Meaning.{meaning};
+ghost use Rattle.agg_protocol.specs.Kinds.{functions_of};
 ghost use Rattle.group_runs.specs.Runs.{Entry, Rises};
 ghost use Rattle.group_runs.specs.Places.{HasStatesFor, CombinesAt};
 ghost use Rattle.packed_rows.specs.ConcatenatedRows.{concatenated, ends_of};
 ghost use Rattle.group_runs.specs.Segments.{IsAmong, replaced, ArePiecesOf, AreCut, all_pieces, cut_count};
 
 use crate::segment::Segment;
-use having_filter::Query;
+use agg_library::AggKind;
 use packed_rows::bound;
 use std::alloc::{AllocError, Global};
 use std::marker::Model;
@@ -291,13 +290,13 @@ impl Segments {
     }
 
     /// Combines the states of a group with others of its key, which come after.
-    pub(crate) fn combine_at(&mut self, query: &Query, place: usize, more: &[u8])
-        requires { HasStatesFor (functions (meaning query.now)) (concatenated self.old) place more.now }
-        ensures { CombinesAt (functions (meaning query.now)) (concatenated self.old) place more.now (concatenated self.new) }
+    pub(crate) fn combine_at(&mut self, kinds: &[AggKind], place: usize, more: &[u8])
+        requires { HasStatesFor (functions_of kinds.now) (concatenated self.old) place more.now }
+        ensures { CombinesAt (functions_of kinds.now) (concatenated self.old) place more.now (concatenated self.new) }
     {
         let at = self.segment_of(place);
         let start = self.start(at);
-        self.segments[at].combine_at(query, place - start, more);
+        self.segments[at].combine_at(kinds, place - start, more);
     }
 
     /// The groups from a place up to another, in a segment of their own. The only error is a failed allocation.

@@ -1,7 +1,7 @@
 -- Groups as a map from keys to partial results, and the groups of two lists of rows appended. All of this is our own.
-use Rattle.std.specs.Prelude.{List, [], ◌∷◌, ◌++◌, map, find, Option, option_map, unwrap_or, if◌then◌else◌}
+use Rattle.std.specs.Prelude.{List, [], ◌∷◌, ◌++◌, map, slice_index_or, find, Option, option_map, unwrap_or, if◌then◌else◌}
 use Rattle.std.specs.BTreeMap.{insert_entry}
-use Rattle.grouping_model.specs.Datum.{Row, row_cmp, same_row}
+use Rattle.grouping_model.specs.Datum.{Kind, Bigint_kind, Row, row_cmp, same_row}
 use Rattle.grouping_model.specs.Rising.{distinct}
 use Rattle.grouping_model.specs.Aggregates.{Function, Partial}
 use Rattle.grouping_model.specs.Combining.{combine_all, transition}
@@ -12,6 +12,10 @@ use Rattle.grouping_model.specs.Grouping.{Group, partials, argument, column_of, 
 -- the functions of a query's aggregates
 abbrev pub functions : Query → List Function
 functions query = map (λ (aggregate : Aggregate). aggregate.function) query.aggregates
+
+-- the kinds of the columns of GROUP BY (PostgreSQL 17, 7.2.3)
+abbrev pub key_kinds : Query → List Kind
+key_kinds query = map (λ place. slice_index_or query.kinds place Bigint_kind) query.keys
 
 -- the keys of some groups
 abbrev pub keys_of : List Group → List Row

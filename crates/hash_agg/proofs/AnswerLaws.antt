@@ -1,13 +1,13 @@
 -- What is answered of inputs, and what is counted, once all passes over them were made.
-use Rattle.std.specs.Prelude.{◌≡◌, ◌≢◌, refl, ℕ, ◌+◌, ◌≤◌, min, max, List, [], map, length, Some, Result, IsErrAnd, IsTrue}
+use Rattle.std.specs.Prelude.{◌≡◌, ◌≢◌, refl, ℕ, ◌+◌, ◌≤◌, min, max, List, [], length, Some, Result, IsErrAnd, IsTrue}
 use Rattle.std.specs.List.{AllByRecursion}
-use Rattle.std.proofs.Common.{sym, ◌∙◌, ap, subst, arith}
+use Rattle.std.proofs.Common.{sym, ◌∙◌, subst, arith}
 use Rattle.std.proofs.lemmas.Result.{err_from_is_err_and}
 use Rattle.agg_protocol.specs.States.{most_rows}
 use Rattle.aggregation_cost.specs.Lemmas.BoundLaws.{spilled_few}
 use Rattle.hash_agg.proofs.Words.{cost, Setting, Cost, Query, meaning, Entry, Rises, AreGroups, AreInputs, query_of, states_width}
-use Rattle.hash_agg.proofs.Words.{setting_in, concatenated, Brought, all_rows, all_groups, IsInput, IsAggregate, IsRunOver, Given, AllGive}
-use Rattle.hash_agg.proofs.Words.{AreSafe, CountUpTo, IsPlan, Stands, setting_for, records_of, all_pieces, AddsUp, Pass, Plan, Work}
+use Rattle.hash_agg.proofs.Words.{setting_in, concatenated, Brought, all_rows, IsInput, IsAggregate, IsRunOver, Given, AllGive}
+use Rattle.hash_agg.proofs.Words.{AreSafe, CountUpTo, IsPlan, Stands, setting_for, records_of, all_pieces, AddsUp, Pass, Work}
 use Rattle.hash_agg.proofs.Words.{DiskFrame, Ghosts, spill_faults, TapeDamaged}
 use Rattle.query_checks.specs.Checks.{Checked}
 use Rattle.spill_partitions.specs.declared.error.SpillError.{SpillError}
@@ -15,7 +15,7 @@ use Rattle.hash_agg.specs.Counting.{HasFewPasses, IsCounted, Took, cost_given, n
 use Rattle.hash_agg.specs.Inputs.{Aggregated, Aggregation}
 use Rattle.hash_agg.specs.Lemmas.RanLaws.{Counting, none_grown, reason_is}
 use Rattle.hash_agg.specs.Means.{MeansState}
-use Rattle.hash_agg.specs.Ran.{Ran, Done, Refused, ended}
+use Rattle.hash_agg.specs.Ran.{Ran, Done, ended}
 use Rattle.hash_agg.proofs.CountLaws.{all_made, made_rise, all_few, keys_give, few_keys}
 use Rattle.hash_agg.proofs.FewLaws.{few_passes, run_few, records_few}
 use Rattle.hash_agg.proofs.FitLaws.{all_fit}

@@ -5,10 +5,10 @@ use Rattle.std.specs.List.Sorted.{IsPermutation}
 use Rattle.hash_agg.proofs.Words.{Query, Cost, both, Setting, IsWellFormed, Record}
 use Rattle.hash_agg.proofs.Words.{PendingPartition, partitions_of, left_by, PartitionsState}
 use Rattle.hash_agg.proofs.Words.{HasPartitions, BeginsLast, AreOn, pages_of, written_pages, meaning, Plan}
-use Rattle.hash_agg.proofs.Words.{Entry, Rises, Ghosts, CountsWithin}
+use Rattle.hash_agg.proofs.Words.{Entry, Rises, Ghosts}
 use Rattle.hash_agg.proofs.Words.{IsDone, IsSafeRun, IsUnderway, MadeAll, MadeFirst, MadeLater, query_of, setting_in, Brought, Given, AllGive, Pass}
 use Rattle.hash_agg.proofs.Words.{Piece, AreOnce, CountUpTo, Stands, setting_of, ReadsPartition, CanReadPartition, all_pieces}
-use Rattle.hash_agg.proofs.Words.{brought_by, Waits}
+use Rattle.hash_agg.proofs.Words.{Waits}
 use Rattle.hash_agg.proofs.Words.{Costs, AddsUp, pass_cost, Work}
 use Rattle.hash_agg.proofs.SortLaws.{rises_once}
 use Rattle.hash_agg.proofs.UnionLaws.{ends}

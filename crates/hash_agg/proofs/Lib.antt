@@ -6,6 +6,7 @@ pub mod SortLaws
 pub mod UnionLaws
 pub mod WaitLaws
 pub mod KeyLaws
+pub mod AdvanceLaws
 pub mod InputLaws
 pub mod WholeLaws
 pub mod FoldLaws

@@ -13,10 +13,10 @@ pub use Rattle.grouping_model.specs.Condition.{is_met}
 pub use Rattle.grouping_model.specs.Datum.{Bigint, Bigint_kind, Boolean, Boolean_kind, Datum, HasKinds, Kind, Null, Row, Text, Text_kind}
 pub use Rattle.grouping_model.specs.Datum.{at_place, row_cmp, same_row}
 pub use Rattle.grouping_model.specs.Grouping.{Group, column_of, part, partials, selected}
-pub use Rattle.grouping_model.specs.Parts.{advanced, functions, keys_of, partials_at, with_row}
+pub use Rattle.grouping_model.specs.Parts.{advanced, functions, keys_of, partials_at, with_row, key_kinds}
 pub use Rattle.grouping_model.specs.Query.{Query}
 pub use Rattle.grouping_model.specs.Rising.{distinct, is_among, put}
-pub use Rattle.having_filter.specs.Kept.{IsWellFormed, key_kinds}
+pub use Rattle.having_filter.specs.Kept.{IsWellFormed}
 pub use Rattle.having_filter.specs.Meaning.{meaning}
 pub use Rattle.key_hashes.specs.SipHashes.{low_hash}
 pub use Rattle.list_laws.specs.Each.{each_append, each_behind, each_front, each_weaker}

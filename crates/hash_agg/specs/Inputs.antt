@@ -8,7 +8,7 @@ use Rattle.grouping_model.specs.Query.{Query}
 use Rattle.grouping_model.specs.Grouping.{Group, part, selected, key_of}
 use Rattle.packed_rows.specs.Packing.{packing}
 use Rattle.packed_rows.specs.View.{bytes_of}
-use Rattle.having_filter.specs.Kept.{key_kinds}
+use Rattle.grouping_model.specs.Parts.{key_kinds}
 use Rattle.hash_agg.specs.declared.input.Input.{Input}
 use Rattle.hash_agg.specs.declared.input.Input.TheVariants as code
 use Rattle.hash_agg.specs.declared.input.Packings.{Packings}

@@ -1,6 +1,6 @@
 -- What a call that aggregates leaves of the disk of tapes and of the work that is counted, apart from what it answers. All of this is our
 -- own; PostgreSQL 17 keeps the like in one struct for all nodes of a query (execnodes.h, EState).
-use Rattle.std.specs.Prelude.{◌≡◌, ◌≢◌, ℕ, List, Option, Some, None, Result, Ok, Err, IsTrue}
+use Rattle.std.specs.Prelude.{◌≡◌, ◌≢◌, ℕ, List, Option, Some, Result, Ok, Err, IsTrue}
 use Rattle.aggregation_cost.specs.Space.{Setting}
 use Rattle.grouping_model.specs.Query.{Query}
 use Rattle.having_filter.specs.Meaning.{meaning}

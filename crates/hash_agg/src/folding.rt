@@ -50,7 +50,7 @@ pub fn fold<H: KeyHash + Copy, D: TapeDisk>(
 {
     let _well_formed = query.schema();
     let (more, took) = aggregate_in(alloc, query, more, means, disk, &mut executor.idle)?;
-    run.merge_from(alloc, query, &more)?;
+    run.merge_from(alloc, query.agg_kinds(), &more)?;
     executor.work.add(took);
     Ok(())
 }

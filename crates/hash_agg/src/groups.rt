@@ -19,11 +19,12 @@ ghost use Rattle.group_runs.specs.Runs.{Rises, packed_keys};
 ghost use Rattle.hash_agg.specs.Passes.{AreOnce, entries_of, FindsBy, HasPlace, WritesAt, IsMade, IsSameTable};
 ghost use Rattle.group_runs.specs.Steps.{HaveRoomForRow, AreAdvanced, HaveRoomWithin, AreCombined};
 
+use crate::advancing::advance_slice;
 use crate::idle::IdleTable;
 use crate::sorting::{abbreviated, sort_distinct};
 use agg_protocol::BadState;
 use context_tree::Tree;
-use group_runs::{Run, advance_slice, combine_within};
+use group_runs::{Run, combine_within};
 use group_table::{GroupTable, KeyHash, Lookup, Seed, SipHash, Slot, Vacancy};
 use having_filter::Query;
 use packed_rows::Value;
@@ -251,7 +252,7 @@ impl<H: KeyHash + Drop> Groups<H> {
             more.now) }
     {
         let states = GroupTable::state_mut(&mut self.tree, &self.table, slot);
-        combine_within(query, states, more, most)
+        combine_within(query.agg_kinds(), states, more, most)
     }
 
     /// Removes all groups.

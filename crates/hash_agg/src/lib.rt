@@ -1,6 +1,7 @@
 //! Aggregation: rows, and the partial results of rows, become one run of groups.
 #![tactic(auto)]
 
+mod advancing;
 mod aggregation;
 mod executor;
 mod folding;

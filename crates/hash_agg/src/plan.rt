@@ -16,9 +16,10 @@ ghost use Rattle.group_runs.specs.Standing.{StandsFor};
 ghost use Rattle.group_runs.specs.Steps.{HaveRoomForRow, AreAdvanced};
 ghost use Rattle.hash_agg.specs.Passes.{IsPlan};
 
+use crate::advancing::advance_slice;
 use agg_library::StateRow;
 use agg_protocol::BadState;
-use group_runs::{advance_slice, initial_states};
+use group_runs::initial_states;
 use having_filter::Query;
 use packed_rows::{RowError, Value, ValueKind, pack_value, part_at, unpack_into, unpack_known};
 use spill_partitions::SpillError;
@@ -84,7 +85,7 @@ impl<'a> Plan<'a> {
         ensures limit { IfOk result (λ plan. plan.limit ≡ limit) }
     {
         let _well_formed = query.schema();
-        let first = initial_states(alloc, query)?;
+        let first = initial_states(alloc, query.agg_kinds())?;
         Ok(Plan {
             query,
             most,

@@ -22,7 +22,8 @@ pub use Rattle.query_checks.specs.Arrangement.{arrangement_held, arrangement_of,
 pub use Rattle.query_checks.specs.Order.{Asked}
 pub use Rattle.query_checks.specs.Parts.{checked_of, written_of_parts}
 pub use Rattle.having_filter.specs.Answers.{AllLieIn, Grows, IsPart, LiesIn, outcome_in, outcomes_in}
-pub use Rattle.having_filter.specs.Kept.{IsCheckedQuery, by_names, key_kinds, label_of, written_by_names}
+pub use Rattle.having_filter.specs.Kept.{IsCheckedQuery, by_names, label_of, written_by_names}
+pub use Rattle.grouping_model.specs.Parts.{key_kinds}
 pub use Rattle.having_filter.specs.Meaning.{aggregate_of, binary_of, column_leaf, condition_by, group_condition, meaning, order_term}
 pub use Rattle.having_filter.specs.Meaning.{place_in, row_condition, source_of_form, unary_of}
 pub use Rattle.having_filter.specs.Plans.{IsKept, PlansFor, by_sources, source_leaf, source_of}

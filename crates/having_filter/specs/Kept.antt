@@ -1,7 +1,7 @@
 -- What a query keeps, and what HAVING reads.
-use Rattle.std.specs.Prelude.{◌≡◌, ℕ, ◌<◌, ◌≤◌, List, [], map, length, slice_get, slice_index_or, Ok, option_map, unwrap_or}
+use Rattle.std.specs.Prelude.{◌≡◌, ℕ, ◌<◌, ◌≤◌, List, [], map, length, slice_get, Ok, option_map, unwrap_or}
 use Rattle.std.specs.List.{AllByRecursion}
-use Rattle.grouping_model.specs.Datum.{Kind, Bigint_kind, Row, HasKinds}
+use Rattle.grouping_model.specs.Datum.{Kind, Row, HasKinds}
 use Rattle.grouping_model.specs.Query as query
 use Rattle.grouping_model.specs.Query.{Aggregate}
 use Rattle.grouping_model.specs.Grouping.{argument}
@@ -37,10 +37,6 @@ by_names q = record { written = written_by_names q.columns q.written; arrangemen
 -- the names of the columns of an answer (PostgreSQL 17, 7.3.2 Column Labels)
 abbrev pub headers : Checked → List (List ℕ)
 headers q = map label_of (by_names q).written.items
-
--- the kinds of the columns of GROUP BY (PostgreSQL 17, 7.2.3)
-abbrev pub key_kinds : query.Query → List Kind
-key_kinds q = map (λ place. slice_index_or q.kinds place Bigint_kind) q.keys
 
 -- over rows of these kinds, an aggregate takes the values of its column (PostgreSQL 17, 9.21)
 pub record TakesRows (kinds : List Kind) (aggregate : Aggregate) : Type 0 where

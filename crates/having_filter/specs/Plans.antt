@@ -15,7 +15,8 @@ use Rattle.having_filter.specs.declared.plan.Source.{Source}
 use Rattle.having_filter.specs.declared.plan.Source.TheVariants as source
 use Rattle.having_filter.specs.declared.plan.Plan.{Plan}
 use Rattle.having_filter.specs.Meaning.{meaning, condition_by}
-use Rattle.having_filter.specs.Kept.{IsCheckedQuery, by_names, headers, key_kinds}
+use Rattle.having_filter.specs.Kept.{IsCheckedQuery, by_names, headers}
+use Rattle.grouping_model.specs.Parts.{key_kinds}
 
 -- a key or an aggregate by its place
 abbrev pub source_of : Source → query.Source

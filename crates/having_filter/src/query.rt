@@ -18,7 +18,8 @@ ghost use Rattle.query_checks.specs.Spelling.{spelling};
 ghost use Rattle.query_checks.specs.Writable.{IsWritable};
 ghost use Rattle.query_checks.specs.Parts.{written_of_parts, checked_of};
 ghost use Rattle.having_filter.specs.Meaning.{meaning};
-ghost use Rattle.having_filter.specs.Kept.{IsCheckedQuery, by_names, headers, key_kinds, label_of};
+ghost use Rattle.having_filter.specs.Kept.{IsCheckedQuery, by_names, headers, label_of};
+ghost use Rattle.grouping_model.specs.Parts.{key_kinds};
 ghost use Rattle.having_filter.specs.Plans.{PlansFor, source_of};
 
 use crate::leaves::{GroupLeaves, RowLeaves, is_met};

@@ -10,10 +10,9 @@ use Rattle.replica_merge.specs.Lemmas.Words.{Row, row_cmp, Query, Group, AreGrou
 use Rattle.list_laws.specs.Each.{each_append}
 use Rattle.grouping_model.specs.Datum.{Kind, HasKinds}
 use Rattle.grouping_model.specs.DatumOrderLaws.{row_cmp_total, row_cmp_ties}
-use Rattle.grouping_model.specs.Parts.{keys_of}
+use Rattle.grouping_model.specs.Parts.{keys_of, key_kinds}
 use Rattle.grouping_model.specs.Rising.{distinct, is_among}
 use Rattle.grouping_model.specs.Rising.Facts.{distinct-rises, among-distinct, among-append, same_members}
-use Rattle.having_filter.specs.Kept.{key_kinds}
 use Rattle.packed_rows.specs.ConcatenatedRows.{concatenated}
 use Rattle.packed_rows.specs.Packing.{packing}
 use Rattle.group_runs.specs.Adding.{groups_added}

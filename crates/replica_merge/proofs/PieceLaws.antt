@@ -25,10 +25,9 @@ use Rattle.grouping_model.specs.Answer.{answered, rows_of, source_in}
 use Rattle.grouping_model.specs.Condition.{is_met}
 use Rattle.grouping_model.specs.Datum.{HasKinds}
 use Rattle.grouping_model.specs.Grouping.{keys}
-use Rattle.grouping_model.specs.Parts.{keys_of}
+use Rattle.grouping_model.specs.Parts.{keys_of, key_kinds}
 use Rattle.grouping_model.specs.MemberLaws.{false_is_not_true}
 use Rattle.grouping_model.specs.Lemmas.PartLaws.{keys_of-part}
-use Rattle.having_filter.specs.Kept.{key_kinds}
 use Rattle.packed_rows.specs.ConcatenatedRows.{concatenated}
 use Rattle.packed_rows.specs.Packing.{packing}
 use Rattle.agg_protocol.specs.States.{most_rows}

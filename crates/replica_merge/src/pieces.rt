@@ -77,7 +77,7 @@ fn united(alloc: Global, query: &Query, spans: &[Span<'_>]) -> Result<Run, Alloc
     let (front, back) = spans.split_at(spans.len() / 2);
     let mut all = united(alloc, query, front)?;
     let more = united(alloc, query, back)?;
-    all.merge_from(alloc, query, &more)?;
+    all.merge_from(alloc, query.agg_kinds(), &more)?;
     Ok(all)
 }
 

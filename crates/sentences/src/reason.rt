@@ -1,5 +1,9 @@
 //! Reasons: sentences on faults.
 
+ghost use Rattle.std.specs.Prelude.{◌≡◌, [], true, Some, None, IfOk, string_bytes};
+ghost use Rattle.std.specs.Option.{ForSome};
+ghost use Rattle.sentences.specs.Pieces.{is_silent};
+
 use crate::picture::picture;
 use crate::said::Said;
 use std::alloc::{AllocError, Global};
@@ -20,7 +24,9 @@ impl Reason {
         said: Said,
         text: &str,
         place: Option<usize>,
-    ) -> Result<Reason, AllocError> {
+    ) -> Result<Reason, AllocError>
+        ensures said { IfOk result (λ reason. said ≡ Some (string_bytes reason.said)) }
+    {
         let said = said.end()?;
         let picture = match place {
             Some(place) => picture(alloc, text, place)?,
@@ -35,7 +41,10 @@ impl Reason {
         said: Said,
         text: &str,
         place: Option<usize>,
-    ) -> Result<Option<Reason>, AllocError> {
+    ) -> Result<Option<Reason>, AllocError>
+        ensures said { IfOk result (λ found. ForSome found (λ reason. said ≡ Some (string_bytes reason.said))) }
+        ensures none { IfOk result (λ found. found ≡ None → is_silent said ≡ true) }
+    {
         if said.is_silent() {
             return Ok(None);
         }
@@ -43,7 +52,10 @@ impl Reason {
     }
 
     /// A reason without a place.
-    pub fn whole(alloc: Global, said: String) -> Reason {
+    pub fn whole(alloc: Global, said: String) -> Reason
+        ensures said { result.said ≡ said }
+        ensures picture { string_bytes result.picture ≡ [] }
+    {
         Reason {
             said,
             picture: String::new(alloc),

@@ -1,6 +1,6 @@
 //! Sentences in the making.
 
-ghost use Rattle.std.specs.Prelude.{◌≡◌, ◌++◌, [], true, Some, None, IfOk, OnErr, codes, string_bytes};
+ghost use Rattle.std.specs.Prelude.{◌≡◌, ◌++◌, [], true, Some, None, IfOk, OnOk, OnErr, codes, string_bytes};
 ghost use Rattle.std.specs.Option.{ForSome};
 ghost use Rattle.std.specs.Char.{encode_utf8};
 ghost use Rattle.std.specs.Fmt.{decimal};
@@ -45,12 +45,21 @@ impl Said {
         self.text.is_empty() && !self.is_refused
     }
 
+    /// Keeps that memory was wanting, if it was.
+    fn keep(&mut self, grown: Result<(), AllocError>)
+        ensures grown { OnOk grown (self.new ≡ self.old) }
+        ensures refused { OnErr grown (self.new ≡ None) }
+        ensures stays { self.old ≡ None → self.new ≡ None }
+    {
+        self.is_refused = self.is_refused || grown.is_err();
+    }
+
     /// Adds a text.
     pub fn push_str(&mut self, piece: &str)
         ensures { Adds piece.now self.old self.new }
     {
         let grown = self.text.push_str(piece);
-        self.is_refused = self.is_refused || grown.is_err();
+        self.keep(grown);
     }
 
     /// Adds a character.
@@ -58,7 +67,7 @@ impl Said {
         ensures { Adds (encode_utf8 c) self.old self.new }
     {
         let grown = self.text.push(c);
-        self.is_refused = self.is_refused || grown.is_err();
+        self.keep(grown);
     }
 
     /// Adds words and a text.
@@ -75,7 +84,7 @@ impl Said {
     {
         self.push_str(words);
         let grown = self.text.write(number);
-        self.is_refused = self.is_refused || grown.is_err();
+        self.keep(grown);
     }
 
     /// Adds words and how many or which of many it is.
@@ -90,7 +99,7 @@ impl Said {
         ensures { StaysRefused self.old self.new }
     {
         let grown = self.text.write(Quoted(bytes));
-        self.is_refused = self.is_refused || grown.is_err();
+        self.keep(grown);
     }
 
     /// Adds words, and bytes in quotes.
@@ -106,7 +115,7 @@ impl Said {
         ensures { StaysRefused self.old self.new }
     {
         let grown = self.text.write_fmt(piece);
-        self.is_refused = self.is_refused || grown.is_err();
+        self.keep(grown);
     }
 
     /// Adds what else is to be said, if anything.

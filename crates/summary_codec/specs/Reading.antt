@@ -8,12 +8,12 @@ use Rattle.std.specs.declared.cmp.Ordering.{Ordering}
 use Rattle.std.specs.declared.cmp.Ordering.TheVariants.{Less}
 use Rattle.grouping_model.specs.Aggregates.{Partial}
 use Rattle.grouping_model.specs.Datum.{Kind}
-use Rattle.grouping_model.specs.Parts.{functions}
+use Rattle.grouping_model.specs.Parts.{functions, key_kinds}
 use Rattle.grouping_model.specs.Query.{Query}
 use Rattle.grouping_model.specs.declared.limits.TheConstants.{LAST_ORIGIN}
 use Rattle.packed_rows.specs.Columns.{Column, kinds, printed, IsSchemaText}
 use Rattle.packed_rows.specs.Packing.{IsPacking}
-use Rattle.having_filter.specs.Kept.{by_names, key_kinds}
+use Rattle.having_filter.specs.Kept.{by_names}
 use Rattle.query_checks.specs.Checks.{Checked}
 use Rattle.having_filter.specs.Meaning.{meaning}
 use Rattle.query_checks.specs.Spelling.{spelling}

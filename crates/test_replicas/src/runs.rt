@@ -113,7 +113,7 @@ fn groups_of_three(rt: HostRuntime, query: &Query, lines: &str) -> Result<String
 
 /// A run of one group of no rows, and whether it was empty before and is so now.
 fn pushed(rt: HostRuntime, query: &Query, key: &str) -> Result<String, Fail> {
-    let states = initial_states(rt.alloc(), query)?;
+    let states = initial_states(rt.alloc(), query.agg_kinds())?;
     let mut run = Run::new(rt.alloc());
     let before = run.is_empty();
     let pushed = run.push(key.as_bytes(), &states);

@@ -9,10 +9,9 @@ use Rattle.std.specs.List.Sorted.{IsStrictlySortedBy}
 use Rattle.grouping_model.specs.Datum.{Row, HasKinds, row_cmp}
 use Rattle.grouping_model.specs.Query.{Query}
 use Rattle.grouping_model.specs.Grouping.{Group}
-use Rattle.grouping_model.specs.Parts.{keys_of}
+use Rattle.grouping_model.specs.Parts.{keys_of, key_kinds}
 use Rattle.packed_rows.specs.Packing.{packing}
 use Rattle.packed_rows.specs.Lemmas.PackingOrder.{packed_order}
-use Rattle.having_filter.specs.Kept.{key_kinds}
 use Rattle.group_runs.specs.Runs.{Entry, Rises}
 use Rattle.group_runs.specs.Standing.{AreGroups}
 use Rattle.group_runs.specs.StandingLaws.{keys_packed, keys_of_kinds}

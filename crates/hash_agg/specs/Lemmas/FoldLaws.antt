@@ -5,8 +5,7 @@ use Rattle.std.specs.List.Sorted.{IsStrictlySortedBy}
 use Rattle.grouping_model.specs.Datum.{row_cmp}
 use Rattle.grouping_model.specs.Query.{Query}
 use Rattle.grouping_model.specs.Grouping.{Group}
-use Rattle.grouping_model.specs.Parts.{keys_of}
-use Rattle.having_filter.specs.Kept.{key_kinds}
+use Rattle.grouping_model.specs.Parts.{keys_of, key_kinds}
 use Rattle.group_runs.specs.Runs.{Entry, Rises}
 use Rattle.group_runs.specs.Standing.{AreGroups}
 use Rattle.group_runs.specs.StandingLaws.{keys_packed, keys_of_kinds}

@@ -5,7 +5,7 @@ use Rattle.std.specs.List.{AllByRecursion}
 use Rattle.grouping_model.specs.Datum.{Row, Kind, Bigint_kind, HasKind, HasKinds, at_place}
 use Rattle.grouping_model.specs.Query.{Query}
 use Rattle.grouping_model.specs.Grouping.{key_of}
-use Rattle.having_filter.specs.Kept.{key_kinds}
+use Rattle.grouping_model.specs.Parts.{key_kinds}
 
 kind_at : (kinds : List Kind) (row : Row) (place : ℕ) → HasKinds kinds row → place < length kinds
     → HasKind (slice_index_or kinds place Bigint_kind) (at_place row place)

@@ -1,5 +1,5 @@
 -- What follows from the record of a call that aggregates, and how records are put together.
-use Rattle.std.specs.Prelude.{◌≡◌, ◌≢◌, refl, ℕ, ◌≤◌, List, Option, Some, None, Result, Ok, Err, IfErr, OnOk, OnErr, IsErrAnd, IsTrue}
+use Rattle.std.specs.Prelude.{◌≡◌, ◌≢◌, refl, ℕ, List, Option, Some, Result, Ok, Err, IfErr, OnOk, OnErr, IsErrAnd, IsTrue}
 use Rattle.std.proofs.Common.{sym, ◌∙◌, ap, subst, arith}
 use Rattle.std.proofs.lemmas.Result.{err_from_is_err_and}
 use Rattle.aggregation_cost.specs.Space.{Setting}
@@ -14,7 +14,7 @@ use Rattle.tape_disks.specs.DiskLaws.{leaves_none, leaves_twice}
 use Rattle.tape_disks.specs.declared.disk.TapeDisk.{Ghosts}
 use Rattle.hash_agg.specs.Counting.{setting_by, HasGrown}
 use Rattle.hash_agg.specs.Means.{MeansState}
-use Rattle.hash_agg.specs.Ran.{Ran, Ended, Done, Refused, ended_by, faults_of, WhereDone, WhereRefused}
+use Rattle.hash_agg.specs.Ran.{Ran, Ended, Done, Refused, ended_by, faults_of, WhereDone}
 use Rattle.hash_agg.specs.declared.work.Work.{Work}
 
 -- what is counted of a call, as `Ran` takes it

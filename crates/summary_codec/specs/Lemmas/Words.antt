@@ -9,7 +9,8 @@ pub use Rattle.grouping_model.specs.Datum.{Text_kind, row_cmp, same_row}
 pub use Rattle.grouping_model.specs.Grouping.{Group, argument, arguments, column_of, key_of, keys, partials, selected}
 pub use Rattle.grouping_model.specs.Query.{Aggregate, Query}
 pub use Rattle.grouping_model.specs.declared.limits.TheConstants.{LAST_NUMBER, LAST_ORIGIN, MAX_COLUMNS, MAX_ROWS}
-pub use Rattle.having_filter.specs.Kept.{IsCheckedQuery, IsWellFormed, TakesRows, by_names, key_kinds}
+pub use Rattle.having_filter.specs.Kept.{IsCheckedQuery, IsWellFormed, TakesRows, by_names}
+pub use Rattle.grouping_model.specs.Parts.{key_kinds}
 pub use Rattle.having_filter.specs.Meaning.{meaning}
 pub use Rattle.list_laws.specs.Each.{each_append, each_weaker}
 pub use Rattle.origin_prefix.specs.Held.{AreHeldParts, IsHeldPart, Parts}

@@ -7,6 +7,7 @@ use Rattle.grouping_model.specs.Grouping.{Group, partials}
 use Rattle.grouping_model.specs.Parts.{functions}
 use Rattle.having_filter.specs.Meaning.{meaning}
 use Rattle.group_runs.specs.Standing.{AreStates}
+use Rattle.group_runs.specs.StandingLaws.{initial_of}
 use Rattle.grouping_model.specs.Answer.{rows_of, answered_of_none}
 use Rattle.list_laws.specs.Outcomes.{always_err}
 use Rattle.group_answers.specs.Stopping.{Stopped}
@@ -20,7 +21,8 @@ push_group-requires g c =
       0,
       ([], partials q []),
       empty_stands q c.deref.result.now (sym c.keys.ensures.keys
-          ∙ none) (subst (λ b. AreStates (functions q) 0 b (partials q [])) (sym c.deref.ensures.value) c.in_ok-states.ensures),
+          ∙ none) (subst (λ b. AreStates (functions q) 0 b (partials q [])) (sym c.deref.ensures.value)
+          (initial_of q c.agg_kinds.result.now c.in_ok-states.states.items c.agg_kinds.ensures.functions c.in_ok-states.ensures)),
       omega arith,
     )
 
@@ -32,7 +34,8 @@ returns-clause-given g c =
     on_ok_weaker c.push_group.result
     (λ given.
     let rows = given.2 0 group (omega arith) (empty_stands q c.deref.result.now (sym c.keys.ensures.keys
-    ∙ none) (subst (λ b. AreStates (functions q) 0 b (partials q [])) (sym c.deref.ensures.value) c.in_ok-states.ensures)) in
+    ∙ none) (subst (λ b. AreStates (functions q) 0 b (partials q [])) (sym c.deref.ensures.value)
+    (initial_of q c.agg_kinds.result.now c.in_ok-states.states.items c.agg_kinds.ensures.functions c.in_ok-states.ensures))) in
     subst (g.S.RowSink.took c.args.rows.now c.push_group.new.rows) (rows ∙ ap (λ keys. rows_of q (answered_of_none q keys)) (sym (sym
     c.keys.ensures.keys ∙ none))) given.1)
     c.push_group.ensures.given

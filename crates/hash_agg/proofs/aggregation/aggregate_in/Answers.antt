@@ -1,7 +1,7 @@
-use Rattle.std.specs.Prelude.{◌≡◌, List, map, Err, Some, IsTrue, refl}
+use Rattle.std.specs.Prelude.{◌≡◌, List, map, Err, Some, refl}
 use Rattle.std.specs.List.{AllByRecursion}
 use Rattle.std.proofs.Common.{sym, ◌∙◌, ap, subst, arith}
-use Rattle.hash_agg.proofs.Words.{Entry, NoMemory, meaning, query_of, Brought, brought, all_rows, IsInput, AreInputs, Plan}
+use Rattle.hash_agg.proofs.Words.{Entry, NoMemory, meaning, Brought, brought, all_rows, IsInput, AreInputs, Plan}
 use Rattle.agg_protocol.specs.States.{most_rows}
 use Rattle.query_checks.specs.Checks.{Checked}
 use Rattle.hash_agg.specs.Counting.{Took}

@@ -1,9 +1,7 @@
-use Rattle.std.specs.Prelude.{◌≡◌, List, map, IsTrue}
-use Rattle.std.specs.List.{AllByRecursion}
+use Rattle.std.specs.Prelude.{List, map, IsTrue}
 use Rattle.std.proofs.Common.{sym, ◌∙◌, subst}
 use Rattle.tape_disks.specs.DiskLaws.{leaves_twice}
 use Rattle.hash_agg.proofs.Words.{spill_faults, meaning, IsSafeRun, query_of, Brought, brought, CountUpTo, MadeAll, all_pieces, Plan}
-use Rattle.hash_agg.specs.Counting.{no_work}
 use Rattle.hash_agg.proofs.AnswerLaws.{plan_counts}
 use Rattle.hash_agg.proofs.DiskLaws.{left_out}
 use Rattle.hash_agg.proofs.LaterLaws.{begun, made_all}

@@ -16,14 +16,9 @@ merge_from-requires g c =
     let few : c.args.rows + all_rows (map brought c.args.more.now) ≤ most_rows = c.requires.few in
     let run = c.requires.run in
     let more = c.in_ok-more.ensures.aggregated.aggregated.run_over.is_run in (
-      c.args.rows,
-      all_rows (map brought c.args.more.now),
-      run.groups,
-      more.groups,
-      run.are,
-      more.are,
-      more.rises,
-      omega (arith, few),
+      meaning c.args.query.now,
+      sym c.agg_kinds.ensures.functions,
+      (c.args.rows, all_rows (map brought c.args.more.now), run.groups, more.groups, run.are, more.are, more.rises, omega (arith, few)),
     )
 
 pub returns-clause-folded : goal.returns-clause-folded
@@ -31,12 +26,13 @@ returns-clause-folded g c =
     let few : c.args.rows + all_rows (map brought c.args.more.now) ≤ most_rows = c.requires.few in
     let run = c.requires.run in
     let more = c.in_ok-more.ensures.aggregated.aggregated in
+    let added = c.in_ok-merge_from.ensures.added (meaning c.args.query.now) (sym c.agg_kinds.ensures.functions) in
     record {
       aggregate = λ honest.
           folded (meaning c.args.query.now) c.args.rows c.args.run.now c.in_ok-more.more c.merge_from.new.self (map brought c.args.more.now)
-          (omega (arith, few)) run (more.aggregate honest) c.in_ok-merge_from.ensures.added c.schema-well_formed.ensures.query.well_formed.keys;
+          (omega (arith, few)) run (more.aggregate honest) added c.schema-well_formed.ensures.query.well_formed.keys;
       run_over = folded_over (meaning c.args.query.now) c.args.rows c.args.run.now c.in_ok-more.more c.merge_from.new.self
-          (map brought c.args.more.now) (omega (arith, few)) run more.run_over c.in_ok-merge_from.ensures.added;
+          (map brought c.args.more.now) (omega (arith, few)) run more.run_over added;
     }
 
 pub returns-clause-ran : goal.returns-clause-ran

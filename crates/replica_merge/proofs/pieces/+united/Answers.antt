@@ -1,4 +1,4 @@
-use Rattle.std.proofs.Common.{arith}
+use Rattle.std.proofs.Common.{sym, arith}
 use Rattle.std.proofs.lemmas.Result.{IfOk-weaker}
 use Rattle.having_filter.specs.Meaning.{meaning}
 use Rattle.replica_merge.proofs.PieceLaws.{front_inputs, front_within, front_few, back_inputs, back_within, back_few, piece_room}
@@ -35,14 +35,18 @@ united-requires-2 t c =
 
 pub merge_from-requires : goal.merge_from-requires
 merge_from-requires t c =
-    piece_room (meaning c.args.query.now) c.args.spans.now c.split_at.result.0.now c.split_at.result.1.now c.in_ok-all.all c.in_ok-more.more
-    c.split_at.ensures.by_index.0 c.requires.few c.in_ok-all.ensures c.in_ok-more.ensures
+    let q = meaning c.args.query.now in (
+      q,
+      sym c.agg_kinds.ensures.functions,
+      piece_room q c.args.spans.now c.split_at.result.0.now c.split_at.result.1.now c.in_ok-all.all c.in_ok-more.more
+          c.split_at.ensures.by_index.0 c.requires.few c.in_ok-all.ensures c.in_ok-more.ensures,
+    )
 
 pub returns : goal.returns
 returns t c =
     piece_of_both (meaning c.args.query.now) c.args.spans.now c.split_at.result.0.now c.split_at.result.1.now c.in_ok-all.all
     c.in_ok-more.more c.split_at.ensures.by_index.0 c.requires.few c.in_ok-all.ensures c.in_ok-more.ensures c.merge_from.new.self
-    c.in_ok-merge_from.ensures.added
+    (c.in_ok-merge_from.ensures.added (meaning c.args.query.now) (sym c.agg_kinds.ensures.functions))
 
 pub returns-then-spans-lt2 : goal.returns-then-spans-lt2
 returns-then-spans-lt2 t c =

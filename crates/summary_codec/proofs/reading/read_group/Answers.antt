@@ -1,7 +1,7 @@
 use Rattle.std.proofs.Common.{◌≡◌, inl, inr, sym, subst, Ok, Err}
 use Rattle.packed_rows.specs.Packing.{IsPacking}
 use Rattle.packed_rows.specs.View.{kinds_of}
-use Rattle.having_filter.specs.Kept.{key_kinds}
+use Rattle.grouping_model.specs.Parts.{key_kinds}
 use Rattle.having_filter.specs.Meaning.{meaning}
 use Rattle.summary_codec.specs.Reading.{taken, group}
 use Rattle.summary_codec.proofs.FaultLaws.{handed_on}

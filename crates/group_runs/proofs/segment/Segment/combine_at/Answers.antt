@@ -1,7 +1,7 @@
 use Rattle.std.specs.Prelude.{◌≡◌, ◌<◌, ◌+◌, ℕ, List, ◌∷◌, ◌++◌, length, slice_index_or}
 use Rattle.std.proofs.Common.{sym, ◌∙◌, ap, subst, arith}
 use Rattle.std.proofs.lemmas.List.{length-append}
-use Rattle.group_runs.proofs.Words.{functions, meaning, Entry, LieAs, Rises, HaveRoomForMore, CombineWith}
+use Rattle.group_runs.proofs.Words.{functions_of, Entry, LieAs, Rises, HaveRoomForMore, CombineWith}
 use Rattle.group_runs.proofs.FlatLaws.{MiddleAt, ends_long, middle_at, middle_is, middle_high, written_at, cut_is, are_run, same_keys_rise}
 use Rattle.group_runs.proofs.segment.Segment.combine_at.Goals.{After-bound-to}
 use Rattle.group_runs.proofs.segment.Segment.combine_at.Goals as goal
@@ -77,7 +77,7 @@ pub combine_part-requires-clause-room : goal.combine_part-requires-clause-room
 combine_part-requires-clause-room c =
     let r = c.requires in
     let m = middle (goal.at.combine_part-requires-clause-room c).After-bound-to r.front r.back r.entry r.is r.long in
-    subst (λ states. HaveRoomForMore (functions (meaning c.args.query.now)) states c.args.more.now)
+    subst (λ states. HaveRoomForMore (functions_of c.args.kinds.now) states c.args.more.now)
     (sym (middle_is c.self.inside.states.items c.bound-from.result.1 c.bound-to.result.1 r.front r.entry r.back m)) r.room
 
 pub invariant_of-self : goal.invariant_of-self
@@ -100,6 +100,6 @@ returns c =
       cut_is old.keys.items c.combine_part.new.states.items old.ends.items (front ++ (entry.0, given.0) ∷ back)
           (written_at old.keys.items old.states.items old.ends.items front entry back c.bound-from.result.1 c.bound-to.result.1 given.0
           c.combine_part.new.states.items (lie at (front ++ entry ∷ back) is) m given.2 given.1),
-      subst (λ states. CombineWith (functions (meaning c.args.query.now)) states c.args.more.now given.0)
+      subst (λ states. CombineWith (functions_of c.args.kinds.now) states c.args.more.now given.0)
           (middle_is old.states.items c.bound-from.result.1 c.bound-to.result.1 front entry back m) given.3,
     )

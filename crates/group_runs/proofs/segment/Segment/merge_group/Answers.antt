@@ -1,7 +1,7 @@
-use Rattle.std.specs.Prelude.{◌+◌, ◌∷◌, ◌++◌, [], List, drop, slice_range}
+use Rattle.std.specs.Prelude.{◌≡◌, ◌+◌, ◌∷◌, ◌++◌, [], List, drop, slice_range}
 use Rattle.std.proofs.Common.{sym, ◌∙◌, ap, subst, arith}
 use Rattle.group_runs.proofs.MergedLaws.{Merged, long_there, merged_there, pushed_rises, merged_new}
-use Rattle.group_runs.proofs.Words.{Query, meaning, Entry, Rises, HasRoomForGroup}
+use Rattle.group_runs.proofs.Words.{Query, Entry, Rises, CombineWith, HasRoomForGroup, HaveRoomForMore, functions, functions_of}
 use Rattle.grouping_model.specs.MemberLaws.{false_is_not_true}
 use Rattle.group_runs.proofs.RunLaws.{run_front_rises}
 use Rattle.group_runs.specs.Lemmas.PlaceLaws.{Moves, Passes}
@@ -47,7 +47,7 @@ overflow_sub-len c =
 
 pub combine_at-requires : goal.combine_at-requires
 combine_at-requires c =
-    let q : Query = meaning c.args.query.now in
+    let (q, same, has) = c.requires.room in
     let old : List Entry = c.args.old.now in
     let place = c.seek-place.result in
     let here = at_key (goal.at.combine_at-requires c).Then-has_at in
@@ -60,8 +60,9 @@ combine_at-requires c =
       back = [];
       is = c.in_ok-push_range.ensures.pushed ∙ here.front;
       long = omega (arith, long);
-      room = present_room q c.args.key.now here.states c.args.states.now front (drop (place + 1) old) here.below
-          (subst (λ run. HasRoomForGroup q run (c.args.key.now, c.args.states.now)) here.whole c.requires.room);
+      room = subst (λ these. HaveRoomForMore these here.states c.args.states.now) same
+          (present_room q c.args.key.now here.states c.args.states.now front (drop (place + 1) old) here.below
+          (subst (λ run. HasRoomForGroup q run (c.args.key.now, c.args.states.now)) here.whole has));
     }
 
 pub overflow_add-result : goal.overflow_add-result
@@ -75,9 +76,9 @@ returns-then-has_at-clause-within c =
     omega (arith, here.low)
 
 -- a group of the key was there
-there : (c : goal.After-combine_at) → Merged (meaning c.args.query.now) (c.args.self.now ++ drop c.args.from c.args.old.now) c.args.key.now
+there : (c : goal.After-combine_at) (q : Query) → functions q ≡ functions_of c.args.kinds.now → Merged q (c.args.self.now ++ drop c.args.from c.args.old.now) c.args.key.now
     c.args.states.now c.combine_at.new.self (drop (c.seek-place.result + 1) c.args.old.now)
-there c =
+there c q same =
     let done : List Entry = c.args.self.now in
     let old : List Entry = c.args.old.now in
     let place = c.seek-place.result in
@@ -86,17 +87,17 @@ there c =
     c.in_ok-push_range.ensures.pushed c.len.ensures.length in
     let given = c.combine_at.ensures (done ++ slice_range old c.args.from place) (c.args.key.now, here.states) []
     (c.in_ok-push_range.ensures.pushed ∙ here.front) (omega (arith, long)) in
-    merged_there (meaning c.args.query.now) done old c.args.from place c.args.key.now c.args.states.now given.0 c.combine_at.new.self here
-    c.requires.rises given.1 given.2
+    merged_there q done old c.args.from place c.args.key.now c.args.states.now given.0 c.combine_at.new.self here
+    c.requires.rises given.1 (subst (λ these. CombineWith these here.states c.args.states.now given.0) (sym same) given.2)
 
 pub returns-then-has_at-clause-rises : goal.returns-then-has_at-clause-rises
-returns-then-has_at-clause-rises c = (there c).rises
+returns-then-has_at-clause-rises c = let (q, same, has) = c.requires.room in (there c q same).rises
 
 pub returns-then-has_at-clause-up_to : goal.returns-then-has_at-clause-up_to
-returns-then-has_at-clause-up_to c = (there c).up_to
+returns-then-has_at-clause-up_to c = let (q, same, has) = c.requires.room in (there c q same).up_to
 
 pub returns-then-has_at-clause-added : goal.returns-then-has_at-clause-added
-returns-then-has_at-clause-added c = (there c).added
+returns-then-has_at-clause-added c = λ q same. (there c q same).added
 
 pub push_range-requires-2-clause-rises : goal.push_range-requires-2-clause-rises
 push_range-requires-2-clause-rises c =
@@ -111,18 +112,18 @@ push-requires c = pushed_rises _ _ _ _ _ _ _ (past_key (goal.at.push-requires c)
     c.in_ok-push_range-2.ensures.pushed
 
 -- there was none
-new : (c : goal.In_ok-push) → Merged (meaning c.args.query.now) (c.args.self.now ++ drop c.args.from c.args.old.now) c.args.key.now
+new : (c : goal.In_ok-push) (q : Query) → Merged q (c.args.self.now ++ drop c.args.from c.args.old.now) c.args.key.now
     c.args.states.now c.push.new.self (drop c.seek-place.result c.args.old.now)
-new c =
-    merged_new (meaning c.args.query.now) c.args.self.now c.args.old.now c.args.from c.seek-place.result c.args.key.now c.args.states.now
+new c q =
+    merged_new q c.args.self.now c.args.old.now c.args.from c.seek-place.result c.args.key.now c.args.states.now
     c.push.new.self (past_key (goal.at.returns-clause-rises c).Else-has_at) c.requires.rises
     (c.in_ok-push.ensures.pushed ∙ ap (λ run. run ++ (c.args.key.now, c.args.states.now) ∷ []) c.in_ok-push_range-2.ensures.pushed)
 
 pub returns-clause-rises : goal.returns-clause-rises
-returns-clause-rises c = (new c).rises
+returns-clause-rises c = let (q, same, has) = c.requires.room in (new c q).rises
 
 pub returns-clause-up_to : goal.returns-clause-up_to
-returns-clause-up_to c = (new c).up_to
+returns-clause-up_to c = let (q, same, has) = c.requires.room in (new c q).up_to
 
 pub returns-clause-added : goal.returns-clause-added
-returns-clause-added c = (new c).added
+returns-clause-added c = λ q same. (new c q).added

@@ -1,4 +1,4 @@
-use Rattle.std.specs.Prelude.{◌≡◌, ◌≤◌, ◌-◌, length, slice_range}
+use Rattle.std.specs.Prelude.{◌≡◌, ◌≤◌, ◌-◌, slice_range}
 use Rattle.packed_rows.specs.ConcatenatedRows.{concatenated}
 use Rattle.group_runs.proofs.segment.Segment.pieces.Given as goal
 

@@ -1,6 +1,6 @@
 use Rattle.std.specs.Prelude.{◌+◌, take, slice_get}
 use Rattle.std.proofs.Common.{refl, ◌∙◌, ap, arith}
-use Rattle.group_runs.proofs.Words.{meaning, Entry, packed_keys, HasKey, concatenated}
+use Rattle.group_runs.proofs.Words.{Entry, packed_keys, HasKey, concatenated}
 use Rattle.group_runs.specs.PlaceLaws.{all_at}
 use Rattle.group_runs.specs.StandingLaws.{groups_raised}
 use Rattle.group_runs.proofs.RunLaws.{room_next, added_next, added_all}
@@ -12,8 +12,7 @@ loop-place-init c = record {
   within = omega arith;
   below = λ e at. tt;
   keys = refl;
-  added = λ m n groups more low are new. groups_raised
-      (meaning c.args.query.now) m (m + n) (concatenated c.args.self.now) groups (omega arith) are;
+  added = λ q same m n groups more low are new. groups_raised q m (m + n) (concatenated c.args.self.now) groups (omega arith) are;
 }
 
 pub combine_group-from-requires-clause-there : goal.combine_group-from-requires-clause-there
@@ -25,8 +24,9 @@ combine_group-from-requires-clause-there c =
     (has.0, ap (λ keys. slice_get keys has.0) c.loop-place.invariant.keys ∙ has.1)
 
 pub combine_group-from-requires-clause-room : goal.combine_group-from-requires-clause-room
-combine_group-from-requires-clause-room c = room_next _ _ _ _ c.loop-place.place c.loop-place.invariant.added _ c.group.ensures
-    c.requires.room
+combine_group-from-requires-clause-room c =
+    let (q, same, has) = c.requires.room in
+    (q, same, room_next q _ _ _ c.loop-place.place (c.loop-place.invariant.added q same) _ c.group.ensures has)
 
 pub loop-place-preserved : goal.loop-place-preserved
 loop-place-preserved c =
@@ -38,11 +38,12 @@ loop-place-preserved c =
       below = λ e at. all_up_to entry.0 e.0 (take c.combine_group-from.result (concatenated c.combine_group-from.new.self))
           (keys_next run i entry e c.len-place-end.ensures.rises c.group.ensures at) after.up_to;
       keys = after.keys ∙ c.loop-place.invariant.keys;
-      added = added_next _ _ _ _ i c.loop-place.invariant.added _ entry c.group.ensures c.requires.room.6 after.added;
+      added = λ q same. added_next q _ _ _ i (c.loop-place.invariant.added q same) _ entry c.group.ensures c.len-place-end.ensures.rises
+          (after.added q same);
     }
 
 pub returns : goal.returns
-returns c = added_all _ _ _ _ c.loop-place.place c.loop-place.invariant.added
+returns c = λ q same. added_all q _ _ _ c.loop-place.place (c.loop-place.invariant.added q same)
     (omega (arith, c.loop-place-test.false, c.len-place-end.ensures.length))
 
 pub combine_group-from-requires-clause-below : goal.combine_group-from-requires-clause-below

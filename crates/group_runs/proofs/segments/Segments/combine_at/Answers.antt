@@ -1,7 +1,7 @@
 use Rattle.std.specs.Prelude.{◌≡◌, ℕ, ◌-◌, ◌<◌, ◌+◌, ◌∷◌, List, length, take, slice_get, slice_set, Some}
 use Rattle.std.proofs.Common.{sym, ◌∙◌, ap, subst, arith}
 use Rattle.std.proofs.lemmas.List.{length-append}
-use Rattle.group_runs.proofs.Words.{Function, functions, meaning, Entry, Rises, HasStatesFor, CombinesAt, concatenated, IsAmong}
+use Rattle.group_runs.proofs.Words.{Function, functions_of, Entry, Rises, HasStatesFor, CombinesAt, concatenated, IsAmong}
 use Rattle.group_runs.proofs.Words.{AreSegments}
 use Rattle.group_runs.proofs.SegmentLaws.{got_by, got_low, got_same, states_in, combined_in, set_counts}
 use Rattle.group_runs.proofs.FlatLaws.{same_keys_rise}
@@ -56,9 +56,9 @@ pub combine_at-requires : goal.combine_at-requires
 combine_at-requires c =
     let segments = c.self.inside.segments.items in
     let h = at_group (goal.at.combine_at-requires c).After-index_mut in
-    states_in (functions (meaning c.args.query.now)) segments c.args.place c.segment_of-at.result c.index_mut.result.now
+    states_in (functions_of c.args.kinds.now) segments c.args.place c.segment_of-at.result c.index_mut.result.now
     (c.args.place - c.start-start.result) c.args.more.now h.is h.long h.low
-    (subst (λ cs. HasStatesFor (functions (meaning c.args.query.now)) (concatenated cs) c.args.place c.args.more.now)
+    (subst (λ cs. HasStatesFor (functions_of c.args.kinds.now) (concatenated cs) c.args.place c.args.more.now)
     (sym c.self.view_is) c.requires)
 
 pub invariant_of-self : goal.invariant_of-self
@@ -66,7 +66,7 @@ invariant_of-self c =
     let segments = c.self.inside.segments.items in
     let place = c.args.place in
     let at = c.segment_of-at.result in
-    let these : List Function = functions (meaning c.args.query.now) in
+    let these : List Function = functions_of c.args.kinds.now in
     let h = at_group (goal.at.invariant_of-self c).After-index_mut in
     combined_are these segments c.self.inside.ends.items place at c.start-start.result c.index_mut.result.now c.combine_at.new.self
     c.args.more.now c.self.invariant h (subst (λ cs. HasStatesFor these (concatenated cs) place c.args.more.now) (sym c.self.view_is)
@@ -77,7 +77,7 @@ returns c =
     let segments = c.self.inside.segments.items in
     let place = c.args.place in
     let at = c.segment_of-at.result in
-    let these : List Function = functions (meaning c.args.query.now) in
+    let these : List Function = functions_of c.args.kinds.now in
     let h = at_group (goal.at.returns c).After-index_mut in
     subst (λ cs. CombinesAt these (concatenated cs) place c.args.more.now (concatenated (slice_set segments at c.combine_at.new.self)))
     c.self.view_is

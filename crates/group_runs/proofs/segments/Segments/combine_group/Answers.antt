@@ -1,6 +1,6 @@
 use Rattle.std.specs.Prelude.{◌+◌, ◌∷◌, ◌++◌, List, take, drop, length}
 use Rattle.std.proofs.Common.{sym, ◌∙◌, ap, subst, arith}
-use Rattle.group_runs.proofs.Words.{Query, meaning, Entry, packed_keys, HasRoomForGroup, AddsGroup, AreUpTo, concatenated}
+use Rattle.group_runs.proofs.Words.{Entry, packed_keys, CombineWith, HasRoomForGroup, HaveRoomForMore, AddsGroup, AreUpTo, concatenated}
 use Rattle.group_runs.proofs.FlatLaws.{same_keys}
 use Rattle.std.proofs.lemmas.List.{length-append}
 use Rattle.group_runs.specs.Lemmas.PlaceLaws.{KeyStands}
@@ -18,7 +18,7 @@ stands c =
 
 pub combine_at-requires : goal.combine_at-requires
 combine_at-requires c =
-    let q : Query = meaning c.args.query.now in
+    let (q, same, has) = c.requires.room in
     let run : List Entry = (concatenated c.args.self.now) in
     let place = c.seek-place.result in
     let here = stands (goal.at.combine_at-requires c).After-seek-place in
@@ -28,9 +28,10 @@ combine_at-requires c =
       back = drop (place + 1) run;
       is = here.is;
       long = here.long;
-      room = present_room q c.args.key.now here.states c.args.states.now (take place run) (drop (place + 1) run)
+      room = subst (λ these. HaveRoomForMore these here.states c.args.states.now) same
+          (present_room q c.args.key.now here.states c.args.states.now (take place run) (drop (place + 1) run)
           (below_front run c.args.from c.args.key.now place c.requires.below c.seek-place.ensures.place)
-          (subst (λ run. HasRoomForGroup q run (c.args.key.now, c.args.states.now)) here.is c.requires.room);
+          (subst (λ run. HasRoomForGroup q run (c.args.key.now, c.args.states.now)) here.is has));
     }
 
 pub overflow_add-result : goal.overflow_add-result
@@ -40,7 +41,6 @@ overflow_add-result c =
 
 pub returns : goal.returns
 returns c =
-    let q : Query = meaning c.args.query.now in
     let run : List Entry = (concatenated c.args.self.now) in
     let place = c.seek-place.result in
     let key = c.args.key.now in
@@ -52,9 +52,10 @@ returns c =
     let all = ap length given.1 ∙ length-append front ((key, given.0) ∷ back) in
     let long = here.long in
     record {
-      added = subst (AddsGroup q run (key, c.args.states.now)) (sym given.1)
+      added = λ q same. subst (AddsGroup q run (key, c.args.states.now)) (sym given.1)
           (subst (λ run. AddsGroup q run (key, c.args.states.now) (front ++ (key, given.0) ∷ back)) (sym here.is)
-          (present_added q key here.states c.args.states.now given.0 front back below given.2));
+          (present_added q key here.states c.args.states.now given.0 front back below
+          (subst (λ these. CombineWith these here.states c.args.states.now given.0) (sym same) given.2)));
       keys = ap packed_keys given.1 ∙ same_keys front key given.0 here.states back ∙ ap packed_keys (sym here.is);
       within = omega (arith, all, long);
       up_to = subst (λ new. AreUpTo key (take (place + 1) new)) (sym given.1) (up_to_here front back key given.0 place here.long below);

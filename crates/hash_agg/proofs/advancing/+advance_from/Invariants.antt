@@ -1,5 +1,5 @@
 use Rattle.std.proofs.Common.{length}
-use Rattle.group_runs.proofs.states.+advance_from.Given as goal
+use Rattle.hash_agg.proofs.advancing.+advance_from.Given as goal
 
 abbrev pub decreases-advance_from : goal.decreases-advance_from
 decreases-advance_from l = length l.kinds.now

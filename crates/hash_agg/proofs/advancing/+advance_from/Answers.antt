@@ -6,10 +6,13 @@ use Rattle.std.proofs.lemmas.Option.{slice_get_within}
 use Rattle.std.proofs.lemmas.Result.{on_ok_weaker, on_err_weaker, IfOk-from_err}
 use Rattle.packed_rows.specs.View.{row_of}
 use Rattle.agg_protocol.specs.DenotingLaws.{width_known}
-use Rattle.group_runs.proofs.Words.{function_of, kind_shape, kind_width, partial_after, TakesRows, meaning}
+use Rattle.agg_protocol.specs.Kinds.{function_of, kind_shape, kind_width}
+use Rattle.agg_library.specs.StateRows.{partial_after}
+use Rattle.having_filter.specs.Kept.{TakesRows}
+use Rattle.having_filter.specs.Meaning.{meaning}
 use Rattle.group_runs.specs.PlaceLaws.{all_at}
-use Rattle.group_runs.proofs.StateLaws.{at_place, has_room, moved_on, none_advanced, none_left, reach_taken, room_parted, step_advanced}
-use Rattle.group_runs.proofs.states.+advance_from.Goals as goal
+use Rattle.hash_agg.proofs.AdvanceLaws.{at_place, has_room, moved_on, none_advanced, none_left, reach_taken, room_parted, step_advanced}
+use Rattle.hash_agg.proofs.advancing.+advance_from.Goals as goal
 
 refused_by : {T E P : Type 0} (r : Result T E) → P → OnErr r P
 refused_by (Ok x) p = tt
