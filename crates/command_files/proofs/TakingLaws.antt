@@ -12,7 +12,7 @@ use Rattle.hash_agg.specs.Means.{MeansState}
 use Rattle.hash_agg.specs.declared.work.Work.{Work}
 use Rattle.replica_merge.specs.Replicas.{Held}
 use Rattle.replies.specs.declared.ending.ExitKind.TheVariants.{Fault}
-use Rattle.replies.specs.declared.refusal.Refusal.{Refusal}
+use Rattle.refusals.specs.declared.refusal.Refusal.{Refusal}
 use Rattle.replies.specs.declared.reply.Reply.{Reply}
 use Rattle.replies.specs.declared.reply.Reply.TheVariants.{Refused}
 use Rattle.command_replicas.specs.Commands.{IsTooLong}

@@ -7,8 +7,8 @@ use Rattle.hash_agg.specs.Means.{AreMeans, MeansState}
 use Rattle.replica_merge.specs.Replicas.{Held}
 use Rattle.replies.specs.declared.ending.ExitKind.{ExitKind}
 use Rattle.replies.specs.declared.ending.ExitKind.TheVariants.{BadUsage, Fault}
-use Rattle.replies.specs.declared.refusal.Refusal.{Refusal}
-use Rattle.replies.specs.declared.refusal.Refusal.TheVariants.{NoMemory}
+use Rattle.refusals.specs.declared.refusal.Refusal.{Refusal}
+use Rattle.refusals.specs.declared.refusal.Refusal.TheVariants.{NoMemory}
 use Rattle.replies.specs.declared.reply.Reply.TheVariants.{Refused}
 use Rattle.command_replicas.specs.Commands.{IsNoSummary, IsNotNew, IsTooLong}
 use Rattle.file_sentences.specs.declared.reasons.FileKind.{FileKind}

@@ -2,9 +2,9 @@
 use Rattle.std.specs.Prelude.{◌≡◌, ◌<◌, ◌⊎◌, ℕ, List, Option, Some, None}
 use Rattle.hash_agg.specs.declared.means.TheConstants.{DEFAULT_LIMIT, MIN_LIMIT, MAX_LIMIT}
 use Rattle.command_words.specs.Bytes.{bytes_told}
-use Rattle.replies.specs.Refusals.{limit_out_of_range}
-use Rattle.replies.specs.declared.refusal.Refusal.{Refusal}
-use Rattle.replies.specs.declared.refusal.Refusal.TheVariants.{BadCommand}
+use Rattle.refusals.specs.Refusals.{limit_out_of_range}
+use Rattle.refusals.specs.declared.refusal.Refusal.{Refusal}
+use Rattle.refusals.specs.declared.refusal.Refusal.TheVariants.{BadCommand}
 
 -- the limit that an option tells, if its text is a number of bytes, with a suffix or none. It is the usual one where the option is not told
 abbrev pub limit_of : Option (List ℕ) → Option ℕ

@@ -10,7 +10,7 @@ use Rattle.replica_merge.specs.Replicas.{Held, told}
 use Rattle.replies.specs.Printed.{PrintsAnswer}
 use Rattle.replies.specs.Text.{said_text}
 use Rattle.replies.specs.declared.ending.ExitKind.{ExitKind}
-use Rattle.replies.specs.declared.refusal.Refusal.{Refusal}
+use Rattle.refusals.specs.declared.refusal.Refusal.{Refusal}
 use Rattle.replies.specs.declared.reply.Reply.{Reply}
 use Rattle.replies.specs.declared.reply.Reply.TheVariants.{Refused, Saved}
 use Rattle.replies.specs.declared.showing.Format.{Format}

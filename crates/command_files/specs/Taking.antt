@@ -15,9 +15,9 @@ use Rattle.hash_agg.specs.Means.{MeansState}
 use Rattle.hash_agg.specs.Ran.{Ran}
 use Rattle.hash_agg.specs.declared.work.Work.{Work}
 use Rattle.replica_merge.specs.Replicas.{Held}
-use Rattle.replies.specs.Refusals.{refusal_ended}
+use Rattle.refusals.specs.Refusals.{refusal_ended}
 use Rattle.replies.specs.declared.ending.ExitKind.TheVariants.{Fault}
-use Rattle.replies.specs.declared.refusal.Refusal.{Refusal}
+use Rattle.refusals.specs.declared.refusal.Refusal.{Refusal}
 use Rattle.replies.specs.declared.reply.Reply.{Reply}
 use Rattle.replies.specs.declared.reply.Reply.TheVariants as says
 use Rattle.command_replicas.specs.Commands.{FeedIsCounted, FileMergeIsCounted}

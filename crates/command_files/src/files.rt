@@ -1,7 +1,7 @@
 //! The files that a command reads and writes.
 
 ghost use Rattle.std.specs.Prelude.{◌≡◌, ◌⊎◌, IfErr};
-ghost use Rattle.replies.specs.declared.refusal.Refusal.TheVariants.{NoMemory, Run};
+ghost use Rattle.refusals.specs.declared.refusal.Refusal.TheVariants.{NoMemory, Run};
 ghost use Rattle.command_files.specs.Causes.{IsFailure};
 
 use clap::ArgMatches;

@@ -6,14 +6,14 @@ ghost use Rattle.grouping_model.specs.declared.limits.TheConstants.{MAX_INPUT_LE
 ghost use Rattle.script_io.specs.Fused.{unread};
 ghost use Rattle.summary_codec.specs.Reading.{IsSaved};
 ghost use Rattle.replica_merge.specs.Results.{IsLoaded};
-ghost use Rattle.replies.specs.declared.refusal.Refusal.TheVariants.{NoMemory};
+ghost use Rattle.refusals.specs.declared.refusal.Refusal.TheVariants.{NoMemory};
 ghost use Rattle.command_replicas.specs.Commands.{IsNew, IsNotNew, IsNoSummary, IsTooLong};
 ghost use Rattle.command_words.specs.Streams.{is_stream};
 ghost use Rattle.command_words.specs.declared.subcommands.Subcommand.TheVariants.{New};
 ghost use Rattle.command_streams.specs.Inputs.{IsUnread};
 ghost use Rattle.key_hashes.specs.Hashes.{fnv_1a};
 ghost use Rattle.hash_agg.specs.Ran.{Ran};
-ghost use Rattle.replies.specs.Refusals.{refusal_ended};
+ghost use Rattle.refusals.specs.Refusals.{refusal_ended};
 ghost use Rattle.command_files.specs.Causes.{HasNoReplica};
 ghost use Rattle.command_files.specs.Running.{IsNewAsTold};
 ghost use Rattle.command_files.specs.Taking.{Takes, TakeIsCounted};

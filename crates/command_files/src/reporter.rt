@@ -5,8 +5,8 @@ ghost use Rattle.std.specs.Io.KnownBytes.{Keeps};
 ghost use Rattle.script_io.specs.Fused.{has_failed};
 ghost use Rattle.replies.specs.Text.{said_text};
 ghost use Rattle.replies.specs.declared.ending.ExitKind.TheVariants.{Fault};
-ghost use Rattle.replies.specs.declared.error.RunError.TheVariants.{WriteFault};
-ghost use Rattle.replies.specs.declared.refusal.Refusal.TheVariants.{Run};
+ghost use Rattle.refusals.specs.declared.error.RunError.TheVariants.{WriteFault};
+ghost use Rattle.refusals.specs.declared.refusal.Refusal.TheVariants.{Run};
 ghost use Rattle.replies.specs.declared.reply.Reply.TheVariants.{Refused};
 ghost use Rattle.command_streams.specs.Stopping.{ending_of, EndsRefused, RepliesRefused};
 ghost use Rattle.command_files.specs.Reporting.{output_of, reply_on_output, IsFoot, OnlySays, Prints, StopsBy};
@@ -15,19 +15,31 @@ use command_replicas::SummaryFile;
 use command_streams::{
     Diagnostic, OutputStatus, Problem, Streams, Terminals, ending_of, remove_disk, reply_refused,
 };
-use file_sentences::{Progress, text_of};
+use file_sentences::Progress;
 use out_files::CutShort;
 use replica_merge::Delivered;
 use replies::{ExitKind, Format, Reply, put_reply};
 use script_io::{Fused, put_all};
+use std::alloc::{AllocError, Global};
 use std::fmt::Display;
 use std::io::Write;
 use std::rt::Files;
+use std::str;
 
 /// Writes a reply to standard error.
 fn put_beside<E: Write>(errors: &mut E, reply: &Reply<'_>) {
     // If it can't be written, nothing is left to do.
     let _ = put_reply(&mut Fused::new(&mut *errors), reply);
+}
+
+/// A reply as a text without the end of its line.
+fn text_of(alloc: Global, reply: &Reply<'_>) -> Result<String, AllocError> {
+    let mut bytes = Vec::new(alloc);
+    if put_reply(&mut Fused::new(&mut bytes), reply).is_err() {
+        return Err(AllocError);
+    }
+    let text = str::from_utf8(&bytes).unwrap_or("").trim_end();
+    String::from_str(alloc, text)
 }
 
 /// Whether the last line of a batch file has no end, where a reply tells that it was taken.

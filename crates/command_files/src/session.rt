@@ -8,7 +8,7 @@ ghost use Rattle.hash_agg.specs.Means.{AreMeans};
 ghost use Rattle.script_io.specs.Fused.{written};
 ghost use Rattle.replies.specs.KnownTables.{known_in};
 ghost use Rattle.replies.specs.declared.ending.ExitKind.TheVariants.{BadUsage, Done, Fault};
-ghost use Rattle.replies.specs.declared.refusal.Refusal.TheVariants.{BadCommand, NoMemory};
+ghost use Rattle.refusals.specs.declared.refusal.Refusal.TheVariants.{BadCommand, NoMemory};
 ghost use Rattle.replies.specs.declared.reply.Reply.TheVariants.{Refused};
 ghost use Rattle.command_replicas.specs.Commands.{IsTooLong};
 ghost use Rattle.command_streams.specs.Disks.{is_in_memory};

@@ -3,7 +3,7 @@
 ghost use Rattle.std.specs.Prelude.{◌≡◌, ◌⊎◌, ℕ, List, Some, true, IfOk, IfErr, IsUtf8, string_bytes};
 ghost use Rattle.std.specs.Io.KnownBytes.{Consumes, IsAtEnd};
 ghost use Rattle.script_io.specs.Fused.{unread};
-ghost use Rattle.replies.specs.declared.refusal.Refusal.TheVariants.{BadCommand, NoMemory};
+ghost use Rattle.refusals.specs.declared.refusal.Refusal.TheVariants.{BadCommand, NoMemory};
 ghost use Rattle.command_words.specs.LineEnd.{DropsLineEnd};
 ghost use Rattle.command_words.specs.Streams.{is_stream};
 ghost use Rattle.command_files.specs.Texts.{IsNoText, IsNoTextOf, IsTextTold};

@@ -13,9 +13,9 @@ use Rattle.replica_merge.specs.Results.{IsLoaded}
 use Rattle.replies.specs.Text.{said_text}
 use Rattle.replies.specs.declared.ending.ExitKind.{ExitKind}
 use Rattle.replies.specs.declared.ending.ExitKind.TheVariants.{BadUsage}
-use Rattle.replies.specs.declared.error.RunError.TheVariants.{InputTooLong}
-use Rattle.replies.specs.declared.refusal.Refusal.{Refusal}
-use Rattle.replies.specs.declared.refusal.Refusal.TheVariants.{NoMemory, BadSchema, Batch, Run}
+use Rattle.refusals.specs.declared.error.RunError.TheVariants.{InputTooLong}
+use Rattle.refusals.specs.declared.refusal.Refusal.{Refusal}
+use Rattle.refusals.specs.declared.refusal.Refusal.TheVariants.{NoMemory, BadSchema, Batch, Run}
 use Rattle.replies.specs.declared.reply.Reply.TheVariants.{Refused}
 use Rattle.command_replicas.specs.Commands.{IsNoSummary}
 use Rattle.command_words.specs.Streams.{is_stream}

@@ -11,7 +11,7 @@ ghost use Rattle.grouping_model.specs.declared.limits.TheConstants.{LAST_ORIGIN}
 ghost use Rattle.plain_batches.specs.declared.layout.Layout.{Layout};
 ghost use Rattle.replies.specs.Text.{said_text};
 ghost use Rattle.replies.specs.declared.ending.ExitKind.TheVariants.{BadUsage, Done, Fault};
-ghost use Rattle.replies.specs.declared.refusal.Refusal.TheVariants.{Batch};
+ghost use Rattle.refusals.specs.declared.refusal.Refusal.TheVariants.{Batch};
 ghost use Rattle.replies.specs.declared.reply.Reply.TheVariants.{Refused};
 ghost use Rattle.script_io.specs.Fused.{unread, written};
 ghost use Rattle.command_words.specs.Streams.{is_stream};

@@ -2,7 +2,7 @@
 
 ghost use Rattle.std.specs.Prelude.{◌≡◌, ◌≤◌, ℕ, Some, None, IfOk, IfErr, IfSome, IfNone, OnErr};
 ghost use Rattle.batch_reader.specs.Head.{ReadsOrigin, ReadsBatchNumber};
-ghost use Rattle.replies.specs.declared.refusal.Refusal.TheVariants.{BadCommand};
+ghost use Rattle.refusals.specs.declared.refusal.Refusal.TheVariants.{BadCommand};
 ghost use Rattle.script_io.specs.Digits.{number_of};
 ghost use Rattle.command_packs.specs.Options.{delimiter_told, AreWords, IsLayoutOf};
 

@@ -7,13 +7,13 @@ use Rattle.packed_rows.specs.declared.error.RowError.{RowError}
 use Rattle.packed_rows.specs.declared.error.RowError.TheVariants as row
 use Rattle.query_checks.specs.Checks.{Checked}
 use Rattle.group_parser.specs.Parsing.{Accepts}
-use Rattle.replies.specs.QueryLaws.{read_over}
+use Rattle.refusals.specs.QueryLaws.{read_over}
 use Rattle.summary_codec.specs.Reading.{HasFault}
 use Rattle.summary_codec.specs.declared.error.SummaryError.{SummaryError}
 use Rattle.summary_codec.specs.declared.error.SummaryError.TheVariants as summary
-use Rattle.replies.specs.Refusals.{columns_refusal, summary_refusal}
-use Rattle.replies.specs.declared.refusal.Refusal.{Refusal}
-use Rattle.replies.specs.declared.refusal.Refusal.TheVariants as refuse
+use Rattle.refusals.specs.Refusals.{columns_refusal, summary_refusal}
+use Rattle.refusals.specs.declared.refusal.Refusal.{Refusal}
+use Rattle.refusals.specs.declared.refusal.Refusal.TheVariants as refuse
 use Rattle.command_replicas.specs.Commands.{IsNew, IsNotNew, IsNoSummary}
 
 -- a text tells no columns, by the refusal

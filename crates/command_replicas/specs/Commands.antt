@@ -19,11 +19,11 @@ use Rattle.batch_reader.specs.declared.error.BatchError.TheVariants as batch
 use Rattle.summary_codec.specs.Reading.{IsSummary, IsSaved, HasFault}
 use Rattle.replica_merge.specs.Replicas.{Held, part_of, told, DeliversAt}
 use Rattle.replica_merge.specs.Counting.{MergeIsCounted}
-use Rattle.replies.specs.Batches.{Fed, IsBatch, IsRead, IsNoQuery, IsNoBatch, Takes, IsOtherBatch}
-use Rattle.replies.specs.Refusals.{IsApart}
-use Rattle.replies.specs.declared.error.RunError.TheVariants.{InputTooLong}
-use Rattle.replies.specs.declared.refusal.Refusal.{Refusal}
-use Rattle.replies.specs.declared.refusal.Refusal.TheVariants.{NoMemory, BadSchema, Batch, Summary, Run}
+use Rattle.refusals.specs.Batches.{Fed, IsBatch, IsRead, IsNoQuery, IsNoBatch, Takes, IsOtherBatch}
+use Rattle.refusals.specs.Refusals.{IsApart}
+use Rattle.refusals.specs.declared.error.RunError.TheVariants.{InputTooLong}
+use Rattle.refusals.specs.declared.refusal.Refusal.{Refusal}
+use Rattle.refusals.specs.declared.refusal.Refusal.TheVariants.{NoMemory, BadSchema, Batch, Summary, Run}
 
 -- a replica that knows nothing, of a query over columns, as two texts say them
 pub record IsNew (columns query : List ℕ) (held : Held) : Type 0 where

@@ -7,9 +7,9 @@ use Rattle.packed_rows.specs.Columns.{kinds}
 use Rattle.batch_reader.specs.File.{BatchFile}
 use Rattle.replica_merge.specs.Replicas.{Held, Fits, MergesParts, DisagreeSomewhere, told}
 use Rattle.summary_codec.specs.Reading.{IsSummary}
-use Rattle.replies.specs.Batches.{IsOfBatch}
-use Rattle.replies.specs.declared.refusal.Refusal.{Refusal}
-use Rattle.replies.specs.declared.refusal.Refusal.TheVariants.{NoMemory, OriginDisagrees}
+use Rattle.refusals.specs.Batches.{IsOfBatch}
+use Rattle.refusals.specs.declared.refusal.Refusal.{Refusal}
+use Rattle.refusals.specs.declared.refusal.Refusal.TheVariants.{NoMemory, OriginDisagrees}
 use Rattle.command_replicas.specs.Commands.{TakesFile, DeliversFile, FileAgrees, FileDisagrees, IsNewFile, IsNoBatchFile, IsNotMerged}
 use Rattle.command_replicas.specs.Commands.{IsOtherFile}
 

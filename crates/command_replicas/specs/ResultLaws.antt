@@ -9,12 +9,12 @@ use Rattle.replica_merge.specs.DeliveryLaws.{delivery_agreed, delivery_refused}
 use Rattle.replica_merge.specs.MergeLaws.{merged_told, merged_fits}
 use Rattle.replica_merge.specs.Replicas.{Held, Fits, MergesParts, DisagreeSomewhere, told}
 use Rattle.summary_codec.specs.Reading.{IsSummary}
-use Rattle.replies.specs.Batches.{IsOfBatch}
-use Rattle.replies.specs.FeedLaws.{taken_read, refused_not_of_batch, refused_unknown, refused_disagrees, refused_other, apart_never_fit}
-use Rattle.replies.specs.RefusalLaws.{batch_own, batch_never_disagrees}
-use Rattle.replies.specs.Refusals.{IsApart}
-use Rattle.replies.specs.declared.refusal.Refusal.{Refusal}
-use Rattle.replies.specs.declared.refusal.Refusal.TheVariants.{NoMemory, OriginDisagrees}
+use Rattle.refusals.specs.Batches.{IsOfBatch}
+use Rattle.refusals.specs.FeedLaws.{taken_read, refused_not_of_batch, refused_unknown, refused_disagrees, refused_other, apart_never_fit}
+use Rattle.refusals.specs.RefusalLaws.{batch_own, batch_never_disagrees}
+use Rattle.refusals.specs.Refusals.{IsApart}
+use Rattle.refusals.specs.declared.refusal.Refusal.{Refusal}
+use Rattle.refusals.specs.declared.refusal.Refusal.TheVariants.{NoMemory, OriginDisagrees}
 use Rattle.command_replicas.specs.Commands.{TakesFile, DeliversFile, FileAgrees, FileDisagrees, IsNewFile, IsNoBatchFile, IsNotMerged}
 use Rattle.command_replicas.specs.Commands.{IsNoSummary, IsOtherFile}
 use Rattle.command_replicas.specs.Lemmas.FileLaws.{takes_file, of_batch_file, other_file, unread_why}

@@ -8,8 +8,8 @@ use Rattle.batch_reader.specs.declared.error.BatchError.{BatchError}
 use Rattle.origin_prefix.specs.declared.error.RefusedBatch.{RefusedBatch}
 use Rattle.replica_merge.specs.Replicas.{Held}
 use Rattle.replica_merge.specs.Results.{DeliversBatch, IsLoaded, MergesHeld}
-use Rattle.replies.specs.Refusals.{batch_refusal, refused_batch, IsApart}
-use Rattle.replies.specs.declared.refusal.Refusal.{Refusal}
+use Rattle.refusals.specs.Refusals.{batch_refusal, refused_batch, IsApart}
+use Rattle.refusals.specs.declared.refusal.Refusal.{Refusal}
 use Rattle.command_replicas.specs.Commands.{IsReadOf, IsNoSummary}
 
 -- the batch of a file is delivered to a replica

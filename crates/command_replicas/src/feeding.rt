@@ -2,14 +2,14 @@
 
 ghost use Rattle.batch_reader.specs.File.{read_file};
 ghost use Rattle.hash_agg.specs.Ran.{Ran};
-ghost use Rattle.replies.specs.Refusals.{refusal_ended};
+ghost use Rattle.refusals.specs.Refusals.{refusal_ended};
 ghost use Rattle.command_replicas.specs.Commands.{FeedIsCounted};
 ghost use Rattle.command_replicas.specs.Results.{Feeds};
 
 use batch_reader::read_batch;
 use hash_agg::{Executor, KeyHash, Means, TapeDisk};
+use refusals::Refusal;
 use replica_merge::{Delivered, Replica};
-use replies::Refusal;
 use std::alloc::Global;
 
 /// Feeds the batch of a batch file to a replica, as `feed` does in a script, by `means` and over a tape disk. A refused batch changes

@@ -4,7 +4,7 @@ ghost use Rattle.std.specs.Prelude.{ℕ, Bool, List, Option, Result};
 ghost use Rattle.grouping_model.specs.declared.delivered.Delivered.{Delivered};
 ghost use Rattle.batch_reader.specs.File.{BatchFile};
 ghost use Rattle.replica_merge.specs.Replicas.{Held};
-ghost use Rattle.replies.specs.declared.refusal.Refusal.{Refusal};
+ghost use Rattle.refusals.specs.declared.refusal.Refusal.{Refusal};
 ghost use Rattle.command_replicas.specs.Outcomes.{AfterFeed, AfterMergedFile};
 ghost use Rattle.command_replicas.specs.Results.{Feeds, MergesFile};
 

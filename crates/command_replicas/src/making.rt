@@ -6,7 +6,7 @@ ghost use Rattle.grouping_model.specs.declared.limits.TheConstants.{MAX_INPUT_LE
 ghost use Rattle.summary_codec.specs.Reading.{IsSaved};
 ghost use Rattle.summary_codec.specs.WorldFile.{world_file};
 ghost use Rattle.replica_merge.specs.Replicas.{told, Fits};
-ghost use Rattle.replies.specs.declared.refusal.Refusal.TheVariants.{NoMemory};
+ghost use Rattle.refusals.specs.declared.refusal.Refusal.TheVariants.{NoMemory};
 ghost use Rattle.command_replicas.specs.Commands.{IsNew, IsNotNew, IsTooLong};
 ghost use Rattle.command_replicas.specs.Results.{LoadsFile};
 
@@ -14,8 +14,8 @@ use crate::summary::SummaryFile;
 use group_parser::parse;
 use grouping_model::limits::MAX_INPUT_LEN;
 use packed_rows::Schema;
+use refusals::{Refusal, RunError};
 use replica_merge::Replica;
-use replies::{Refusal, RunError};
 use std::alloc::Global;
 
 /// An empty replica of a query over columns, both given as texts, as `columns` and `query` make it in a script.

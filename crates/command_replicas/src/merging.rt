@@ -1,13 +1,13 @@
 //! Merging summary files into a replica.
 
 ghost use Rattle.hash_agg.specs.Ran.{Ran};
-ghost use Rattle.replies.specs.Refusals.{refusal_ended};
+ghost use Rattle.refusals.specs.Refusals.{refusal_ended};
 ghost use Rattle.command_replicas.specs.Commands.{FileMergeIsCounted};
 ghost use Rattle.command_replicas.specs.Results.{MergesFile};
 
 use hash_agg::{Executor, KeyHash, Means, TapeDisk};
+use refusals::Refusal;
 use replica_merge::Replica;
-use replies::Refusal;
 use std::alloc::Global;
 
 /// Merges the replica of a summary file into another, as `merge` does in a script: afterwards the second knows what either knew. It

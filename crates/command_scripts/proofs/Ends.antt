@@ -11,8 +11,8 @@ use Rattle.replies.specs.Status.{run_ending}
 use Rattle.replies.specs.declared.ending.ExitKind.{ExitKind}
 use Rattle.replies.specs.declared.ending.ExitKind.TheVariants.{Done, Fault}
 use Rattle.replies.specs.declared.ending.Outcome.{Outcome}
-use Rattle.replies.specs.declared.error.RunError.{RunError}
-use Rattle.replies.specs.declared.error.RunError.TheVariants.{InputTooLong, NoMemory, ReadFault, WriteFault}
+use Rattle.refusals.specs.declared.error.RunError.{RunError}
+use Rattle.refusals.specs.declared.error.RunError.TheVariants.{InputTooLong, NoMemory, ReadFault, WriteFault}
 use Rattle.script_machine.specs.Headline.{WritesRight}
 use Rattle.command_streams.specs.DiskLaws.{honest_in_memory}
 use Rattle.command_streams.specs.Disks.{command_tapes, is_in_memory}

@@ -11,9 +11,9 @@ use Rattle.replies.specs.Text.{said_text}
 use Rattle.replies.specs.declared.ending.ExitKind.{ExitKind}
 use Rattle.replies.specs.declared.ending.ExitKind.TheVariants.{Fault}
 use Rattle.replies.specs.declared.ending.Outcome.{Outcome}
-use Rattle.replies.specs.declared.error.RunError.{RunError}
-use Rattle.replies.specs.declared.error.RunError.TheVariants.{WriteFault}
-use Rattle.replies.specs.declared.refusal.Refusal.TheVariants.{Run}
+use Rattle.refusals.specs.declared.error.RunError.{RunError}
+use Rattle.refusals.specs.declared.error.RunError.TheVariants.{WriteFault}
+use Rattle.refusals.specs.declared.refusal.Refusal.TheVariants.{Run}
 use Rattle.replies.specs.declared.reply.Reply.TheVariants.{Refused}
 use Rattle.script_machine.specs.Exact.{WritesExactly}
 use Rattle.script_machine.specs.Headline.{Streams, WritesRight, streams}

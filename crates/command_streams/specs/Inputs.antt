@@ -3,10 +3,10 @@ use Rattle.std.specs.Prelude.{◌≡◌, ℕ, Bool, List, Option}
 use Rattle.grouping_model.specs.declared.limits.TheConstants.{MAX_INPUT_LEN}
 use Rattle.script_io.specs.Input.{StopsReading, is_read_fault}
 use Rattle.script_io.specs.declared.input.InputError.{InputError}
-use Rattle.replies.specs.Refusals.{run_error, run_refusal}
-use Rattle.replies.specs.declared.error.RunError.TheVariants.{InputTooLong, ReadFault}
-use Rattle.replies.specs.declared.refusal.Refusal.{Refusal}
-use Rattle.replies.specs.declared.refusal.Refusal.TheVariants.{NoMemory, Run}
+use Rattle.refusals.specs.Refusals.{run_error, run_refusal}
+use Rattle.refusals.specs.declared.error.RunError.TheVariants.{InputTooLong, ReadFault}
+use Rattle.refusals.specs.declared.refusal.Refusal.{Refusal}
+use Rattle.refusals.specs.declared.refusal.Refusal.TheVariants.{NoMemory, Run}
 
 -- why a file was not read: memory ran out, it is too long, or the system failed
 abbrev pub IsUnread : Refusal → Type 0

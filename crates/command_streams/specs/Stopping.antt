@@ -5,8 +5,8 @@ use Rattle.script_io.specs.Output.{StopsShort}
 use Rattle.replies.specs.Status.{refusal_ending}
 use Rattle.replies.specs.declared.ending.ExitKind.{ExitKind}
 use Rattle.replies.specs.declared.ending.ExitKind.TheVariants.{Fault}
-use Rattle.replies.specs.declared.refusal.Refusal.{Refusal}
-use Rattle.replies.specs.declared.refusal.Refusal.TheVariants.{TapeFault}
+use Rattle.refusals.specs.declared.refusal.Refusal.{Refusal}
+use Rattle.refusals.specs.declared.refusal.Refusal.TheVariants.{TapeFault}
 
 -- how a command ends that a refusal stops: where the spill file failed, as where any other did
 abbrev pub ending_of : Refusal → ExitKind

@@ -6,8 +6,8 @@ ghost use Rattle.grouping_model.specs.declared.limits.TheConstants.{MAX_INPUT_LE
 ghost use Rattle.script_io.specs.Fused.{has_failed, unread};
 ghost use Rattle.command_words.specs.Streams.{is_stream};
 ghost use Rattle.command_streams.specs.Inputs.{IsUnread, StopsInput};
-ghost use Rattle.replies.specs.declared.error.RunError.TheVariants.{InputTooLong};
-ghost use Rattle.replies.specs.declared.refusal.Refusal.TheVariants.{Run};
+ghost use Rattle.refusals.specs.declared.error.RunError.TheVariants.{InputTooLong};
+ghost use Rattle.refusals.specs.declared.refusal.Refusal.TheVariants.{Run};
 
 use crate::problem::Problem;
 use command_words::{input_name, is_stream};

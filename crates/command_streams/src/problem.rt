@@ -2,8 +2,8 @@
 
 ghost use Rattle.std.specs.Prelude.{◌≡◌, ◌↔◌, IsTrue};
 ghost use Rattle.replies.specs.declared.ending.ExitKind.TheVariants.{Fault};
-ghost use Rattle.replies.specs.declared.error.RunError.TheVariants.{WriteFault};
-ghost use Rattle.replies.specs.declared.refusal.Refusal.TheVariants.{Run};
+ghost use Rattle.refusals.specs.declared.error.RunError.TheVariants.{WriteFault};
+ghost use Rattle.refusals.specs.declared.refusal.Refusal.TheVariants.{Run};
 ghost use Rattle.command_streams.specs.Stopping.{ending_of};
 
 use replies::{Refusal, RunError};

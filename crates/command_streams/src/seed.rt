@@ -1,8 +1,8 @@
 //! The seed of the group tables of a command.
 
 ghost use Rattle.std.specs.Prelude.{◌≡◌, IfErr};
-ghost use Rattle.replies.specs.declared.error.RunError.TheVariants.{ReadFault};
-ghost use Rattle.replies.specs.declared.refusal.Refusal.TheVariants.{Run};
+ghost use Rattle.refusals.specs.declared.error.RunError.TheVariants.{ReadFault};
+ghost use Rattle.refusals.specs.declared.refusal.Refusal.TheVariants.{Run};
 
 use crate::problem::Problem;
 use hash_agg::Seed;

@@ -1,8 +1,8 @@
 //! The tape disk that a command takes.
 
 ghost use Rattle.std.specs.Prelude.{◌≡◌, IfOk, IfErr, IsSome, is_none};
-ghost use Rattle.replies.specs.declared.error.RunError.TheVariants.{WriteFault};
-ghost use Rattle.replies.specs.declared.refusal.Refusal.TheVariants.{Run};
+ghost use Rattle.refusals.specs.declared.error.RunError.TheVariants.{WriteFault};
+ghost use Rattle.refusals.specs.declared.refusal.Refusal.TheVariants.{Run};
 ghost use Rattle.command_streams.specs.Disks.{is_in_memory};
 
 use crate::problem::Problem;

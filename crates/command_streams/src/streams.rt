@@ -1,8 +1,8 @@
 //! The streams of a command, and the sentences on them.
 
 ghost use Rattle.std.specs.Prelude.{◌≡◌};
-ghost use Rattle.replies.specs.declared.error.RunError.TheVariants.{WriteFault};
-ghost use Rattle.replies.specs.declared.refusal.Refusal.TheVariants.{Run};
+ghost use Rattle.refusals.specs.declared.error.RunError.TheVariants.{WriteFault};
+ghost use Rattle.refusals.specs.declared.refusal.Refusal.TheVariants.{Run};
 
 use crate::problem::Problem;
 use script_io::Fused;

@@ -12,7 +12,7 @@ use Rattle.batch_reader.specs.declared.batch.Batch.{Batch}
 use Rattle.batch_reader.specs.declared.error.BatchError.{BatchError}
 use Rattle.batch_reader.specs.declared.error.BatchError.TheVariants.{NoMemory, BadBatchHead, TooManyRows, RowCount, WrongWidth, BadField}
 use Rattle.script_io.specs.Records.{Record}
-use Rattle.replies.specs.Batches.{IsRead}
+use Rattle.refusals.specs.Batches.{IsRead}
 use Rattle.engine.specs.Calls.{file_of}
 
 -- no record is there behind those that were taken, so they are all

@@ -26,9 +26,9 @@ use Rattle.replica_merge.specs.Errors.{merge_reason}
 use Rattle.replica_merge.specs.Replicas.{MergeTells, part_of}
 use Rattle.replica_merge.specs.Results.{DeliversBatch, MergesHeld}
 use Rattle.replica_merge.specs.declared.error.MergeError.{MergeError}
-use Rattle.replies.specs.RefusalLaws.{join_reasons, merge_reasons}
-use Rattle.replies.specs.Refusals.{merge_refusal, refusal_ended, refusal_reason, refused_batch}
-use Rattle.replies.specs.declared.refusal.Refusal.{Refusal}
+use Rattle.refusals.specs.RefusalLaws.{join_reasons, merge_reasons}
+use Rattle.refusals.specs.Refusals.{merge_refusal, refusal_ended, refusal_reason, refused_batch}
+use Rattle.refusals.specs.declared.refusal.Refusal.{Refusal}
 use Rattle.command_replicas.specs.Commands.{IsReadOf, FeedIsCounted, FileMergeIsCounted}
 use Rattle.command_replicas.specs.Lemmas.FileLaws.{of_batch_file}
 use Rattle.command_replicas.specs.ResultLaws.{feed_same, merge_same}

@@ -12,11 +12,11 @@ use Rattle.batch_reader.specs.declared.error.BatchError.TheVariants as batch
 use Rattle.summary_codec.specs.Names.{summary_name}
 use Rattle.summary_codec.specs.declared.error.SummaryError.{SummaryError}
 use Rattle.summary_codec.specs.declared.error.SummaryError.TheVariants as summary
-use Rattle.replies.specs.Text.{refusal_name, run_name}
-use Rattle.replies.specs.declared.error.RunError.{RunError}
-use Rattle.replies.specs.declared.error.RunError.TheVariants as stop
-use Rattle.replies.specs.declared.refusal.Refusal.{Refusal}
-use Rattle.replies.specs.declared.refusal.Refusal.TheVariants as refuse
+use Rattle.refusals.specs.Names.{run_name, refusal_name}
+use Rattle.refusals.specs.declared.error.RunError.{RunError}
+use Rattle.refusals.specs.declared.error.RunError.TheVariants as stop
+use Rattle.refusals.specs.declared.refusal.Refusal.{Refusal}
+use Rattle.refusals.specs.declared.refusal.Refusal.TheVariants as refuse
 use Rattle.engine.specs.declared.status.Status.{Status}
 use Rattle.engine.specs.declared.status.Status.TheVariants as says
 use Rattle.engine.specs.Statuses.{status_number, status_at, status_name, status_of, query_status, parse_status, batch_status}

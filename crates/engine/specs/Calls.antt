@@ -28,12 +28,12 @@ use Rattle.replica_merge.specs.Replicas.{told, Fits}
 pub use Rattle.replica_merge.specs.Replicas.{Held}
 use Rattle.replica_merge.specs.Counting.{MergeIsCounted}
 use Rattle.replica_merge.specs.Results.{MergesHeld}
-use Rattle.replies.specs.Refusals.{limit_out_of_range, IsApart}
+use Rattle.refusals.specs.Refusals.{limit_out_of_range, IsApart}
 use Rattle.replies.specs.Printed.{PrintsAnswer}
 use Rattle.replies.specs.Text.{origins_text}
-use Rattle.replies.specs.declared.refusal.Refusal.TheVariants.{BadCommand, TapeFault, TapeDamaged}
-pub use Rattle.replies.specs.declared.refusal.Refusal.{Refusal}
-pub use Rattle.replies.specs.declared.refusal.Refusal.TheVariants.{NoMemory}
+use Rattle.refusals.specs.declared.refusal.Refusal.TheVariants.{BadCommand, TapeFault, TapeDamaged}
+pub use Rattle.refusals.specs.declared.refusal.Refusal.{Refusal}
+pub use Rattle.refusals.specs.declared.refusal.Refusal.TheVariants.{NoMemory}
 pub use Rattle.replies.specs.declared.showing.Format.{Format}
 pub use Rattle.replies.specs.declared.showing.Format.TheVariants.{Csv, Aligned}
 use Rattle.command_replicas.specs.Commands.{IsNew, IsNotNew, FeedIsCounted, FileMergeIsCounted}

@@ -2,8 +2,8 @@
 use Rattle.std.specs.Prelude.{ℕ, None, Some}
 use Rattle.batch_reader.specs.declared.error.BatchError.TheVariants as batch
 use Rattle.group_parser.specs.declared.error.ParseError.TheVariants as parse
-use Rattle.replies.specs.declared.refusal.Refusal.{Refusal}
-use Rattle.replies.specs.declared.refusal.Refusal.TheVariants.{Query, Batch, OriginDisagrees}
+use Rattle.refusals.specs.declared.refusal.Refusal.{Refusal}
+use Rattle.refusals.specs.declared.refusal.Refusal.TheVariants.{Query, Batch, OriginDisagrees}
 use Rattle.engine.specs.declared.place.Place.{Place}
 
 abbrev pub numbers : (kind first second : ℕ) → Place

@@ -1,7 +1,7 @@
 //! The place of a refusal.
 
 ghost use Rattle.std.specs.Prelude.{◌≡◌};
-ghost use Rattle.replies.specs.declared.refusal.Refusal.TheVariants.{Query, Batch};
+ghost use Rattle.refusals.specs.declared.refusal.Refusal.TheVariants.{Query, Batch};
 ghost use Rattle.engine.specs.Places.{place_of, numbers};
 
 use batch_reader::BatchError;

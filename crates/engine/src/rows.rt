@@ -7,7 +7,7 @@ ghost use Rattle.command_replicas.specs.Commands.{IsReadOf};
 ghost use Rattle.engine.specs.Calls.{batch_of, file_of};
 ghost use Rattle.batch_reader.specs.declared.error.BatchError.TheVariants.{NoMemory, RowCount};
 ghost use Rattle.script_io.specs.Records.{records_of};
-ghost use Rattle.replies.specs.Batches.{IsRead};
+ghost use Rattle.refusals.specs.Batches.{IsRead};
 
 use batch_reader::{Batch, BatchError, read_rows};
 use itoa::Buffer;

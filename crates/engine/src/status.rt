@@ -3,8 +3,8 @@
 ghost use Rattle.std.specs.Prelude.{◌≡◌, Some};
 ghost use Rattle.engine.specs.Statuses.{status_number, status_at, status_name, status_of, query_status, parse_status, batch_status};
 ghost use Rattle.engine.specs.Statuses.{summary_status, run_status};
-ghost use Rattle.replies.specs.Text.{refusal_name};
-ghost use Rattle.replies.specs.declared.refusal.Refusal.{Refusal};
+ghost use Rattle.refusals.specs.Names.{refusal_name};
+ghost use Rattle.refusals.specs.declared.refusal.Refusal.{Refusal};
 ghost use Rattle.engine.specs.declared.status.Status.{Status};
 
 use batch_reader::BatchError;

@@ -3,7 +3,7 @@ use mathlib.Core.Path.{refl}
 use base.Stored.{Coded}
 use Rattle.std.specs.Prelude.{ℕ, List, Option}
 use Rattle.std.specs.Coded.{code_by, coded×, coded_list, coded_option, coded_ℕ}
-use Rattle.replies.specs.contracts.refusal.Refusal as refusal
+use Rattle.refusals.specs.contracts.refusal.Refusal as refusal
 use Rattle.engine.specs.Calls.{Refusal}
 use Rattle.engine.specs.Coding.{coded_session}
 use Rattle.engine.specs.Sessions.{SessionState}

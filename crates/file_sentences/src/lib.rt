@@ -4,7 +4,7 @@
 mod progress;
 mod reasons;
 
-pub use progress::{Explained, PassedOver, Progress, text_of};
+pub use progress::{Explained, PassedOver, Progress};
 pub use reasons::{
     FileKind, columns_reason, file_reason, limit_reason, query_reason, replaced_reason,
     saving_reason, summary_reason,

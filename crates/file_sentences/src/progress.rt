@@ -1,10 +1,7 @@
 //! The progress of a command, and what it took.
 
-use replies::{Reply, put_reply};
-use script_io::Fused;
 use sentences::Plain;
-use std::alloc::{AllocError, Global};
-use std::{fmt, str};
+use std::fmt;
 
 /// The progress of a command: a file that was taken, its place among all files, and the reply to it.
 #[derive(Clone, Copy)]
@@ -21,16 +18,6 @@ impl fmt::Display for Progress<'_> {
         let (path, reply) = (Plain(self.path), self.reply);
         write!(f, "{place} of {files} {path}: {reply}")
     }
-}
-
-/// A reply as a text without the end of its line.
-pub fn text_of(alloc: Global, reply: &Reply<'_>) -> Result<String, AllocError> {
-    let mut bytes = Vec::new(alloc);
-    if put_reply(&mut Fused::new(&mut bytes), reply).is_err() {
-        return Err(AllocError);
-    }
-    let text = str::from_utf8(&bytes).unwrap_or("").trim_end();
-    String::from_str(alloc, text)
 }
 
 /// OUT was written, though files were skipped.

@@ -2,8 +2,8 @@
 
 use fault_sentences::{BatchText, no_summary, say_disagreement, say_query, say_schema};
 use packed_rows::Schema;
+use refusals::{Refusal, RunError};
 use replica_merge::{KnownOrigin, Replica, SummaryError};
-use replies::{Refusal, RunError};
 use sentences::{Plain, Quoted, Reason};
 use std::alloc::{AllocError, Global};
 

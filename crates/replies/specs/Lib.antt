@@ -1,12 +1,6 @@
-pub mod Refusals
 pub mod Text
 pub mod KnownTables
 pub mod Printed
 pub mod PrintedLaws
 pub mod Status
-pub mod Batches
-pub mod QueryLaws
-pub mod BatchLaws
-pub mod RefusalLaws
-pub mod FeedLaws
-pub mod Lemmas
+pub mod ReplyLaws

@@ -1,10 +1,10 @@
 -- The exit status that says how a command ended. All of this is our own.
 use Rattle.std.specs.Prelude.{ℕ, ◌==◌, Result, Ok, Err, if◌then◌else◌}
 use Rattle.replies.specs.declared.ending.Outcome.{Outcome}
-use Rattle.replies.specs.declared.error.RunError.{RunError}
-use Rattle.replies.specs.declared.error.RunError.TheVariants.{InputTooLong, ReadFault, NoMemory, WriteFault}
-use Rattle.replies.specs.declared.refusal.Refusal as refusals
-use Rattle.replies.specs.declared.refusal.Refusal.TheVariants.{Run}
+use Rattle.refusals.specs.declared.error.RunError.{RunError}
+use Rattle.refusals.specs.declared.error.RunError.TheVariants.{InputTooLong, ReadFault, NoMemory, WriteFault}
+use Rattle.refusals.specs.declared.refusal.Refusal as refusals
+use Rattle.refusals.specs.declared.refusal.Refusal.TheVariants.{Run}
 use Rattle.replies.specs.declared.ending.ExitKind.{ExitKind}
 use Rattle.replies.specs.declared.ending.ExitKind.TheVariants.{Done, Refused, BadUsage, Fault}
 

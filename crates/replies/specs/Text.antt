@@ -7,47 +7,16 @@ use Rattle.having_filter.specs.Kept.{headers}
 use Rattle.grouping_model.specs.Replies.{KnownOrigin}
 use Rattle.grouping_model.specs.declared.delivered.Delivered.{Delivered}
 use Rattle.grouping_model.specs.declared.delivered.Delivered.TheVariants.{Folded, Early, Known}
-use Rattle.group_parser.specs.Names.{parse_name}
-use Rattle.batch_reader.specs.Names.{batch_name}
-use Rattle.summary_codec.specs.Names.{summary_name}
 use Rattle.table_print.specs.Aligned.{aligned_text, sides}
 use Rattle.table_print.specs.Json.{json_text}
 use Rattle.table_print.specs.Table.{table_text}
 use Rattle.table_print.specs.Tsv.{tsv_text}
-use Rattle.replies.specs.Refusals.{tells_fault}
-use Rattle.replies.specs.declared.refusal.Refusal.{Refusal}
-use Rattle.replies.specs.declared.refusal.Refusal.TheVariants.{NoMemory, BadSchema, Limit, Query, Batch, Summary, DifferentQuery}
-use Rattle.replies.specs.declared.refusal.Refusal.TheVariants.{OriginDisagrees, TapeFault, TapeDamaged, Run, BadCommand, NoSuchName}
-use Rattle.replies.specs.declared.refusal.Refusal.TheVariants.{NameTaken}
-use Rattle.replies.specs.declared.error.RunError.{RunError}
-use Rattle.replies.specs.declared.error.RunError.TheVariants as stop
+use Rattle.refusals.specs.Names.{refusal_name}
+use Rattle.refusals.specs.Refusals.{tells_fault}
 use Rattle.replies.specs.declared.reply.Reply.{Reply}
 use Rattle.replies.specs.declared.reply.Reply.TheVariants as says
 use Rattle.replies.specs.declared.showing.Format.{Format}
 use Rattle.replies.specs.declared.showing.Format.TheVariants.{Csv, Tsv, Json, Aligned}
-
--- the names of refusals, and of what stops a run. What a lower crate refuses has its name there
-abbrev pub run_name : RunError → List ℕ
-run_name stop.NoMemory = codes "NoMemory"
-run_name stop.InputTooLong = codes "InputTooLong"
-run_name stop.ReadFault = codes "ReadFault"
-run_name stop.WriteFault = codes "WriteFault"
-
-abbrev pub refusal_name : Refusal → List ℕ
-refusal_name NoMemory = codes "NoMemory"
-refusal_name BadSchema = codes "BadSchema"
-refusal_name (Limit error) = codes "LimitOutOfRange"
-refusal_name (Query error) = parse_name error
-refusal_name (Batch error) = batch_name error
-refusal_name (Summary error) = summary_name error
-refusal_name DifferentQuery = codes "DifferentQuery"
-refusal_name (OriginDisagrees origin number) = codes "OriginDisagrees"
-refusal_name TapeFault = codes "TapeFault"
-refusal_name TapeDamaged = codes "TapeDamaged"
-refusal_name (Run error) = run_name error
-refusal_name BadCommand = codes "BadCommand"
-refusal_name NoSuchName = codes "NoSuchName"
-refusal_name NameTaken = codes "NameTaken"
 
 -- a line of a word and what follows it
 abbrev pub line : List ℕ → List ℕ → List ℕ

@@ -3,8 +3,7 @@
 ghost use Rattle.std.specs.Prelude.{◌≡◌};
 ghost use Rattle.replies.specs.Status.{status_of, run_ending, refusal_ending};
 
-use crate::error::RunError;
-use crate::refusal::Refusal;
+use refusals::{Refusal, RunError};
 
 /// The end of a run that replied to each command of its script.
 #[derive(Clone, Copy, Debug, PartialEq, Eq)]

@@ -2,17 +2,14 @@
 #![tactic(auto)]
 
 mod ending;
-mod error;
 mod known_tables;
 mod output;
-mod refusal;
 mod reply;
 mod showing;
 mod texts;
 
 pub use ending::{ExitKind, Outcome, refusal_ending, run_ending, status};
-pub use error::RunError;
 pub use output::put_reply;
-pub use refusal::Refusal;
+pub use refusals::{Refusal, RunError};
 pub use reply::Reply;
 pub use showing::{Format, KnownFormat, known_lines, known_table, origin_lines, table};

@@ -3,7 +3,7 @@
 ghost use Rattle.std.specs.Prelude.{◌≡◌};
 ghost use Rattle.replies.specs.Text.{is_refusal};
 
-use crate::refusal::Refusal;
+use refusals::Refusal;
 use replica_merge::Delivered;
 
 /// The reply to a command.

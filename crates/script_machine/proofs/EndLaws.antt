@@ -17,8 +17,8 @@ use Rattle.script_io.specs.declared.fused.Fused.{Fused}
 use Rattle.script_io.specs.declared.input.InputError.{InputError}
 use Rattle.script_io.specs.declared.input.InputError.TheVariants as input
 use Rattle.replies.specs.declared.ending.Outcome.{Outcome}
-use Rattle.replies.specs.declared.error.RunError.{RunError}
-use Rattle.replies.specs.declared.error.RunError.TheVariants as stop
+use Rattle.refusals.specs.declared.error.RunError.{RunError}
+use Rattle.refusals.specs.declared.error.RunError.TheVariants as stop
 use Rattle.script_machine.proofs.Words.{AreWritten, Command, DiskFrame, ExecutesAllBut, Works, WorksThrough, empty, exact_wording}
 use Rattle.script_machine.proofs.Words.{run_error}
 use Rattle.script_machine.specs.Exact.{IsExactOutput, WritesExactly}

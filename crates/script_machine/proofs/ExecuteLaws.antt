@@ -16,16 +16,17 @@ use Rattle.origin_prefix.specs.declared.error.RefusedBatch.{RefusedBatch}
 use Rattle.replica_merge.specs.DeliveryLaws.{delivery_agreed, delivery_refused}
 use Rattle.replica_merge.specs.Replicas.{DeliversAt}
 use Rattle.replica_merge.specs.Results.{DeliversBatch}
-use Rattle.replies.specs.BatchLaws.{fed_of, read_is_fed}
-use Rattle.replies.specs.FeedLaws.{taken_read, refused_not_of_batch, refused_other}
-use Rattle.replies.specs.RefusalLaws.{batch_never_disagrees, batch_tells, batch_undamaged, join_reasons, no_fault_in, reason_faults}
-use Rattle.replies.specs.Refusals.{join_refusal, merge_refusal, refusal_reason, refused_batch}
+use Rattle.refusals.specs.BatchLaws.{fed_of, read_is_fed}
+use Rattle.refusals.specs.FeedLaws.{taken_read, refused_not_of_batch, refused_other}
+use Rattle.refusals.specs.RefusalLaws.{batch_never_disagrees, batch_tells, batch_undamaged, join_reasons, reason_faults}
+use Rattle.replies.specs.ReplyLaws.{no_fault_in}
+use Rattle.refusals.specs.Refusals.{join_refusal, merge_refusal, refusal_reason, refused_batch}
 use Rattle.replica_merge.specs.declared.error.MergeError.{MergeError}
 use Rattle.replica_merge.specs.declared.error.MergeError.TheVariants as merge
 use Rattle.spill_partitions.specs.declared.error.SpillError.TheVariants as spill
 use Rattle.spill_partitions.specs.declared.error.SpillError.TheVariants.{TapeDamaged}
-use Rattle.replies.specs.declared.refusal.Refusal.{Refusal}
-use Rattle.replies.specs.declared.refusal.Refusal.TheVariants as why
+use Rattle.refusals.specs.declared.refusal.Refusal.{Refusal}
+use Rattle.refusals.specs.declared.refusal.Refusal.TheVariants as why
 use Rattle.replies.specs.declared.reply.Reply.{Reply}
 use Rattle.replies.specs.declared.reply.Reply.TheVariants as says
 use Rattle.script_commands.specs.Commands as ask

@@ -10,7 +10,7 @@ use Rattle.hash_agg.specs.Counting.{AreCounted}
 use Rattle.hash_agg.specs.declared.work.Work.{Work}
 use Rattle.origin_prefix.specs.Parts.{BatchTells, Disagrees, aggregations_on}
 use Rattle.origin_prefix.specs.declared.error.JoinError.TheVariants.{Spill}
-use Rattle.replies.specs.BatchLaws.{fed_of, read_is_fed}
+use Rattle.refusals.specs.BatchLaws.{fed_of, read_is_fed}
 use Rattle.spill_partitions.specs.declared.error.SpillError.{SpillError}
 
 -- what reading records tells, by columns that are a replica's, is that the batch was read of them

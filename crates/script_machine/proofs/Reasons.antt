@@ -10,7 +10,7 @@ use Rattle.script_commands.specs.Commands.{Request}
 use Rattle.script_machine.proofs.BatchLaws.{no_fault}
 use Rattle.script_machine.specs.Machine as machine
 use Rattle.script_machine.specs.Machine.{Reply, if_there}
-use Rattle.replies.specs.declared.refusal.Refusal.TheVariants as refusals
+use Rattle.refusals.specs.declared.refusal.Refusal.TheVariants as refusals
 
 -- a reply accepts something of which this holds
 pub record IsAccepted {X : Type 0} (saying : X → Reply) (holds : X → Type 0) (reply : Reply) : Type 0 where

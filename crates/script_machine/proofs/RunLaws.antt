@@ -26,8 +26,8 @@ use Rattle.script_machine.specs.Machine as machine
 use Rattle.script_machine.specs.Machine.{Reply, Replies}
 use Rattle.script_machine.specs.Text.{joined, reply_text, replies_text}
 use Rattle.script_machine.specs.Output.{Disk, IsOutput, LeavesSome, WritesAll, WritesFront, disk_over}
-use Rattle.replies.specs.declared.refusal.Refusal.TheVariants.{NoMemory}
-use Rattle.replies.specs.Refusals.{tells_fault}
+use Rattle.refusals.specs.declared.refusal.Refusal.TheVariants.{NoMemory}
+use Rattle.refusals.specs.Refusals.{tells_fault}
 use Rattle.replies.specs.declared.reply.Reply as code
 use Rattle.replies.specs.declared.reply.Reply.TheVariants as says
 

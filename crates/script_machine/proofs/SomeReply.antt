@@ -20,7 +20,7 @@ use Rattle.origin_prefix.specs.Lemmas.Lists.{same_or_other}
 use Rattle.script_commands.specs.Commands as ask
 use Rattle.script_commands.specs.Commands.{Request}
 use Rattle.script_machine.specs.Machine as machine
-use Rattle.replies.specs.declared.refusal.Refusal.TheVariants as why
+use Rattle.refusals.specs.declared.refusal.Refusal.TheVariants as why
 
 -- fields as many as kinds stand for a row, or there is a leftmost bad one
 row_or_bad : (ks : List Kind) (fields : List (List ℕ)) → length fields ≡ length ks → ((row : Row) → ¬ (ReadsRow ks fields row))

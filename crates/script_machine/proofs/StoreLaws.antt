@@ -33,10 +33,10 @@ use Rattle.summary_codec.specs.WorldFile.{world_file}
 use Rattle.script_commands.specs.Commands as ask
 use Rattle.script_commands.specs.Commands.{Request}
 use Rattle.script_machine.specs.Machine as machine
-use Rattle.replies.specs.FeedLaws.{apart_never_fit}
+use Rattle.refusals.specs.FeedLaws.{apart_never_fit}
 use Rattle.replies.specs.Printed.{PrintsAnswer}
 use Rattle.replies.specs.PrintedLaws.{printed_world}
-use Rattle.replies.specs.Refusals.{IsApart}
+use Rattle.refusals.specs.Refusals.{IsApart}
 use Rattle.spill_partitions.specs.declared.error.SpillError.TheVariants as spill
 use Rattle.hash_agg.specs.declared.means.TheConstants.{MIN_LIMIT, MAX_LIMIT}
 use Rattle.hash_agg.specs.Means.{MeansState}
@@ -46,7 +46,7 @@ use Rattle.packed_rows.specs.declared.error.RowError.TheVariants as row
 use Rattle.origin_prefix.specs.declared.error.JoinError.TheVariants as join
 use Rattle.replica_merge.specs.declared.error.MergeError.{MergeError}
 use Rattle.replica_merge.specs.declared.error.MergeError.TheVariants as merge
-use Rattle.replies.specs.declared.refusal.Refusal.TheVariants as why
+use Rattle.refusals.specs.declared.refusal.Refusal.TheVariants as why
 use Rattle.replies.specs.declared.reply.Reply.{Reply}
 use Rattle.replies.specs.declared.reply.Reply.TheVariants as says
 use Rattle.replies.specs.declared.showing.Format.TheVariants.{Csv}

@@ -11,10 +11,11 @@ pub use Rattle.having_filter.specs.Meaning.{meaning}
 pub use Rattle.packed_rows.specs.Columns.{Column, IsSchemaText, kinds, printed}
 pub use Rattle.query_checks.specs.Checks.{Checked}
 pub use Rattle.replica_merge.specs.Replicas.{Fits, Held, MergeTells, Parts, SameQuery, part_of, told}
-pub use Rattle.replies.specs.Batches.{Fed, IsBatch, IsNoBatch, IsNoQuery, IsOfBatch, IsOtherBatch, IsRead, Takes}
-pub use Rattle.replies.specs.Refusals.{batch_refusal, columns_refusal, limit_out_of_range, merge_refusal, query_refusal, run_error}
-pub use Rattle.replies.specs.Text.{answer_text, faults_in, is_refusal, is_tape_fault, known_text, line, refusal_name, said_text}
-pub use Rattle.replies.specs.declared.refusal.Refusal.{Refusal}
+pub use Rattle.refusals.specs.Batches.{Fed, IsBatch, IsNoBatch, IsNoQuery, IsOfBatch, IsOtherBatch, IsRead, Takes}
+pub use Rattle.refusals.specs.Refusals.{batch_refusal, columns_refusal, limit_out_of_range, merge_refusal, query_refusal, run_error}
+pub use Rattle.replies.specs.Text.{answer_text, faults_in, is_refusal, is_tape_fault, known_text, line, said_text}
+pub use Rattle.refusals.specs.Names.{refusal_name}
+pub use Rattle.refusals.specs.declared.refusal.Refusal.{Refusal}
 pub use Rattle.script_commands.specs.Commands.{Command, command_at, commands_of, owned_by, request_of}
 pub use Rattle.script_io.specs.Records.{Record}
 pub use Rattle.tape_disks.specs.Disk.{DiskFrame}

@@ -8,7 +8,7 @@ use Rattle.script_io.specs.Records.{Record}
 use Rattle.script_commands.specs.Commands.{Command, Request, Feed, Answer, Known, Save}
 use Rattle.grouping_model.specs.World.{World, Batch, Knowledge, knows}
 use Rattle.query_checks.specs.Checks.{Checked}
-use Rattle.replies.specs.Batches.{Fed, IsBatch}
+use Rattle.refusals.specs.Batches.{Fed, IsBatch}
 use Rattle.script_machine.specs.Machine.{State, Reply, Has_columns, Step, Along, Replies, after}
 use Rattle.script_machine.specs.Wording.{exact_wording, file_saved}
 use Rattle.script_machine.specs.Text.{reply_text}

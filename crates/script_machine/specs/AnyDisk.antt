@@ -7,9 +7,9 @@ use Rattle.having_filter.specs.Kept.{headers}
 use Rattle.table_print.specs.Table.{table_text}
 use Rattle.script_io.specs.Records.{Record}
 use Rattle.script_commands.specs.Commands.{Command, Request}
-use Rattle.replies.specs.Refusals.{tells_fault}
+use Rattle.refusals.specs.Refusals.{tells_fault}
 use Rattle.replies.specs.Text.{line, answer_text}
-use Rattle.replies.specs.declared.refusal.Refusal.TheVariants.{OriginDisagrees, TapeDamaged}
+use Rattle.refusals.specs.declared.refusal.Refusal.TheVariants.{OriginDisagrees, TapeDamaged}
 use Rattle.script_machine.specs.Exact.{Exactly}
 use Rattle.script_machine.specs.Wording.{exact_wording}
 use Rattle.script_machine.specs.Machine.{State, Reply, Took, Merged, Saved, Answered, Refused, Replies, IsReply, Along, uses_tapes}

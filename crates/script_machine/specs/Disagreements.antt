@@ -7,10 +7,10 @@ use Rattle.origin_prefix.specs.declared.error.JoinError.TheVariants.{Spill}
 use Rattle.replica_merge.specs.Replicas.{DisagreeSomewhere, Held, part_of}
 use Rattle.script_io.specs.Records.{Record}
 use Rattle.script_commands.specs.Commands.{Request, Feed, Merge}
-use Rattle.replies.specs.Batches.{Fed, IsBatch}
-use Rattle.replies.specs.Refusals.{IsApart}
-use Rattle.replies.specs.declared.refusal.Refusal.{Refusal}
-use Rattle.replies.specs.declared.refusal.Refusal.TheVariants.{OriginDisagrees, TapeDamaged, TapeFault}
+use Rattle.refusals.specs.Batches.{Fed, IsBatch}
+use Rattle.refusals.specs.Refusals.{IsApart}
+use Rattle.refusals.specs.declared.refusal.Refusal.{Refusal}
+use Rattle.refusals.specs.declared.refusal.Refusal.TheVariants.{OriginDisagrees, TapeDamaged, TapeFault}
 use Rattle.replies.specs.declared.reply.Reply.{Reply}
 use Rattle.replies.specs.declared.reply.Reply.TheVariants as says
 use Rattle.spill_partitions.specs.declared.error.SpillError.{SpillError}

@@ -5,8 +5,8 @@ use Rattle.std.specs.Io.KnownBytes.{Appends}
 use Rattle.grouping_model.specs.World.{World}
 use Rattle.packed_rows.specs.Columns.{kinds}
 use Rattle.script_commands.specs.Commands.{Command, Columns, Query, Feed}
-use Rattle.replies.specs.Batches.{IsNoBatch, IsNoQuery}
-use Rattle.replies.specs.declared.refusal.Refusal.TheVariants.{BadSchema}
+use Rattle.refusals.specs.Batches.{IsNoBatch, IsNoQuery}
+use Rattle.refusals.specs.declared.refusal.Refusal.TheVariants.{BadSchema}
 use Rattle.script_machine.specs.Headline.{IsRightOutput, KeepNumbers, Streams, commands_in}
 use Rattle.script_machine.specs.Machine.{Reply, Refused, Step, Along, Replies, IsReply, start}
 use Rattle.script_machine.specs.Text.{joined, replies_text}

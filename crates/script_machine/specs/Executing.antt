@@ -9,8 +9,8 @@ use Rattle.script_io.specs.Output.{StopsShort}
 use Rattle.script_commands.specs.Commands.{Command, Request, request_of}
 use Rattle.replies.specs.Text.{faults_in, is_refusal, said_text}
 use Rattle.replies.specs.declared.ending.Outcome.{Outcome}
-use Rattle.replies.specs.declared.error.RunError.{RunError}
-use Rattle.replies.specs.declared.error.RunError.TheVariants.{InputTooLong, NoMemory, ReadFault, WriteFault}
+use Rattle.refusals.specs.declared.error.RunError.{RunError}
+use Rattle.refusals.specs.declared.error.RunError.TheVariants.{InputTooLong, NoMemory, ReadFault, WriteFault}
 use Rattle.replies.specs.declared.reply.Reply.{Reply}
 use Rattle.script_machine.specs.Disagreements.{TellsDisagreement}
 use Rattle.script_machine.specs.Headline.{Streams, commands_in}

@@ -8,9 +8,9 @@ use Rattle.replica_merge.specs.Replicas.{Parts, Held, Fits}
 use Rattle.replica_merge.specs.Results.{JoinsHeld}
 use Rattle.script_io.specs.Records.{Record}
 use Rattle.script_commands.specs.Commands.{Merge}
-use Rattle.replies.specs.Refusals.{refusal_faults}
-use Rattle.replies.specs.declared.refusal.Refusal.{Refusal}
-use Rattle.replies.specs.declared.refusal.Refusal.TheVariants.{NoMemory, OriginDisagrees, TapeFault, TapeDamaged, NoSuchName}
+use Rattle.refusals.specs.Refusals.{refusal_faults}
+use Rattle.refusals.specs.declared.refusal.Refusal.{Refusal}
+use Rattle.refusals.specs.declared.refusal.Refusal.TheVariants.{NoMemory, OriginDisagrees, TapeFault, TapeDamaged, NoSuchName}
 use Rattle.replies.specs.declared.reply.Reply.{Reply}
 use Rattle.replies.specs.declared.reply.Reply.TheVariants as says
 use Rattle.script_machine.specs.Disagreements.{TellsDisagreement}

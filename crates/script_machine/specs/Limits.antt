@@ -15,8 +15,8 @@ use Rattle.replica_merge.specs.Counting.{MergeIsCounted}
 use Rattle.replica_merge.specs.Replicas.{Held, part_of}
 use Rattle.script_io.specs.Records.{Record}
 use Rattle.script_commands.specs.Commands.{Request, Feed, Merge}
-use Rattle.replies.specs.Batches.{Fed, IsBatch}
-use Rattle.replies.specs.declared.refusal.Refusal.TheVariants.{Batch, NoSuchName}
+use Rattle.refusals.specs.Batches.{Fed, IsBatch}
+use Rattle.refusals.specs.declared.refusal.Refusal.TheVariants.{Batch, NoSuchName}
 use Rattle.replies.specs.declared.reply.Reply.{Reply}
 use Rattle.replies.specs.declared.reply.Reply.TheVariants as says
 use Rattle.script_machine.specs.Views.{Store, replica_at}

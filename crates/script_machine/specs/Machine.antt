@@ -12,10 +12,10 @@ use Rattle.hash_agg.specs.declared.means.TheConstants.{MIN_LIMIT, MAX_LIMIT, DEF
 use Rattle.script_io.specs.Records.{Record}
 use Rattle.script_commands.specs.Commands.{Command, Request, Columns, Query, Limit, Replica, Feed, Known, Answer, Merge, Save, Load}
 use Rattle.script_commands.specs.Commands.{Unknown, request_of}
-use Rattle.replies.specs.Batches.{Fed, IsBatch}
-use Rattle.replies.specs.Refusals.{limit_out_of_range}
-use Rattle.replies.specs.declared.refusal.Refusal.{Refusal}
-use Rattle.replies.specs.declared.refusal.Refusal.TheVariants.{NoMemory, TapeFault, BadCommand, NoSuchName, NameTaken}
+use Rattle.refusals.specs.Batches.{Fed, IsBatch}
+use Rattle.refusals.specs.Refusals.{limit_out_of_range}
+use Rattle.refusals.specs.declared.refusal.Refusal.{Refusal}
+use Rattle.refusals.specs.declared.refusal.Refusal.TheVariants.{NoMemory, TapeFault, BadCommand, NoSuchName, NameTaken}
 
 -- the state: the columns and the query, once given, what each replica knows, by its name, what was saved, by its name, and the limit of
 -- aggregations

@@ -7,8 +7,8 @@ use Rattle.tape_disks.specs.declared.disk.TapeDisk.{Ghosts}
 use Rattle.script_io.specs.Output.{StopsShort}
 use Rattle.script_commands.specs.Commands.{Command}
 use Rattle.replies.specs.declared.ending.Outcome.{Outcome}
-use Rattle.replies.specs.declared.error.RunError.{RunError}
-use Rattle.replies.specs.declared.error.RunError.TheVariants.{InputTooLong, ReadFault, NoMemory, WriteFault}
+use Rattle.refusals.specs.declared.error.RunError.{RunError}
+use Rattle.refusals.specs.declared.error.RunError.TheVariants.{InputTooLong, ReadFault, NoMemory, WriteFault}
 use Rattle.script_machine.specs.AnyDisk.{Run, AllMayRead, is_refused, is_fault}
 use Rattle.script_machine.specs.Exact.{AreExact}
 use Rattle.script_machine.specs.Headline.{Streams, commands_in}

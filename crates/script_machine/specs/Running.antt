@@ -8,7 +8,7 @@ use Rattle.script_io.specs.Fused.{FailsAsTold, has_failed, unread}
 use Rattle.script_io.specs.Input.{ConsumesAtMost}
 use Rattle.script_io.specs.declared.fused.Fused.{Fused}
 use Rattle.replies.specs.declared.ending.Outcome.{Outcome}
-use Rattle.replies.specs.declared.error.RunError.{RunError}
+use Rattle.refusals.specs.declared.error.RunError.{RunError}
 use Rattle.script_machine.specs.Executing.{WorksThrough}
 use Rattle.script_machine.specs.Exact.{WritesExactly}
 use Rattle.script_machine.specs.Headline.{Streams, streams}

@@ -7,7 +7,7 @@ use Rattle.having_filter.specs.Meaning.{meaning}
 use Rattle.query_checks.specs.Checks.{Checked}
 use Rattle.table_print.specs.Table.{table_text}
 use Rattle.replies.specs.Text.{line, delivered_text, known_text, answer_text}
-use Rattle.replies.specs.declared.refusal.Refusal.{Refusal}
+use Rattle.refusals.specs.declared.refusal.Refusal.{Refusal}
 use Rattle.script_machine.specs.Machine.{Reply, Has_columns, Has_query, Has_limit, Created, Took, Merged, Saved, Loaded, Listed, Answered}
 use Rattle.script_machine.specs.Machine.{Refused}
 

@@ -16,7 +16,7 @@ use Rattle.replica_merge.specs.Results.{MergesHeld}
 use Rattle.summary_codec.specs.Reading.{IsSaved}
 use Rattle.script_io.specs.Records.{Record}
 use Rattle.script_commands.specs.Commands.{Request, Replica, Feed, Answer, Merge, Save, Load}
-use Rattle.replies.specs.Batches.{Fed, IsBatch}
+use Rattle.refusals.specs.Batches.{Fed, IsBatch}
 use Rattle.replies.specs.Printed.{PrintsAnswer}
 use Rattle.replies.specs.Text.{said_text}
 use Rattle.replies.specs.declared.reply.Reply.{Reply}

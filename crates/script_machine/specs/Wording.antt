@@ -4,7 +4,7 @@ use Rattle.grouping_model.specs.World.{World}
 use Rattle.query_checks.specs.Spelling.{spelling}
 use Rattle.having_filter.specs.Kept.{by_names}
 use Rattle.summary_codec.specs.WorldFile.{world_file}
-use Rattle.replies.specs.Text.{refusal_name}
+use Rattle.refusals.specs.Names.{refusal_name}
 use Rattle.script_machine.specs.Machine.{Reply, Saved}
 use Rattle.script_machine.specs.Text.{Wording}
 

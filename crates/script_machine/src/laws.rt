@@ -8,7 +8,7 @@ ghost use Rattle.hash_agg.specs.declared.means.TheConstants.{MIN_LIMIT, MAX_LIMI
 ghost use Rattle.script_io.specs.Output.{StopsShort};
 ghost use Rattle.script_io.specs.Records.{Record};
 ghost use Rattle.script_commands.specs.Commands.{Command, Request};
-ghost use Rattle.replies.specs.Batches.{Fed};
+ghost use Rattle.refusals.specs.Batches.{Fed};
 ghost use Rattle.script_machine.specs.Agreement.{OneBatchEach, AreAmong, world_of};
 ghost use Rattle.script_machine.specs.Example.{HasFirstOutput};
 ghost use Rattle.script_machine.specs.Exact.{AreExact, Exactly};

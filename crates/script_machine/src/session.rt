@@ -15,10 +15,10 @@ ghost use Rattle.replica_merge.specs.Results.{IsLoaded};
 ghost use Rattle.script_io.specs.Records.{Record};
 ghost use Rattle.script_commands.specs.Commands as ask;
 ghost use Rattle.script_commands.specs.Commands.{owned_by, request_of};
-ghost use Rattle.replies.specs.Batches.{IsNoQuery};
+ghost use Rattle.refusals.specs.Batches.{IsNoQuery};
 ghost use Rattle.replies.specs.Text.{is_tape_fault};
 ghost use Rattle.replies.specs.declared.reply.Reply.TheVariants as says;
-ghost use Rattle.replies.specs.declared.refusal.Refusal.TheVariants.{NoMemory};
+ghost use Rattle.refusals.specs.declared.refusal.Refusal.TheVariants.{NoMemory};
 ghost use Rattle.script_machine.specs.Executing.{Executes};
 ghost use Rattle.script_machine.specs.Joining.{JoinsNamed};
 ghost use Rattle.script_machine.specs.Views.{empty, Steps};
@@ -85,7 +85,7 @@ impl Model for Session {
 }
 
 /// The query that a text says, and its canonical text.
-#[tactic(auto, using(replies::specs::QueryLaws::read_over))]
+#[tactic(auto, using(refusals::specs::QueryLaws::read_over))]
 fn read_query(alloc: Global, schema: &Schema, text: &str) -> Result<(Query, String), Refusal>
     ensures read { IfOk result (λ found. Accepts schema.now text.now found.0
         × (string_bytes found.1 ≡ spelling (by_names found.0))) }

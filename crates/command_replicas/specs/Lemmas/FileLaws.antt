@@ -13,11 +13,11 @@ use Rattle.batch_reader.specs.declared.error.BatchError.{BatchError}
 use Rattle.batch_reader.specs.declared.error.BatchError.TheVariants as batch
 use Rattle.hash_agg.specs.Ran.{Refused, faults_of}
 use Rattle.replica_merge.specs.Replicas.{Held}
-use Rattle.replies.specs.BatchLaws.{fed_of, read_is_fed, read_are_packed}
-use Rattle.replies.specs.Batches.{IsOfBatch, TakesRead, IsOtherRead}
-use Rattle.replies.specs.Refusals.{batch_refusal, refusal_reason}
-use Rattle.replies.specs.declared.refusal.Refusal.{Refusal}
-use Rattle.replies.specs.declared.refusal.Refusal.TheVariants as refuse
+use Rattle.refusals.specs.BatchLaws.{fed_of, read_is_fed, read_are_packed}
+use Rattle.refusals.specs.Batches.{IsOfBatch, TakesRead, IsOtherRead}
+use Rattle.refusals.specs.Refusals.{batch_refusal, refusal_reason}
+use Rattle.refusals.specs.declared.refusal.Refusal.{Refusal}
+use Rattle.refusals.specs.declared.refusal.Refusal.TheVariants as refuse
 use Rattle.spill_partitions.specs.declared.error.SpillError.TheVariants as spill
 use Rattle.command_replicas.specs.Commands.{IsNoBatchFile, IsNoSummary, TakesFile, IsOtherFile, OfBatchFile, IsReadOf}
 

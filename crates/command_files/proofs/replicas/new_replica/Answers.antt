@@ -1,7 +1,7 @@
 use Rattle.std.specs.Prelude.{◌≢◌, ℕ, List, Result, Ok, Err, IfErr, codes, string_bytes}
 use Rattle.std.proofs.Common.{inr}
 use Rattle.clap.specs.declared.parser.matches.ArgMatches.{ArgMatches}
-use Rattle.replies.specs.declared.refusal.Refusal.TheVariants.{NoMemory}
+use Rattle.refusals.specs.declared.refusal.Refusal.TheVariants.{NoMemory}
 use Rattle.command_replicas.specs.Commands.{IsNotNew}
 use Rattle.command_words.specs.declared.subcommands.Subcommand.TheVariants.{New}
 use Rattle.command_streams.specs.declared.problem.Problem.{Problem}

@@ -1,6 +1,6 @@
 use Rattle.std.specs.Prelude.{◌≡◌, ◌⊎◌, ℕ, List, Some, Result, Ok, Err, IfErr, IsUtf8}
 use Rattle.std.proofs.Common.{inl, inr, subst, sym}
-use Rattle.replies.specs.declared.refusal.Refusal.TheVariants.{BadCommand, NoMemory}
+use Rattle.refusals.specs.declared.refusal.Refusal.TheVariants.{BadCommand, NoMemory}
 use Rattle.command_streams.specs.Inputs.{IsUnread}
 use Rattle.command_streams.specs.declared.problem.Problem.{Problem}
 use Rattle.command_files.specs.Texts.{IsNoTextOf}

@@ -10,8 +10,8 @@ use Rattle.hash_agg.specs.Counting.{AreCounted, setting_by}
 use Rattle.hash_agg.specs.Lemmas.RanLaws.{ran_as, ran_weaker, refused_by, refused_still}
 use Rattle.hash_agg.specs.Ran.{Done, Refused}
 use Rattle.having_filter.specs.Meaning.{meaning}
-use Rattle.replies.specs.RefusalLaws.{batch_reason, batch_undamaged, join_reasons}
-use Rattle.replies.specs.Refusals.{batch_refusal, refusal_reason}
+use Rattle.refusals.specs.RefusalLaws.{batch_reason, batch_undamaged, join_reasons}
+use Rattle.refusals.specs.Refusals.{batch_refusal, refusal_reason}
 use Rattle.command_replicas.specs.Commands.{FeedIsCounted}
 use Rattle.command_replicas.specs.Lemmas.FileLaws.{read_of_file, packed_of_file, of_batch_file}
 use Rattle.command_replicas.proofs.feeding.feed.Goals as goal

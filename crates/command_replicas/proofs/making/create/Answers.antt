@@ -1,7 +1,7 @@
 use Rattle.std.specs.Prelude.{◌≢◌, IfErr}
 use Rattle.std.proofs.Common.{◌∙◌, sym, subst}
 use Rattle.std.proofs.lemmas.Result.{err_from_is_err_and}
-use Rattle.replies.specs.declared.refusal.Refusal.TheVariants.{NoMemory}
+use Rattle.refusals.specs.declared.refusal.Refusal.TheVariants.{NoMemory}
 use Rattle.command_replicas.specs.Commands.{IsNew, IsNotNew}
 use Rattle.command_replicas.proofs.FileLaws.{no_columns, new_replica}
 use Rattle.command_replicas.proofs.making.create.Goals as goal

@@ -4,8 +4,8 @@ use Rattle.std.proofs.lemmas.Result.{err_from_is_err_and}
 use Rattle.hash_agg.specs.Lemmas.RanLaws.{ran_as, ran_weaker, refused_by, refused_still}
 use Rattle.hash_agg.specs.Ran.{Done, Refused}
 use Rattle.replica_merge.specs.Counting.{MergeIsCounted}
-use Rattle.replies.specs.RefusalLaws.{merge_reasons}
-use Rattle.replies.specs.Refusals.{refusal_reason, summary_refusal}
+use Rattle.refusals.specs.RefusalLaws.{merge_reasons}
+use Rattle.refusals.specs.Refusals.{refusal_reason, summary_refusal}
 use Rattle.command_replicas.specs.Commands.{FileMergeIsCounted}
 use Rattle.command_replicas.specs.Lemmas.FileLaws.{no_file_fault, no_file_damage}
 use Rattle.command_replicas.proofs.FileLaws.{no_summary}

@@ -4,7 +4,7 @@ use Rattle.std.proofs.lemmas.List.{length-drop}
 use Rattle.csv.specs.Records.{fields_of}
 use Rattle.tape_disks.specs.DiskLaws.{leaves_none}
 use Rattle.script_machine.proofs.Words.{owned_by, is_refusal}
-use Rattle.replies.specs.declared.error.RunError.TheVariants as stop
+use Rattle.refusals.specs.declared.error.RunError.TheVariants as stop
 use Rattle.script_machine.proofs.EndLaws.{fails_passed, works_passed}
 use Rattle.script_machine.proofs.RunLaws.{left_both, next_read, ran_done, ran_front, ran_more, ran_none, ran_some, ran_start}
 use Rattle.script_machine.proofs.engine.answer_all.Goals as goal

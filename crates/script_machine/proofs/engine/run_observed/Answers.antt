@@ -1,5 +1,5 @@
 use Rattle.std.proofs.Common.{◌∙◌}
-use Rattle.replies.specs.Refusals.{run_error}
+use Rattle.refusals.specs.Refusals.{run_error}
 use Rattle.script_machine.proofs.EndLaws.{never_fine, runs_passed, faults_passed, fails_passed, runs_read, runs_unread}
 use Rattle.script_machine.proofs.EndLaws.{writes_exactly, writes_right}
 use Rattle.script_machine.proofs.EndLaws.{fails_unread, faults_read, told_as}

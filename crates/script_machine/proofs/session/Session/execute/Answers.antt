@@ -8,7 +8,7 @@ use Rattle.script_commands.specs.Views.{request_view}
 use Rattle.script_commands.specs.declared.request.Request.{Request}
 use Rattle.script_commands.specs.Lemmas.CommandLaws.{owned_told}
 use Rattle.tape_disks.specs.DiskLaws.{leaves_none}
-use Rattle.replies.specs.declared.refusal.Refusal.TheVariants as why
+use Rattle.refusals.specs.declared.refusal.Refusal.TheVariants as why
 use Rattle.replies.specs.declared.reply.Reply.TheVariants as says
 use Rattle.script_machine.proofs.ExecuteLaws.{idle}
 use Rattle.script_machine.proofs.StoreLaws.{refused}

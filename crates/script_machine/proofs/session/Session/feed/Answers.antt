@@ -4,11 +4,11 @@ use Rattle.std.proofs.lemmas.Result.{IfErr-at_err}
 use Rattle.std.specs.Option.{is_some}
 use Rattle.query_checks.specs.Checks.{Checked}
 use Rattle.batch_reader.specs.Refusal.{BuildFault}
-use Rattle.replies.specs.BatchLaws.{read_are_packed}
+use Rattle.refusals.specs.BatchLaws.{read_are_packed}
 use Rattle.script_commands.specs.Commands as ask
 use Rattle.script_machine.proofs.Words.{Executes, Store, Updates, kinds}
-use Rattle.replies.specs.declared.refusal.Refusal.{Refusal}
-use Rattle.replies.specs.declared.refusal.Refusal.TheVariants as why
+use Rattle.refusals.specs.declared.refusal.Refusal.{Refusal}
+use Rattle.refusals.specs.declared.refusal.Refusal.TheVariants as why
 use Rattle.replies.specs.declared.reply.Reply.TheVariants as says
 use Rattle.script_machine.proofs.ExecuteLaws.{feed_taken, feed_unread, feed_untaken, idle, turns_executes}
 use Rattle.script_machine.proofs.FeedLaws.{read_of_feed}

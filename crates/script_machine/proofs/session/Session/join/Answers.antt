@@ -9,8 +9,8 @@ use Rattle.script_machine.proofs.ExecuteLaws.{unjoined_works}
 use Rattle.hash_agg.specs.Ran.{Refused, faults_of}
 use Rattle.replica_merge.specs.Counting.{MergeIsCounted}
 use Rattle.replica_merge.specs.MergeLaws.{joined_agree}
-use Rattle.replies.specs.RefusalLaws.{merge_reasons, reason_faults}
-use Rattle.replies.specs.Refusals.{IsApart, merge_refusal, refusal_faults, refusal_reason}
+use Rattle.refusals.specs.RefusalLaws.{merge_reasons, reason_faults}
+use Rattle.refusals.specs.Refusals.{IsApart, merge_refusal, refusal_faults, refusal_reason}
 use Rattle.script_machine.proofs.StoreLaws.{joins_names, merge_tells}
 use Rattle.script_machine.proofs.session.Session.join.Goals as goal
 

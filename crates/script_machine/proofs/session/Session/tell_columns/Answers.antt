@@ -3,7 +3,7 @@ use Rattle.std.proofs.Common.{◌∙◌, ap, sym, subst}
 use Rattle.std.specs.Option.{is_some}
 use Rattle.script_machine.proofs.Words.{is_tape_fault, Store}
 use Rattle.replies.specs.declared.reply.Reply.TheVariants as says
-use Rattle.replies.specs.RefusalLaws.{row_tells}
+use Rattle.replies.specs.ReplyLaws.{row_tells}
 use Rattle.script_machine.proofs.StoreLaws.{columns_there, columns_told, no_schema, turns_it}
 use Rattle.script_machine.proofs.session.Session.tell_columns.Goals as goal
 

@@ -1,9 +1,9 @@
 //! Why a script, or another file, was not read whole or not written.
 
 ghost use Rattle.std.specs.Prelude.{◌≡◌};
-ghost use Rattle.replies.specs.Refusals.{run_error, run_refusal};
-ghost use Rattle.replies.specs.Text.{run_name};
-ghost use Rattle.replies.specs.declared.error.RunError.TheVariants.{NoMemory, WriteFault};
+ghost use Rattle.refusals.specs.Refusals.{run_error, run_refusal};
+ghost use Rattle.refusals.specs.Names.{run_name};
+ghost use Rattle.refusals.specs.declared.error.RunError.TheVariants.{NoMemory, WriteFault};
 
 use crate::refusal::Refusal;
 use script_io::{InputError, WriteFault};

@@ -1,10 +1,10 @@
 //! Why a command, or a whole script, is refused.
 
 ghost use Rattle.std.specs.Prelude.{◌≡◌};
-ghost use Rattle.replies.specs.Refusals.{columns_refusal, batch_refusal, query_refusal, summary_refusal, spill_refusal, join_refusal};
-ghost use Rattle.replies.specs.Refusals.{merge_refusal, refused_batch};
-ghost use Rattle.replies.specs.Text.{refusal_name};
-ghost use Rattle.replies.specs.declared.refusal.Refusal.TheVariants.{NoMemory, Limit};
+ghost use Rattle.refusals.specs.Refusals.{columns_refusal, batch_refusal, query_refusal, summary_refusal, spill_refusal, join_refusal};
+ghost use Rattle.refusals.specs.Refusals.{merge_refusal, refused_batch};
+ghost use Rattle.refusals.specs.Names.{refusal_name};
+ghost use Rattle.refusals.specs.declared.refusal.Refusal.TheVariants.{NoMemory, Limit};
 
 use crate::error::RunError;
 use batch_reader::BatchError;

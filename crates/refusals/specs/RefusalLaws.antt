@@ -1,8 +1,6 @@
 -- Laws: how often the tape disk failed, by what was refused, and what a refusal is of.
-use Rattle.std.specs.Prelude.{◌≡◌, ◌≢◌, ℕ, refl, false, Option, Some, if◌then◌else◌}
+use Rattle.std.specs.Prelude.{◌≡◌, ◌≢◌, ℕ, refl, Option, Some}
 use Rattle.std.proofs.Common.{◌∙◌, ap}
-use Rattle.packed_rows.specs.declared.error.RowError.{RowError}
-use Rattle.packed_rows.specs.declared.error.RowError.TheVariants as row
 use Rattle.batch_reader.specs.declared.error.BatchError.{BatchError}
 use Rattle.batch_reader.specs.declared.error.BatchError.TheVariants as batch
 use Rattle.hash_agg.specs.Ran.{Refused, faults_of}
@@ -14,15 +12,12 @@ use Rattle.origin_prefix.specs.declared.error.JoinError.TheVariants as join
 use Rattle.replica_merge.specs.Errors.{merge_reason}
 use Rattle.replica_merge.specs.declared.error.MergeError.{MergeError}
 use Rattle.replica_merge.specs.declared.error.MergeError.TheVariants as merge
-use Rattle.replies.specs.Batches.{IsOfBatch}
-use Rattle.replies.specs.Refusals.{refusal_faults, refusal_reason, columns_refusal, batch_refusal, spill_refusal, join_refusal}
-use Rattle.replies.specs.Refusals.{merge_refusal}
-use Rattle.replies.specs.Text.{is_tape_fault, faults_in}
-use Rattle.replies.specs.declared.refusal.Refusal.{Refusal}
-use Rattle.replies.specs.declared.refusal.Refusal.TheVariants.{NoMemory}
-use Rattle.replies.specs.declared.refusal.Refusal.TheVariants as refuse
-use Rattle.replies.specs.declared.reply.Reply.{Reply}
-use Rattle.replies.specs.declared.reply.Reply.TheVariants as says
+use Rattle.refusals.specs.Batches.{IsOfBatch}
+use Rattle.refusals.specs.Refusals.{refusal_faults, refusal_reason, batch_refusal, spill_refusal, join_refusal}
+use Rattle.refusals.specs.Refusals.{merge_refusal}
+use Rattle.refusals.specs.declared.refusal.Refusal.{Refusal}
+use Rattle.refusals.specs.declared.refusal.Refusal.TheVariants.{NoMemory}
+use Rattle.refusals.specs.declared.refusal.Refusal.TheVariants as refuse
 
 -- a refusal names the error of spilling that it was made of
 pub spill_reason : (error : SpillError) → refusal_reason (spill_refusal error) ≡ Some error
@@ -49,7 +44,7 @@ reason_faults why = refl
 pub reason_damage : (why : Refusal) → why ≡ refuse.TapeDamaged → refusal_reason why ≡ Some spill.TapeDamaged
 reason_damage why same = ap refusal_reason same
 
--- the fault of a batch reports none, nor do columns that are refused
+-- the fault of a batch reports none
 pub batch_tells : (error : BatchError) → refusal_faults (batch_refusal error) ≡ 0
 batch_tells batch.NoMemory = refl
 batch_tells batch.BadBatchHead = refl
@@ -82,14 +77,3 @@ batch_never_disagrees batch.TooManyRows of at same = cc
 batch_never_disagrees batch.RowCount of at same = cc
 batch_never_disagrees (batch.WrongWidth row) of at same = cc
 batch_never_disagrees (batch.BadField row column) of at same = cc
-
-pub row_tells : (error : RowError) → is_tape_fault (says.Refused (columns_refusal error)) ≡ false
-row_tells row.NoMemory = refl
-row_tells row.BadSchema = refl
-row_tells (row.BadField column) = refl
-row_tells row.WrongWidth = refl
-row_tells row.BadPacked = refl
-
--- a reply that reports none
-pub no_fault_in : (reply : Reply) → is_tape_fault reply ≡ false → faults_in reply ≡ 0
-no_fault_in reply none = ap (λ b. if b then 1 else 0) none

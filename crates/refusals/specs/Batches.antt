@@ -16,9 +16,9 @@ use Rattle.batch_reader.specs.declared.error.BatchError.{BatchError}
 use Rattle.batch_reader.specs.declared.error.BatchError.TheVariants as batch
 use Rattle.script_io.specs.Records.{Record}
 use Rattle.replica_merge.specs.Replicas.{Held, told, Fits}
-use Rattle.replies.specs.declared.refusal.Refusal.{Refusal}
-use Rattle.replies.specs.declared.refusal.Refusal.TheVariants.{NoMemory, OriginDisagrees, TapeFault, TapeDamaged}
-use Rattle.replies.specs.Refusals.{batch_refusal, query_refusal}
+use Rattle.refusals.specs.declared.refusal.Refusal.{Refusal}
+use Rattle.refusals.specs.declared.refusal.Refusal.TheVariants.{NoMemory, OriginDisagrees, TapeFault, TapeDamaged}
+use Rattle.refusals.specs.Refusals.{batch_refusal, query_refusal}
 
 -- a batch as it was fed
 pub record Fed : Type 0 where

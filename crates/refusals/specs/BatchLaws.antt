@@ -9,7 +9,7 @@ use Rattle.batch_reader.specs.Rows.{ReadsRows, ArePackedRows}
 use Rattle.batch_reader.specs.RecordLaws.{built_rows}
 use Rattle.batch_reader.specs.declared.batch.Batch.{Batch}
 use Rattle.script_io.specs.Records.{Record}
-use Rattle.replies.specs.Batches.{Fed, IsBatch, IsRead}
+use Rattle.refusals.specs.Batches.{Fed, IsBatch, IsRead}
 
 -- as many records as rows
 reads_length : (kinds : List Kind) (records : List (List (List ℕ))) (rows : List Row) → ReadsRows kinds records rows → length records

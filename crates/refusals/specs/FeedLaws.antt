@@ -10,11 +10,11 @@ use Rattle.replica_merge.specs.DeliveryLaws.{delivery_reply, delivery_told, deli
 use Rattle.replica_merge.specs.MergeLaws.{refused_apart}
 use Rattle.replica_merge.specs.Replicas.{Held, Fits, MergeTells, part_of, told}
 use Rattle.replica_merge.specs.Results.{DeliversBatch}
-use Rattle.replies.specs.BatchLaws.{fed_of, read_is_fed}
-use Rattle.replies.specs.Batches.{IsOfBatch, IsOtherRead, TakesRead}
-use Rattle.replies.specs.Lemmas.UntakenLaws.{other_why, told_of, by_spill, not_of_batch, told_disagreement}
-use Rattle.replies.specs.Refusals.{refused_batch, IsApart}
-use Rattle.replies.specs.declared.refusal.Refusal.TheVariants.{OriginDisagrees}
+use Rattle.refusals.specs.BatchLaws.{fed_of, read_is_fed}
+use Rattle.refusals.specs.Batches.{IsOfBatch, IsOtherRead, TakesRead}
+use Rattle.refusals.specs.Lemmas.UntakenLaws.{other_why, told_of, by_spill, not_of_batch, told_disagreement}
+use Rattle.refusals.specs.Refusals.{refused_batch, IsApart}
+use Rattle.refusals.specs.declared.refusal.Refusal.TheVariants.{OriginDisagrees}
 
 -- whatever fields and records the batch was read of, it is their batch that the replica takes
 pub taken_read : (honest : Bool) (old : Held) (batch : Batch) (new : Held) (delivered : Delivered)

@@ -7,9 +7,9 @@ use Rattle.origin_prefix.specs.declared.error.JoinError.{JoinError}
 use Rattle.origin_prefix.specs.declared.error.JoinError.TheVariants as join
 use Rattle.replica_merge.specs.declared.error.MergeError.{MergeError}
 use Rattle.replica_merge.specs.declared.error.MergeError.TheVariants as merge
-use Rattle.replies.specs.Batches.{IsOfBatch}
-use Rattle.replies.specs.Refusals.{spill_refusal, join_refusal, merge_refusal}
-use Rattle.replies.specs.declared.refusal.Refusal.TheVariants.{OriginDisagrees, TapeDamaged}
+use Rattle.refusals.specs.Batches.{IsOfBatch}
+use Rattle.refusals.specs.Refusals.{spill_refusal, join_refusal, merge_refusal}
+use Rattle.refusals.specs.declared.refusal.Refusal.TheVariants.{OriginDisagrees, TapeDamaged}
 
 -- why a batch was not taken, from the refusal
 pub other_why : (origin : ℕ) (why : JoinError) (of : ℕ) (at : Option ℕ) → join_refusal origin why ≡ OriginDisagrees of at → why
