@@ -10,7 +10,7 @@ use Rattle.std.specs.Cmp.Lexicographic.{slice_cmp}
 use Rattle.std.specs.List.{AllByRecursion}
 use Rattle.std.specs.List.Sorted.{IsStrictlySortedBy}
 use Rattle.group_runs.proofs.Words.{Row, same_row, Query, Group, partials_at, most_rows, AllWithin, Entry, packed_keys, Rises, AreGroups}
-use Rattle.group_runs.proofs.Words.{groups_added, HasRoomForGroup, AddsGroup, HasRoomForRun, AddsRun}
+use Rattle.group_runs.proofs.Words.{Function, groups_added, HasRoomForGroup, AddsGroup, HasRoomForRun, AddsRun, CanAddRun}
 use Rattle.group_runs.proofs.StateLaws.{all_within}
 use Rattle.group_runs.specs.Lemmas.MergeLaws.{found_still, none_before, groups_added_more}
 use Rattle.group_runs.specs.StandingLaws.{group_at, groups_long}
@@ -38,6 +38,10 @@ within_at q m n old run groups more i g are new rises at =
     subst (λ o. IfSome o (AllWithin m))
     (sym (found_still q g.0 groups (take i more) (none_before more i g (run_apart q n run more new rises) at)))
     (found_within q m old groups g.0 are)
+
+-- a run that can be added rises
+pub rises_of : (these : List Function) (old run : List Entry) → CanAddRun these old run → Rises run
+rises_of these old run (q, named, has) = has.6
 
 -- ---- the groups of a run are added in turn
 -- those before a place were

@@ -1,17 +1,13 @@
-use Rattle.std.specs.Prelude.{◌≡◌, ◌+◌, ◌++◌, ℕ, List, drop, slice_range}
+use Rattle.std.specs.Prelude.{◌≡◌, ◌+◌, ◌++◌, ℕ, drop, slice_range}
 use Rattle.std.proofs.Common.{sym, ◌∙◌, ap, subst, arith}
 use Rattle.std.proofs.lemmas.List.{take_rest}
-use Rattle.group_runs.proofs.Words.{Entry, Rises, concatenated, AreGroups, AddsRun, CanAddRun, Function}
+use Rattle.group_runs.proofs.Words.{Entry, Rises, concatenated, AreGroups, AddsRun}
 use Rattle.group_runs.specs.Places.{AllBelow}
 use Rattle.group_runs.specs.StandingLaws.{groups_raised}
-use Rattle.group_runs.proofs.RunLaws.{room_next, added_next, added_all}
+use Rattle.group_runs.proofs.RunLaws.{room_next, added_next, added_all, rises_of}
 use Rattle.group_runs.proofs.SegmentLaws.{get_range, range_long}
 use Rattle.group_runs.proofs.PlaceLaws.{all_up_to, keys_next}
 use Rattle.group_runs.proofs.segment.Segment.merged.Goals as goal
-
--- a run that can be added rises
-rises_of : (these : List Function) (old more : List Entry) → CanAddRun these old more → Rises more
-rises_of these old more (q, named, has) = has.6
 
 pub loop-place-init : goal.loop-place-init
 loop-place-init c =

@@ -1,13 +1,10 @@
-use Rattle.std.specs.Prelude.{◌≡◌, List, length}
+use Rattle.std.specs.Prelude.{◌≡◌, length}
 use Rattle.std.proofs.Common.{sym, ◌∙◌, ap, subst, arith}
 use Rattle.std.proofs.lemmas.List.{nil_from_length}
-use Rattle.group_runs.proofs.Words.{Function, Entry, CanAddRun, Rises, HasRoomForRun, AddsRun, concatenated, replaced}
+use Rattle.group_runs.proofs.Words.{Rises, HasRoomForRun, AddsRun, concatenated, replaced}
 use Rattle.group_runs.proofs.JoinLaws.{adds_all, added_rises, added_few}
+use Rattle.group_runs.proofs.RunLaws.{rises_of}
 use Rattle.group_runs.proofs.segments.Segments.merge_from.Goals as goal
-
--- a run that can be added rises
-rises_of : (these : List Function) (old more : List Entry) → CanAddRun these old more → Rises more
-rises_of these old more (q, named, has) = has.6
 
 pub returns-then-len-eq0-clause-added : goal.returns-then-len-eq0-clause-added
 returns-then-len-eq0-clause-added c =
