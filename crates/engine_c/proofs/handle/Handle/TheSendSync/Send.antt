@@ -25,7 +25,7 @@ use Rattle.query_checks.specs.contracts.condition.Item as item
 use Rattle.query_checks.specs.contracts.parts.Parts as parts
 use Rattle.replica_merge.specs.contracts.replica.Replica as Replica
 use Rattle.replica_merge.specs.contracts.replica.Replica.TheInside as held
-use Rattle.replies.proofs.refusal.Refusal.TheSendSync as refusal
+use Rattle.refusals.proofs.refusal.Refusal.TheSendSync as refusal
 use Rattle.std.below.std_heap.proofs.GlobalAllocator.TheSendSync as free
 use Rattle.std.proofs.Crossing.{crosses, frees}
 use Rattle.std.proofs.alloc.Global.TheSendSync as heap
