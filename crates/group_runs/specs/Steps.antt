@@ -44,7 +44,7 @@ AddsRun query old run new =
     → AreGroups query n run more
     → AreGroups query (m + n) new (groups_added query groups more)
 
--- for some query of these functions, or for each: a step knows the functions alone
+-- a step knows the functions alone: it requires this of some query that has them, and ensures it of each
 abbrev pub SomeQuery : List Function → (Query → Type 0) → Type 0
 SomeQuery these Holds = (query : Query) × (functions query ≡ these) × Holds query
 

@@ -136,8 +136,8 @@ impl Run {
         true
     }
 
-    /// Adds the groups of another run, of a query with these functions. If all its keys are there, this takes no memory. The only
-    /// error is a failed allocation, which leaves the run as it was.
+    /// Adds the groups of another run. Both are runs of one query, whose functions are these. If all keys are there, this takes no
+    /// memory. The only error is a failed allocation, which leaves the run as it was.
     pub fn merge_from(
         &mut self,
         alloc: Global,

@@ -15,6 +15,7 @@ use std::alloc::{AllocError, Global};
 pub fn initial_states(alloc: Global, kinds: &[AggKind]) -> Result<Vec<u8>, AllocError>
     ensures { IfOk result (λ states. AreStates (functions_of kinds.now) 0 states.items (initial_partials kinds.now)) }
 {
+    // A sum of widths could overflow. The length of a vector cannot.
     let mut states = Vec::new(alloc);
     for kind in kinds {
         states.resize(states.len() + kind.width(), 0)?;

@@ -10,7 +10,7 @@ use Rattle.refusals.specs.declared.refusal.Refusal.TheVariants.{NameTaken}
 use Rattle.refusals.specs.declared.error.RunError.{RunError}
 use Rattle.refusals.specs.declared.error.RunError.TheVariants as stop
 
--- the names of refusals, and of what stops a run. What a lower crate refuses has its name there
+-- what a lower crate refuses has its name there
 abbrev pub run_name : RunError → List ℕ
 run_name stop.NoMemory = codes "NoMemory"
 run_name stop.InputTooLong = codes "InputTooLong"

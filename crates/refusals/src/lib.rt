@@ -1,4 +1,4 @@
-//! Why a command is refused, or a run stops: the errors of the crates below, as replies name them.
+//! Why a command is refused, or a run stops: errors of the crates below, and reasons of its own, each with the name that replies show.
 #![tactic(auto)]
 
 mod error;

@@ -1,4 +1,4 @@
--- The text of refusals and replies: a refusal's name, and a reply's line, of an answer and of what is known the lines after it too. All
+-- The text of replies: a reply's line, in which a refusal has its name, and of an answer and of what is known the lines after it too. All
 -- of this is our own.
 use Rattle.std.specs.Prelude.{ℕ, Bool, true, false, List, [], ◌∷◌, ◌++◌, flat_map, length, codes, decimal, string_bytes, if◌then◌else◌}
 use Rattle.grouping_model.specs.Aggregates.{Outcome}

@@ -1,4 +1,4 @@
-//! Replies and refusals of commands, in a script and on files: their names and texts, how a command ends, and its exit status.
+//! Replies to commands, in a script and on files: their texts, how a command ends, and its exit status.
 #![tactic(auto)]
 
 mod ending;
