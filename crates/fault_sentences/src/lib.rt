@@ -1,4 +1,4 @@
-//! Sentences on faults, for people: one line that quotes the faulty bytes, and says what was expected.
+//! Sentences on faults, for people: one line that quotes the faulty bytes, and says what was expected. Also the line of a CSV record.
 #![tactic(auto)]
 
 mod batch;

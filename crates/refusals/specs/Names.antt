@@ -10,13 +10,14 @@ use Rattle.refusals.specs.declared.refusal.Refusal.TheVariants.{NameTaken}
 use Rattle.refusals.specs.declared.error.RunError.{RunError}
 use Rattle.refusals.specs.declared.error.RunError.TheVariants as stop
 
--- what a lower crate refuses has its name there
+-- the name of what stops a run
 abbrev pub run_name : RunError → List ℕ
 run_name stop.NoMemory = codes "NoMemory"
 run_name stop.InputTooLong = codes "InputTooLong"
 run_name stop.ReadFault = codes "ReadFault"
 run_name stop.WriteFault = codes "WriteFault"
 
+-- the name of a refusal. What a lower crate refuses has its name there
 abbrev pub refusal_name : Refusal → List ℕ
 refusal_name NoMemory = codes "NoMemory"
 refusal_name BadSchema = codes "BadSchema"
