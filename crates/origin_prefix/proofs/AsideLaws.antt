@@ -20,8 +20,8 @@ use Rattle.origin_prefix.specs.Parts.{Batches, Part, rows_at, IsBehind, IsEarly,
 use Rattle.origin_prefix.specs.Joins.{either, put_into, with_rows, gaining, settled, Unites, Joins, JoinIsCounted, KeepsGroups, StandAside}
 use Rattle.origin_prefix.specs.Joins.{longer, Joining, JoiningAside, JoinTells}
 use Rattle.origin_prefix.specs.declared.error.JoinError.{JoinError}
-use Rattle.origin_prefix.specs.Lemmas.ByNumber.{numbers, some_is, at_head, behind_head, none_found, above_first, rising_rest, first_alone}
-use Rattle.origin_prefix.specs.Lemmas.ByNumber.{found_holds, all_found, put_same, put_else}
+use Rattle.origin_prefix.specs.Lemmas.ByNumber.{numbers, at_head, behind_head, none_found, first_alone}
+use Rattle.origin_prefix.specs.Lemmas.ByNumber.{found_holds, all_found, put_same, put_else, same_entries}
 use Rattle.origin_prefix.specs.Lemmas.Lists.{is_itself, is_same, is_other, same_or_other}
 use Rattle.origin_prefix.proofs.CountLaws.{none_counted}
 use Rattle.origin_prefix.proofs.PartLaws.{drained_part}
@@ -113,45 +113,6 @@ pub put_none : (x : Option Rows) → put_into x None ≡ x
 put_none None = refl
 put_none (Some rows) = refl
 
--- batches that begin with a lower number than others have other rows under it
-begins_lower : (x y : ℕ × Rows) (xs ys : Batches) → x.0 < y.0 → IsStrictlySortedBy nat_cmp (numbers (y ∷ ys))
-    → rows_at (x ∷ xs) x.0 ≡ rows_at (y ∷ ys) x.0 → ⊥
-begins_lower x y xs ys low rising alike =
-    let apart : x.0 ≢ y.0 = λ e. omega (arith, low, e) in
-    let none : rows_at ys x.0 ≡ None = none_found (λ (e : ℕ × Rows). y.0 < e.0) ys x.0 (above_first y.0 y.1 ys rising)
-    (λ r high. omega (arith, low, high)) in
-    true≢false (ap is_some (sym (at_head x.0 x.1 xs) ∙ alike ∙ behind_head x.0 y.0 y.1 ys apart ∙ none))
-
--- what is behind the first of batches that begin with the same number
-same_behind : (a b : ℕ × Rows) (one other : Batches) → a.0 ≡ b.0 → IsStrictlySortedBy nat_cmp (numbers (a ∷ one))
-    → IsStrictlySortedBy nat_cmp (numbers (b ∷ other)) → ((n : ℕ) → rows_at (a ∷ one) n ≡ rows_at (b ∷ other) n)
-    → (n : ℕ) → rows_at one n ≡ rows_at other n
-same_behind a b one other e rises too same n = elim (same_or_other n a.0) [
-  | inl at ↦
-      ap (rows_at one) at ∙ first_alone a.0 a.1 one rises ∙ sym (ap (rows_at other) (at ∙ e) ∙ first_alone b.0 b.1 other too)
-  | inr off ↦ sym (behind_head n a.0 a.1 one off) ∙ same n ∙ behind_head n b.0 b.1 other (λ at. off (at ∙ sym e))
-]
-
--- rising batches are those that have the same rows under each number
-pub same_batches : (one other : Batches) → IsStrictlySortedBy nat_cmp (numbers one) → IsStrictlySortedBy nat_cmp (numbers other)
-    → ((n : ℕ) → rows_at one n ≡ rows_at other n) → one ≡ other
-same_batches [] [] rises too same = refl
-same_batches [] (b ∷ other) rises too same = absurd (true≢false (sym (ap is_some (same b.0 ∙ at_head b.0 b.1 other))))
-same_batches (a ∷ one) [] rises too same = absurd (true≢false (ap is_some (sym (at_head a.0 a.1 one) ∙ same a.0)))
-same_batches (a ∷ one) (b ∷ other) rises too same = elim (cases_lt a.0 b.0) [
-  | inl low ↦ absurd (begins_lower a b one other low too (same a.0))
-  | inr high ↦ elim (cases_lt b.0 a.0) [
-    | inl low ↦ absurd (begins_lower b a other one low rises (sym (same b.0)))
-    | inr less ↦
-        let e : a.0 ≡ b.0 = omega (arith, high, less) in
-        let rows : a.1 ≡ b.1 = some_is a.1 b.1 (sym (at_head a.0 a.1 one) ∙ same a.0 ∙ ap (rows_at (b ∷ other)) e
-        ∙ at_head b.0 b.1 other) in
-        let rest : one ≡ other = same_batches one other (rising_rest a one rises) (rising_rest b other too)
-        (same_behind a b one other e rises too same) in
-        λ i. (e i, rows i) ∷ rest i
-  ]
-]
-
 -- what stands in places that kept rows were put into
 pub with_rows_at : (kept places : Batches) (n : ℕ) → rows_at (with_rows kept places) n ≡ put_into (rows_at places n) (rows_at kept n)
 with_rows_at kept [] n = refl
@@ -175,7 +136,7 @@ with_rows_numbers kept (place ∷ places) = ap (λ ns. place.0 ∷ ns) (with_row
 pub put_is : (kept places new : Batches) → IsStrictlySortedBy nat_cmp (numbers places) → IsStrictlySortedBy nat_cmp (numbers new)
     → ((n : ℕ) → rows_at new n ≡ put_into (rows_at places n) (rows_at kept n)) → new ≡ with_rows kept places
 put_is kept places new rises rising put =
-    same_batches new (with_rows kept places) rising (subst (IsStrictlySortedBy nat_cmp) (sym (with_rows_numbers kept places)) rises)
+    same_entries new (with_rows kept places) rising (subst (IsStrictlySortedBy nat_cmp) (sym (with_rows_numbers kept places)) rises)
     (λ n. put n ∙ sym (with_rows_at kept places n))
 
 -- ---- what stands aside of a part that keeps its groups

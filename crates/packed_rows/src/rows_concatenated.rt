@@ -1,6 +1,6 @@
-//! Packed rows.
+//! Rows end to end.
 
-ghost use Rattle.std.specs.Prelude.{◌≡◌, ◌<◌, ◌≤◌, ◌++◌, ◌∷◌, ◌↔◌, List, [], length, slice_get, slice_index_or, slice_range, Some, IsTrue};
+ghost use Rattle.std.specs.Prelude.{◌≡◌, ◌<◌, ◌≤◌, ◌++◌, ◌∷◌, List, [], length, slice_get, slice_index_or, slice_range, Some};
 ghost use Rattle.std.specs.Prelude.{IfOk, OnOk, OnErr};
 
 use std::alloc::{AllocError, Global};
@@ -10,13 +10,13 @@ use std::marker::Model;
 ///
 /// The rows lie end to end, so a row takes no block of memory of its own.
 #[derive(Drop)]
-pub struct PackedRows {
+pub(crate) struct RowBlock {
     bytes: Vec<u8>,
     /// Where each row ends.
     ends: Vec<usize>,
 }
 
-impl Model for PackedRows {
+impl Model for RowBlock {
     ghost use Rattle.std.specs.Prelude.{ℕ, List};
     ghost use Rattle.packed_rows.specs.ConcatenatedRows.{cut, AreRows};
 
@@ -44,12 +44,12 @@ pub(crate) fn part(bytes: &[u8], from: usize, to: usize) -> &[u8]
     &bytes[from..to]
 }
 
-impl PackedRows {
+impl RowBlock {
     /// No rows.
-    pub fn new(alloc: Global) -> PackedRows
+    pub(crate) fn new(alloc: Global) -> RowBlock
         ensures { result ≡ [] }
     {
-        PackedRows {
+        RowBlock {
             bytes: Vec::new(alloc),
             ends: Vec::new(alloc),
         }
@@ -57,7 +57,7 @@ impl PackedRows {
 
     /// Adds a row at the end. The only error is a failed allocation, which changes nothing.
     #[inline(always)]
-    pub fn push(&mut self, packed: &[u8]) -> Result<(), AllocError>
+    pub(crate) fn push(&mut self, packed: &[u8]) -> Result<(), AllocError>
         ensures pushed { OnOk result (self.new ≡ self.old ++ packed.now ∷ []) }
         ensures refused { OnErr result (self.new ≡ self.old) }
     {
@@ -69,21 +69,14 @@ impl PackedRows {
     }
 
     /// How many rows there are.
-    pub fn len(&self) -> usize
+    pub(crate) fn len(&self) -> usize
         ensures { result ≡ length self.now }
     {
         self.ends.len()
     }
 
-    /// Whether there are no rows.
-    pub fn is_empty(&self) -> bool
-        ensures { IsTrue result ↔ (self.now ≡ []) }
-    {
-        self.ends.is_empty()
-    }
-
     /// The bytes of a row, the first row being 0.
-    pub fn row(&self, place: usize) -> &[u8]
+    pub(crate) fn row(&self, place: usize) -> &[u8]
         requires { place < length self.now }
         ensures { slice_get self.now place ≡ Some result.now }
     {
@@ -91,18 +84,11 @@ impl PackedRows {
         part(&self.bytes, from, self.ends[place])
     }
 
-    /// Whether these are the same rows in the same order.
-    pub fn same_rows(&self, other: &PackedRows) -> bool
-        ensures { IsTrue result ↔ (self.now ≡ other.now) }
-    {
-        self.ends == other.ends && self.bytes == other.bytes
-    }
-
-    /// A copy of the rows. The only error is a failed allocation.
-    pub fn try_clone(&self, alloc: Global) -> Result<PackedRows, AllocError>
+    /// A copy of the rows, which has no more room than they take. The only error is a failed allocation.
+    pub(crate) fn try_clone(&self, alloc: Global) -> Result<RowBlock, AllocError>
         ensures { IfOk result (λ copy. copy ≡ self.now) }
     {
-        Ok(PackedRows {
+        Ok(RowBlock {
             bytes: self.bytes.as_slice().to_vec(alloc)?,
             ends: self.ends.as_slice().to_vec(alloc)?,
         })

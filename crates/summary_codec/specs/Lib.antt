@@ -2,6 +2,7 @@ pub mod Versions
 pub mod File
 pub mod Short
 pub mod Reading
+pub mod Gathered
 pub mod WorldFile
 pub mod Worlds
 pub mod Names

@@ -3,6 +3,7 @@
 
 mod error;
 mod fields;
+mod gathering;
 mod laws;
 mod length;
 mod reading;

@@ -18,13 +18,15 @@ ghost use Rattle.agg_protocol.specs.States.{most_rows};
 ghost use Rattle.group_runs.specs.Runs.{Entry, Rises, packed_keys};
 ghost use Rattle.origin_prefix.specs.Parts.{Part, IsPartOf};
 ghost use Rattle.origin_prefix.specs.Held.{AreHeldParts};
-ghost use Rattle.summary_codec.specs.Reading.{IsNext, MayFollow, AreStateBytes, states_width, each, group, row, batch, batches};
+ghost use Rattle.summary_codec.specs.Gathered.{Rise};
+ghost use Rattle.summary_codec.specs.Reading.{IsNext, AreStateBytes, states_width, each, group, row, batch, batches};
 ghost use Rattle.summary_codec.specs.Reading.{contents, part, parts, text, heading, rest, body, schema, query, columns_in, query_in};
 ghost use Rattle.summary_codec.specs.Reading.{IsSummary, HasFault};
 ghost use Rattle.summary_codec.specs.declared.error.SummaryError.TheVariants.{NoMemory, BadPacked, BadState, BadSchema, NotCanonical};
 
 use crate::error::SummaryError;
 use crate::fields::Fields;
+use crate::gathering::EarlyBatches;
 use crate::version::Version;
 use agg_library::StateRow;
 use batch_reader::PackedRows;
@@ -182,34 +184,6 @@ fn read_rows(
     Ok(rows)
 }
 
-/// Whether a number may be that of an early batch behind a prefix and behind other early batches.
-fn may_follow(prefix: u32, early: &BTreeMap<u32, PackedRows>, number: u32) -> bool
-    ensures { IsTrue result ↔ MayFollow prefix early.now.entries number }
-{
-    if u64::from(number) <= u64::from(prefix) + 1 {
-        return false;
-    }
-    match early.last_key_value() {
-        Some((last, _)) => *last < number,
-        None => true,
-    }
-}
-
-/// Puts a batch behind other early batches.
-fn put_batch(
-    early: &mut BTreeMap<u32, PackedRows>,
-    number: u32,
-    rows: PackedRows,
-) -> Result<(), AllocError>
-    requires { IsNext nat_cmp (map (λ (batch : ℕ × List (List ℕ)). batch.0) early.old.entries) number }
-    ensures { OnOk result (early.new.entries ≡ early.old.entries ++ (number, rows) ∷ []) }
-{
-    match early.insert(number, rows) {
-        Ok(_) => Ok(()),
-        Err(_) => Err(AllocError),
-    }
-}
-
 /// Reads an early batch behind others, and puts it there.
 #[tactic(auto, unfolding(crate::specs::Reading::batch))]
 fn read_batch(
@@ -218,21 +192,23 @@ fn read_batch(
     schema: &Schema,
     prefix: u32,
     fields: &mut Fields<'_>,
-    early: &mut BTreeMap<u32, PackedRows>,
+    early: &mut EarlyBatches,
 ) -> Result<(), SummaryError>
+    requires { Rise early.old }
     ensures read { OnOk result ((found : ℕ × List (List ℕ))
-        × batch version (kinds schema.now) prefix early.old.entries fields.old (Ok (found, fields.new))
-        × (early.new.entries ≡ early.old.entries ++ found ∷ [])) }
+        × batch version (kinds schema.now) prefix early.old fields.old (Ok (found, fields.new))
+        × (early.new ≡ early.old ++ found ∷ [])) }
+    ensures rising { OnOk result (Rise early.new) }
     ensures fault { IfErr result (λ e. e ≢ NoMemory →
-        batch version (kinds schema.now) prefix early.old.entries fields.old (Err e)) }
+        batch version (kinds schema.now) prefix early.old fields.old (Err e)) }
 {
     let number = fields.number_within(4, u64::from(version.last_number()))? as u32;
-    if !may_follow(prefix, early, number) {
+    if !early.may_follow(prefix, number) {
         return Err(SummaryError::NotCanonical);
     }
     let count = fields.number_within(4, u64::from(version.most_batch_rows()))?;
     let rows = read_rows(alloc, schema.kinds(), count, fields)?;
-    put_batch(early, number, rows)?;
+    early.push(number, rows)?;
     Ok(())
 }
 
@@ -250,11 +226,11 @@ fn read_early(
     ensures fault { IfErr result (λ e. e ≢ NoMemory →
         each (batch version (kinds schema.now) prefix) count [] fields.old (Err e)) }
 {
-    let mut early = BTreeMap::new(alloc);
+    let mut early = EarlyBatches::new(alloc);
     for _ in 0..count {
         read_batch(alloc, version, schema, prefix, fields, &mut early)?;
     }
-    Ok(early)
+    Ok(early.into_map()?)
 }
 
 /// Reads the early batches behind a prefix, which are there where the prefix is 0.

@@ -6,6 +6,8 @@
 #[cfg(test)]
 mod aggregates;
 #[cfg(test)]
+mod parts;
+#[cfg(test)]
 mod rows;
 #[cfg(test)]
 mod schemas;

@@ -1,5 +1,5 @@
 use hex::decode as read_hex;
-use std::alloc::Global;
+use std::alloc::{AllocError, Global};
 use std::test::*;
 use summary_codec::{SummaryError, decode, encode};
 use test_cases::{expect, expect_lines, halves};
@@ -142,6 +142,34 @@ fn a_file_is_read_and_written(rt: HostRuntime) -> Result<(), Fail> {
     expect(told(rt, &bytes), "true")?;
     bytes.push(0)?;
     expect(told(rt, &bytes), "Trailing")
+}
+
+/// Appends an early batch of so many rows of a number.
+fn push_batch(bytes: &mut Vec<u8>, number: u32, rows: u32) -> Result<(), AllocError> {
+    bytes.extend_from_slice(&number.to_be_bytes())?;
+    bytes.extend_from_slice(&rows.to_be_bytes())?;
+    for row in 0..rows {
+        bytes.extend_from_slice(&[0, 9, 1, 128, 0, 0, 0])?;
+        bytes.extend_from_slice(&row.to_be_bytes())?;
+    }
+    Ok(())
+}
+
+/// A file of 200 early batches, of which each fourth is large.
+fn early_file(rt: HostRuntime) -> Result<Vec<u8>, Fail> {
+    let mut bytes = bytes_of(rt, "two total 0001 0000 00000000 0000000000000000 000000c8")?;
+    for at in 0..50u32 {
+        for (place, rows) in [0, 1, 14, 80].iter().enumerate() {
+            push_batch(&mut bytes, 2 + 12 * at + place as u32, *rows)?;
+        }
+    }
+    Ok(bytes)
+}
+
+#[test]
+fn many_early_batches_are_read_and_written(rt: HostRuntime) -> Result<(), Fail> {
+    let bytes = early_file(rt)?;
+    expect(told(rt, &bytes), "true")
 }
 
 /// How long the first front of the file behind an opening is that is not told to be cut short, if there is one.

@@ -1,7 +1,7 @@
 -- Entries under numbers: what is found, and what holds of each.
 use Rattle.std.specs.Prelude.{◌≡◌, ◌≢◌, refl, ℕ, ◌<◌, true, false, cond, List, [], ◌∷◌, map, Option, Some, None, unwrap_or}
-use Rattle.std.proofs.Common.{◌∙◌, sym, ap, subst, arith}
-use Rattle.std.proofs.lemmas.Bool.{true≢false}
+use Rattle.std.proofs.Common.{◌∙◌, sym, ap, subst, inl, inr, arith}
+use Rattle.std.proofs.lemmas.Bool.{true≢false, cases_lt}
 use Rattle.std.specs.Option.{is_some}
 use Rattle.std.specs.Map.{lookup}
 use Rattle.std.specs.List.{AllByRecursion}
@@ -9,7 +9,7 @@ use Rattle.std.specs.List.Sorted.{IsStrictlySortedBy}
 use Rattle.std.specs.Ordering.{eq_by_cmp, nat_cmp, is_eq, match_ordering}
 use Rattle.std.specs.declared.cmp.Ordering.TheVariants.{Less, Equal, Greater}
 use Rattle.std.specs.BTreeMap.{insert_entry}
-use Rattle.origin_prefix.specs.Lemmas.Lists.{is_itself, is_other, is_same}
+use Rattle.origin_prefix.specs.Lemmas.Lists.{is_itself, is_other, is_same, same_or_other}
 
 -- what is found under a number
 abbrev pub at : {X : Type 0} → List (ℕ × X) → ℕ → Option X
@@ -113,3 +113,42 @@ module _ {X : Type 0} where
         | Equal ↦ λ is. (subst (λ m. P (m, x)) (is_same n e.0 (ap is_eq is)) new, all.1)
         | Greater ↦ λ is. (all.0, all_put P n x es new all.1)
       ] refl
+
+  -- entries that begin with a lower number than others have something else under it
+  begins_lower : (x y : ℕ × X) (xs ys : List (ℕ × X)) → x.0 < y.0 → IsStrictlySortedBy nat_cmp (numbers (y ∷ ys))
+      → at (x ∷ xs) x.0 ≡ at (y ∷ ys) x.0 → ⊥
+  begins_lower x y xs ys low rising alike =
+      let apart : x.0 ≢ y.0 = λ e. omega (arith, low, e) in
+      let none : at ys x.0 ≡ None = none_found (λ (e : ℕ × X). y.0 < e.0) ys x.0 (above_first y.0 y.1 ys rising)
+      (λ r high. omega (arith, low, high)) in
+      true≢false (ap is_some (sym (at_head x.0 x.1 xs) ∙ alike ∙ behind_head x.0 y.0 y.1 ys apart ∙ none))
+
+  -- what is behind the first of entries that begin with the same number
+  same_behind : (a b : ℕ × X) (one other : List (ℕ × X)) → a.0 ≡ b.0 → IsStrictlySortedBy nat_cmp (numbers (a ∷ one))
+      → IsStrictlySortedBy nat_cmp (numbers (b ∷ other)) → ((n : ℕ) → at (a ∷ one) n ≡ at (b ∷ other) n)
+      → (n : ℕ) → at one n ≡ at other n
+  same_behind a b one other e rises too same n = elim (same_or_other n a.0) [
+    | inl is ↦
+        ap (at one) is ∙ first_alone a.0 a.1 one rises ∙ sym (ap (at other) (is ∙ e) ∙ first_alone b.0 b.1 other too)
+    | inr off ↦ sym (behind_head n a.0 a.1 one off) ∙ same n ∙ behind_head n b.0 b.1 other (λ is. off (is ∙ sym e))
+  ]
+
+  -- rising entries are those that have the same under each number
+  pub same_entries : (one other : List (ℕ × X)) → IsStrictlySortedBy nat_cmp (numbers one) → IsStrictlySortedBy nat_cmp (numbers other)
+      → ((n : ℕ) → at one n ≡ at other n) → one ≡ other
+  same_entries [] [] rises too same = refl
+  same_entries [] (b ∷ other) rises too same = absurd (true≢false (sym (ap is_some (same b.0 ∙ at_head b.0 b.1 other))))
+  same_entries (a ∷ one) [] rises too same = absurd (true≢false (ap is_some (sym (at_head a.0 a.1 one) ∙ same a.0)))
+  same_entries (a ∷ one) (b ∷ other) rises too same = elim (cases_lt a.0 b.0) [
+    | inl low ↦ absurd (begins_lower a b one other low too (same a.0))
+    | inr high ↦ elim (cases_lt b.0 a.0) [
+      | inl low ↦ absurd (begins_lower b a other one low rises (sym (same b.0)))
+      | inr less ↦
+          let e : a.0 ≡ b.0 = omega (arith, high, less) in
+          let rows : a.1 ≡ b.1 = some_is a.1 b.1 (sym (at_head a.0 a.1 one) ∙ same a.0 ∙ ap (at (b ∷ other)) e
+          ∙ at_head b.0 b.1 other) in
+          let rest : one ≡ other = same_entries one other (rising_rest a one rises) (rising_rest b other too)
+          (same_behind a b one other e rises too same) in
+          λ i. (e i, rows i) ∷ rest i
+    ]
+  ]

@@ -54,7 +54,7 @@ rises_next order total (x ∷ y ∷ ys) next rising above =
     )
 
 -- what goes on rising is above what was last
-first_above : {A : Type 0} (P : A → Type 0) (xs : List A) (y : A) (ys : List A) → AllByRecursion P (xs ++ y ∷ ys) → P y
+pub first_above : {A : Type 0} (P : A → Type 0) (xs : List A) (y : A) (ys : List A) → AllByRecursion P (xs ++ y ∷ ys) → P y
 first_above P [] y ys all = all.0
 first_above P (x ∷ xs) y ys all = first_above P xs y ys all.1
 

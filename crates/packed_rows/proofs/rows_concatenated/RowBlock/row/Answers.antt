@@ -2,7 +2,7 @@ use Rattle.std.specs.Prelude.{◌≡◌, ◌∷◌, length, slice_index_or, slic
 use Rattle.std.proofs.Common.{sym, ◌∙◌, ap, subst, arith}
 use Rattle.packed_rows.specs.ConcatenatedRows.{LieAs}
 use Rattle.packed_rows.specs.ConcatenatedRowsLaws.{RowAt, cut_long, row_at}
-use Rattle.packed_rows.proofs.rows_concatenated.PackedRows.row.Goals as goal
+use Rattle.packed_rows.proofs.rows_concatenated.RowBlock.row.Goals as goal
 
 pub bound-from-requires : goal.bound-from-requires
 bound-from-requires c =

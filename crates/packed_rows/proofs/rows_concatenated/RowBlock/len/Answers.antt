@@ -1,7 +1,7 @@
 use Rattle.std.specs.Prelude.{◌≡◌, length}
 use Rattle.std.proofs.Common.{sym, ◌∙◌, ap, arith}
 use Rattle.packed_rows.specs.ConcatenatedRowsLaws.{cut_long}
-use Rattle.packed_rows.proofs.rows_concatenated.PackedRows.len.Goals as goal
+use Rattle.packed_rows.proofs.rows_concatenated.RowBlock.len.Goals as goal
 
 pub returns : goal.returns
 returns c =

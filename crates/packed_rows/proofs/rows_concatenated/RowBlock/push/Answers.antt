@@ -2,7 +2,7 @@ use Rattle.std.specs.Prelude.{◌++◌, ◌∷◌, []}
 use Rattle.std.proofs.Common.{subst, rules}
 use Rattle.packed_rows.specs.ConcatenatedRows.{LieAs}
 use Rattle.packed_rows.specs.ConcatenatedRowsLaws.{cut_is, are_rows, pushed}
-use Rattle.packed_rows.proofs.rows_concatenated.PackedRows.push.Goals as goal
+use Rattle.packed_rows.proofs.rows_concatenated.RowBlock.push.Goals as goal
 
 -- the rows with one more
 lie : (c : goal.In_ok-push) → LieAs c.extend_from_slice.new.self.items c.push.new.self.items (c.args.self.now ++ c.args.packed.now ∷ [])

@@ -1,5 +1,5 @@
 use Rattle.summary_codec.proofs.LoopLaws.{put_last}
-use Rattle.summary_codec.proofs.reading.put_batch.Goals as goal
+use Rattle.summary_codec.proofs.gathering.put_batch.Goals as goal
 
 pub returns-in-Ok : goal.returns-in-Ok
 returns-in-Ok c =
