@@ -1,3 +1,4 @@
 pub mod ArgumentSteps
 pub mod Halves
 pub mod RowLaws
+pub mod CombiningSteps

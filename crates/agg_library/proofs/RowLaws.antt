@@ -1,18 +1,30 @@
 -- Rows of states, part by part.
 use Rattle.std.proofs.Common.{◌≡◌, refl, ℕ, zero, suc, ◌+◌, Some, ◌≤◌, ◌<◌, slice_get, slice_set, append_assoc, List, [], ◌∷◌, ◌++◌, length}
 use Rattle.std.proofs.Common.{take, drop, sym, ap, subst, ◌∙◌, arith}
-use Rattle.std.proofs.Math.Seq.{take-append_seam, drop-append_seam, take-add}
-use Rattle.std.proofs.lemmas.List.{drop-drop, length-take}
+use Rattle.std.proofs.Common.{add-one, get_or}
+use Rattle.std.proofs.Math.Seq.{take-append_seam, drop-append_seam, take-add, drop-cons}
+use Rattle.std.proofs.lemmas.List.{drop-append-le, drop-drop, drop_all, length-take, map-append, take-append-le, take_all, take_more}
+use Rattle.std.proofs.lemmas.Slice.{take-put_mid}
+use borrow.Rule.Slice.PartMut.{put_mid}
 use Rattle.std.proofs.lemmas.List.Sums.{sum_by-cons}
 use Rattle.std.proofs.lemmas.Option.{same_Some}
-use Rattle.grouping_model.specs.Aggregates.{Partial}
+use Rattle.grouping_model.specs.Aggregates.{Partial, partial}
 use Rattle.grouping_model.specs.Combining.{combine, combine_all}
 use Rattle.agg_protocol.specs.States as states
 use Rattle.agg_protocol.specs.States.{rows_of}
 use Rattle.agg_protocol.specs.declared.kind.AggKind.{AggKind}
+use Rattle.agg_protocol.specs.declared.kind.AggKind.TheVariants.{CountRows}
 use Rattle.agg_protocol.specs.Kinds.{function_of, functions_of, kind_shape, kind_width, row_width}
-use Rattle.agg_library.specs.StateRows.{DenotesAll, AllWithin, with_part}
+use Rattle.agg_library.specs.StateRows.{DenotesAll, AllWithin, initial_partials, with_part}
 use Rattle.agg_protocol.specs.DenotingLaws.{width_known}
+
+-- the kind at a place
+abbrev pub kind_at : List AggKind → ℕ → AggKind
+kind_at kinds i = get_or kinds i CountRows
+
+-- from a place on there is the kind at it, and the kinds behind it
+pub kinds_from : (kinds : List AggKind) (i : ℕ) → i < length kinds → drop i kinds ≡ kind_at kinds i ∷ drop (i + 1) kinds
+kinds_from kinds i within = drop-cons kinds i CountRows within ∙ ap (λ n. kind_at kinds i ∷ drop n kinds) (sym (add-one i))
 
 -- no states at all
 pub denotes_end : (m : ℕ) (kinds : List AggKind) (row : List ℕ) → kinds ≡ [] → row ≡ [] → DenotesAll m kinds row []
@@ -27,6 +39,43 @@ denotes_cons m kind kinds ks row front back p ps e ef eb d ds =
       subst (λ b. states.Denotes m (kind_shape kind) b p) ef d,
       subst (λ b. DenotesAll m ks b ps) eb ds,
     )
+
+-- the first parts and one more
+pub denotes_more : (m : ℕ) (kinds : List AggKind) (kind : AggKind) (row part : List ℕ) (ps : List Partial) (p : Partial)
+    → DenotesAll m kinds row ps → states.Denotes m (kind_shape kind) part p → DenotesAll m (kinds ++ kind ∷ []) (row ++ part) (ps ++ p ∷ [])
+denotes_more m [] kind row part [] p none d =
+    let wide : length part ≡ kind_width kind = width_known m (kind_shape kind) part p d in
+    let all : take (kind_width kind) part ≡ part = take_all (kind_width kind) part (omega arith) in
+    let end : drop (kind_width kind) part ≡ [] = drop_all (kind_width kind) part (omega arith) in
+    subst (λ bytes. DenotesAll m (kind ∷ []) (bytes ++ part) (p ∷ [])) (sym none)
+    (subst (λ b. states.Denotes m (kind_shape kind) b p) (sym all) d, end)
+denotes_more m [] kind row part (q ∷ qs) p ds d = absurd ds
+denotes_more m (k ∷ ks) kind row part [] p ds d = absurd ds
+denotes_more m (k ∷ ks) kind row part (q ∷ qs) p (first, rest) d =
+    let w = kind_width k in
+    let wide : length (take w row) ≡ w = width_known m (kind_shape k) (take w row) q first in
+    let long : w ≤ length row = omega (arith, length-take w row) in
+    denotes_cons m k (k ∷ ks ++ kind ∷ []) (ks ++ kind ∷ []) (row ++ part) (take w row) (drop w row ++ part) q (qs ++ p ∷ []) refl
+    (sym (take-append-le w row part long)) (sym (drop-append-le w row part long)) first
+    (denotes_more m ks kind (drop w row) part qs p rest d)
+
+-- the states before any row, of the first kinds and one more
+pub initial_more : (kinds : List AggKind) (i start width k : ℕ) (row part : List ℕ) → i < length kinds
+    → DenotesAll 0 (take i kinds) (take start row) (initial_partials (take i kinds)) → start ≤ length row → width ≡ kind_width (kind_at kinds i)
+    → states.Denotes 0 (kind_shape (kind_at kinds i)) part (partial (function_of (kind_at kinds i)) [])
+    → DenotesAll 0 (take (i + 1) kinds) (take (start + width) (put_mid start k row part)) (initial_partials (take (i + 1) kinds))
+initial_more kinds i start width k row part within ds low same d =
+    let kind = kind_at kinds i in
+    let wide : length part ≡ kind_width kind = width_known 0 (kind_shape kind) part (partial (function_of kind) []) d in
+    let bytes : take (start + width) (put_mid start k row part) ≡ take start row ++ part
+    = take-put_mid start k row part (start + width) (ap (λ n. start + n) (same ∙ sym wide)) low in
+    let more : take (i + 1) kinds ≡ take i kinds ++ kind ∷ [] = take_more kinds i CountRows within in
+    let partials : initial_partials (take i kinds ++ kind ∷ []) ≡ initial_partials (take i kinds) ++ partial (function_of kind) [] ∷ []
+    = map-append (λ kind. partial (function_of kind) []) (take i kinds) (kind ∷ []) in
+    subst (λ ks. DenotesAll 0 ks (take (start + width) (put_mid start k row part)) (initial_partials ks)) (sym more)
+    (subst (λ b. DenotesAll 0 (take i kinds ++ kind ∷ []) b (initial_partials (take i kinds ++ kind ∷ []))) (sym bytes)
+    (subst (λ ps. DenotesAll 0 (take i kinds ++ kind ∷ []) (take start row ++ part) ps) (sym partials)
+    (denotes_more 0 (take i kinds) kind (take start row) part (initial_partials (take i kinds)) (partial (function_of kind) []) ds d)))
 
 -- of no states there are no bytes
 pub denotes_nothing : (m : ℕ) (kinds : List AggKind) (row : List ℕ) → kinds ≡ [] → (ps : List Partial) → DenotesAll m kinds row ps → row

@@ -12,6 +12,7 @@ ghost use Rattle.agg_protocol.specs.States as states;
 ghost use Rattle.agg_protocol.specs.States.{rows_of, most_rows};
 ghost use Rattle.agg_protocol.specs.Kinds.{function_of, functions_of, kind_shape, kind_width, row_width};
 ghost use Rattle.agg_library.specs.StateRows.{DenotesAll, initial_partials, partial_after, AllWithin, part_at, with_part};
+ghost use Rattle.agg_library.specs.Combinations.{CanCombine, CanCombineOne, Combines, CombinesOne};
 ghost use Rattle.agg_protocol.specs.declared.kind.AggKind.{AggKind};
 
 use crate::counting::{CountRows, CountValues};
@@ -25,6 +26,9 @@ use std::ops::Range;
 
 // The most bytes that a state has: those of a sum.
 const WIDEST: usize = 24;
+
+// How many states are combined by recursion: as many as a query has aggregates.
+const FEW: usize = 32;
 
 // A function of an aggregate's type, at the aggregate of a kind.
 macro_rules! at_kind {
@@ -111,10 +115,11 @@ impl StateRow {
         requires { length row.old ≡ row_width kinds.now }
         ensures { DenotesAll 0 kinds.now row.new (initial_partials kinds.now) }
     {
-        if let Some((kind, kinds)) = kinds.split_first() {
-            let (part, rest) = row.split_at_mut(kind.width());
-            Self::init_one(*kind, part);
-            Self::init_into(kinds, rest);
+        let mut start = 0;
+        for kind in kinds {
+            let end = start + kind.width();
+            Self::init_one(*kind, &mut row[start..end]);
+            start = end;
         }
     }
 
@@ -128,15 +133,16 @@ impl StateRow {
         ensures ok { OnOk result ((ps : List Partial) × DenotesAll most kinds.now row.now ps) }
         ensures err { OnErr result ((ps : List Partial) → ¬ (DenotesAll most kinds.now row.now ps)) }
     {
-        let Some((kind, kinds)) = kinds.split_first() else {
-            return Self::check_end(row);
-        };
-        if row.len() < kind.width() {
-            return Err(BadState);
+        let mut rest = row;
+        for kind in kinds {
+            if rest.len() < kind.width() {
+                return Err(BadState);
+            }
+            let (part, others) = rest.split_at(kind.width());
+            Self::check_one(*kind, part, most)?;
+            rest = others;
         }
-        let (part, rest) = row.split_at(kind.width());
-        Self::check_one(*kind, part, most)?;
-        Self::check(kinds, rest, most)
+        Self::check_end(rest)
     }
 
     // Checks that no bytes are left.
@@ -173,6 +179,30 @@ impl StateRow {
             ¬ (AllWithin most (combine_all (functions_of kinds.now) ps qs))) }
         ensures unchanged { OnErr result (into.new ≡ into.old) }
     {
+        if kinds.len() <= FEW {
+            return Self::combine_few(kinds, into, from, most);
+        }
+        Self::check_both(kinds, into, from, most)?;
+        Self::combine_checked(kinds, into, from, most);
+        Ok(())
+    }
+
+    // The same of few states: a frame of the stack a state.
+    fn combine_few(
+        kinds: &[AggKind],
+        into: &mut [u8],
+        from: &[u8],
+        most: u64,
+    ) -> Result<(), BadState>
+        requires { most ≤ most_rows }
+        ensures ok { OnOk result ((ps qs : List Partial) × DenotesAll most kinds.now into.old ps
+            × DenotesAll most kinds.now from.now qs
+            × DenotesAll most kinds.now into.new (combine_all (functions_of kinds.now) ps qs)) }
+        ensures err { OnErr result ((ps qs : List Partial) → DenotesAll most kinds.now into.old ps →
+            DenotesAll most kinds.now from.now qs →
+            ¬ (AllWithin most (combine_all (functions_of kinds.now) ps qs))) }
+        ensures unchanged { OnErr result (into.new ≡ into.old) }
+    {
         let Some((kind, kinds)) = kinds.split_first() else {
             Self::check_end(into)?;
             return Self::check_end(from);
@@ -186,9 +216,58 @@ impl StateRow {
         let mut both = [0; WIDEST];
         let both = &mut both[..kind.width()];
         Self::combine_one(*kind, into, from, both, most)?;
-        Self::combine_into(kinds, into_rest, from_rest, most)?;
+        Self::combine_few(kinds, into_rest, from_rest, most)?;
         into.copy_from_slice(both);
         Ok(())
+    }
+
+    // Checks that two rows of states can be combined.
+    fn check_both(kinds: &[AggKind], into: &[u8], from: &[u8], most: u64) -> Result<(), BadState>
+        requires { most ≤ most_rows }
+        ensures ok { OnOk result (CanCombine most kinds.now into.now from.now) }
+        ensures err { OnErr result (¬ (CanCombine most kinds.now into.now from.now)) }
+    {
+        let (mut left, mut other) = (into, from);
+        for kind in kinds {
+            let width = kind.width();
+            if left.len() < width || other.len() < width {
+                return Err(BadState);
+            }
+            let (first, left_rest) = left.split_at(width);
+            let (second, other_rest) = other.split_at(width);
+            let mut both = [0; WIDEST];
+            Self::combine_one(*kind, first, second, &mut both[..width], most)?;
+            (left, other) = (left_rest, other_rest);
+        }
+        Self::check_end(left)?;
+        Self::check_end(other)
+    }
+
+    // Combines two rows of states that can be combined.
+    fn combine_checked(kinds: &[AggKind], into: &mut [u8], from: &[u8], most: u64)
+        requires most { most ≤ most_rows }
+        requires both { CanCombine most kinds.now into.old from.now }
+        ensures { Combines most kinds.now into.old from.now into.new }
+    {
+        let mut start = 0;
+        for kind in kinds {
+            let end = start + kind.width();
+            Self::combine_part_into(*kind, &mut into[start..end], &from[start..end], most);
+            start = end;
+        }
+    }
+
+    // Combines the states of one aggregate that can be combined.
+    fn combine_part_into(kind: AggKind, into: &mut [u8], from: &[u8], most: u64)
+        requires most { most ≤ most_rows }
+        requires both { CanCombineOne most kind into.old from.now }
+        ensures { CombinesOne most kind into.old from.now into.new }
+    {
+        let mut both = [0; WIDEST];
+        let both = &mut both[..kind.width()];
+        if let Ok(()) = Self::combine_one(kind, into, from, both, most) {
+            into.copy_from_slice(both);
+        }
     }
 
     // Writes the state of one aggregate before any row.

@@ -91,6 +91,19 @@ fn states_are_checked(rt: HostRuntime) -> Result<(), Fail> {
     expect_lines(rt, STATES, checked)
 }
 
+// A frame of the stack a state would be too many here.
+#[test]
+fn rows_of_any_length_are_combined(rt: HostRuntime) -> Result<(), Fail> {
+    let kinds = Vec::from_elem(rt.alloc(), AggKind::CountRows, 1_000_000)?;
+    let mut into = Vec::from_elem(rt.alloc(), 0, 8_000_000)?;
+    let from = Vec::from_elem(rt.alloc(), 0, 8_000_000)?;
+    let is_row = StateRow::check(&kinds, &from, 5).is_ok();
+    let is_combined = StateRow::combine_into(&kinds, &mut into, &from, 5).is_ok();
+    let is_too_short = StateRow::combine_into(&kinds, &mut into, &from[1..], 5).is_err();
+    assert!(rt; is_row && is_combined && is_too_short);
+    Ok(())
+}
+
 /// Whether a number's state is read from its bytes, and not from others.
 fn least_is_read() -> bool {
     let minus_one = [1, 255, 255, 255, 255, 255, 255, 255, 255];

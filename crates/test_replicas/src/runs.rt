@@ -5,6 +5,7 @@ ghost use Rattle.having_filter.specs.Meaning.{meaning};
 ghost use Rattle.group_runs.specs.Standing.{IsRun};
 ghost use Rattle.packed_rows.specs.View.{bytes_of};
 
+use agg_protocol::AggKind;
 use batch_reader::PackedRows;
 use hash_agg::{Fnv1a, Input, Means, MemDisk, Run, SpillError, Work, aggregate, initial_states};
 use having_filter::Query;
@@ -155,4 +156,13 @@ group \u{2} => true false 02 000000000000000000000000000000000000000000000000000
 #[test]
 fn runs_take_groups_and_rows(rt: HostRuntime) -> Result<(), Fail> {
     expect_lines(rt, RUNS, told)
+}
+
+// A frame of the stack a state would be too many here.
+#[test]
+fn states_of_any_length_begin(rt: HostRuntime) -> Result<(), Fail> {
+    let kinds = Vec::from_elem(rt.alloc(), AggKind::Min, 1_000_000)?;
+    let states = initial_states(rt.alloc(), &kinds)?;
+    assert!(rt; states.len() == 9_000_000);
+    Ok(())
 }
