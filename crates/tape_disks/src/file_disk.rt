@@ -1,6 +1,6 @@
 //! A disk in a file.
-ghost use Rattle.std.specs.Prelude.{◌≡◌, ◌+◌, min, IfOk, IsTrue, OnOk, true, length};
-ghost use Rattle.std.specs.Fs.{asks_create_new, asks_read, asks_write};
+ghost use Rattle.std.specs.Prelude.{◌≡◌, ◌+◌, min, IfOk, IsTrue, OnOk, true, false, length};
+ghost use Rattle.std.specs.Fs.{asks_create_new, asks_read, asks_truncate, asks_write};
 ghost use Rattle.tape_disks.specs.Calls.{AreLast, AreReadAt, Keeps, KeepsBeside, failed};
 ghost use Rattle.tape_disks.specs.Errors.{disk_faults};
 
@@ -41,21 +41,27 @@ impl<F: SeekableFile + Drop> Model for FileDisk<F> {
     ghost view = { λ d. record { file = d.file; count = d.count } };
 }
 
-/// How the file is made: to be read and written by its owner alone, and so that nothing is opened that is there already.
-fn new_file() -> OpenOptions
+/// How [`FileDisk::create`] opens its file: to be read and written by its owner alone. Nothing is opened that is there already, so no file
+/// is shortened.
+pub fn new_file_options() -> OpenOptions
     ensures new { asks_create_new result ≡ true }
+    ensures whole { asks_truncate result ≡ false }
     ensures read { asks_read result ≡ true }
     ensures write { asks_write result ≡ true }
 {
     let mut options = OpenOptions::new();
     options.mode(OWNER_ALONE);
-    options.read(true).write(true).create_new(true);
+    options
+        .read(true)
+        .write(true)
+        .truncate(false)
+        .create_new(true);
     options
 }
 
 impl<F: Read + Write + Seek + Drop> FileDisk<SystemFile<F>> {
-    /// A disk in a new file that only its owner may read and write. A path at which anything exists, even a link, is refused,
-    /// and so is one at which no file can be created.
+    /// A disk in a new file that only its owner may read and write, as [`new_file_options`] opens it. A path at which anything exists,
+    /// even a link, is refused, and so is one at which no file can be created.
     pub fn create<R: Files<File = F>>(
         rt: &R,
         path: &str,
@@ -63,7 +69,7 @@ impl<F: Read + Write + Seek + Drop> FileDisk<SystemFile<F>> {
         ensures count { IfOk result (λ disk. disk.count ≡ 0) }
         ensures failures { IfOk result (λ disk. disk.file.failures ≡ 0) }
     {
-        match new_file().open(rt, path) {
+        match new_file_options().open(rt, path) {
             Ok(file) => Ok(FileDisk::new(SystemFile::new(file))),
             Err(cause) => Err(WriteFault { cause }),
         }

@@ -14,7 +14,7 @@ mod system_file;
 
 pub use disk::{DiskError, TapeDisk};
 pub use fail_disk::FailDisk;
-pub use file_disk::{FileDisk, WriteFault};
+pub use file_disk::{FileDisk, WriteFault, new_file_options};
 pub use flip_disk::FlipDisk;
 pub use mem_disk::MemDisk;
 pub use mem_file::MemFile;
