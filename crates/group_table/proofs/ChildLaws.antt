@@ -351,8 +351,8 @@ slab_allowed width low = ap (λ b. if b then Some TooLarge else None)
 -- the three are made: first the buckets, then the others
 pub all_made : (before one after : TreeState) (parent : ContextId) (width : ℕ) (made : Children) → IsWhole before
     → IsNew before one parent kind.AllocSet made.buckets → IsWhole one → is_there before parent ≡ true
-    → AreNew one after parent width made.keys made.states → AreMade before after parent width made
-all_made before one after parent width made whole first one_whole there rest =
+    → one.last ≡ before.last + 1 → AreNew one after parent width made.keys made.states → AreMade before after parent width made
+all_made before one after parent width made whole first one_whole there spent rest =
     let two = rest.between in
     let buckets = made.buckets in let keys = made.keys in let states = made.states in
     let there1 : (id : ContextId) → is_there before id ≡ true → is_there one id
@@ -390,6 +390,7 @@ all_made before one after parent width made whole first one_whole there rest =
       keys_apart = are_apart after.links rest.whole.forest buckets keys parent.slot b_up k_up (apart2 buckets b1);
       states_apart = are_apart after.links rest.whole.forest buckets states parent.slot b_up s_up (apart3 buckets b2);
       both_apart = are_apart after.links rest.whole.forest keys states parent.slot k_up s_up (apart3 keys k2);
+      stamps = let two_more = rest.stamps in omega (arith, spent, two_more);
       set = same3 buckets b2 ∙ same2 buckets b1 ∙ context_made before whole one parent buckets kind.AllocSet first;
       run = same3 keys k2 ∙ context_made one one_whole two parent keys kind.Bump rest.keys_new;
       slab = context_made two rest.between_whole after parent states (kind.Slab width) rest.states_new;

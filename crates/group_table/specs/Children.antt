@@ -18,7 +18,8 @@ use Rattle.group_table.specs.Standing.{IsChild, IsApart}
 use Rattle.group_table.specs.declared.children.Children.{Children}
 
 -- the three contexts of a table, whose states have this many bytes, are there below another, and empty. None is below another one of them,
--- or in the slot of a context that was there before. All that were there are as before, and no more is held below any
+-- or in the slot of a context that was there before. All that were there are as before, and no more is held below any. Three stamps are
+-- spent
 pub record AreMade (before after : TreeState) (parent : ContextId) (width : ℕ) (made : Children) : Type 0 where
   pub parent_there : is_there after parent ≡ true
   pub buckets : IsChild after parent made.buckets
@@ -27,6 +28,7 @@ pub record AreMade (before after : TreeState) (parent : ContextId) (width : ℕ)
   pub keys_apart : IsApart after.links made.buckets made.keys
   pub states_apart : IsApart after.links made.buckets made.states
   pub both_apart : IsApart after.links made.keys made.states
+  pub stamps : after.last ≡ before.last + 3
   pub set : context_at after made.buckets ≡ AllocSet new_set
   pub run : context_at after made.keys ≡ Bump new_run
   pub slab : context_at after made.states ≡ Slab (new_slab width)
@@ -62,21 +64,24 @@ pub record IsNew (before after : TreeState) (parent : ContextId) (made : Kind) (
   pub low : id.slot ≤ length before.links
   pub is : after ≡ with_new before parent made id
 
--- those of keys and of states were made, in this order
+-- those of keys and of states were made, in this order, by two stamps
 pub record AreNew (before after : TreeState) (parent : ContextId) (width : ℕ) (keys states : ContextId) : Type 0 where
   pub between : TreeState
   pub keys_new : IsNew before between parent kind.Bump keys
   pub between_whole : IsWhole between
   pub states_new : IsNew between after parent (kind.Slab width) states
   pub whole : IsWhole after
+  pub stamps : after.last ≡ before.last + 2
 
--- a new table has no group, its contexts hold nothing, all others are as before, and as much is held below any
+-- a new table has no group, its contexts hold nothing, all others are as before, and as much is held below any. Its contexts have spent
+-- three stamps
 pub record IsNewTable {H : Type 0} (before after : TreeState) (parent : ContextId) (width : ℕ) (hash : H) (t : TableState H) : Type 0 where
   pub slots : t.slots ≡ []
   pub array : t.array ≡ None
   pub parent_is : t.parent ≡ parent
   pub width_is : t.width ≡ width
   pub hash_is : t.hash ≡ hash
+  pub stamps : after.last ≡ before.last + 3
   pub buckets : held_by (context_at after t.buckets) ≡ 0
   pub keys : held_by (context_at after t.keys) ≡ 0
   pub states : held_by (context_at after t.states) ≡ 0

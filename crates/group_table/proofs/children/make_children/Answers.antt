@@ -1,7 +1,7 @@
 use Rattle.std.proofs.Common.{Option, sym, ap, ◌∙◌, subst}
 use Rattle.group_table.proofs.Words.{has_stamp, Link, IsNew, IsAsBefore}
 use Rattle.context_tree.specs.declared.kind.Kind.TheVariants as kind
-use Rattle.group_table.proofs.ChildLaws.{there_made, there_still, taken_back, as_before, all_made}
+use Rattle.group_table.proofs.ChildLaws.{there_made, there_still, taken_back, as_before, all_made, last_is}
 use Rattle.group_table.proofs.children.make_children.Goals as goal
 
 pub make_keys_and_states-requires-clause-there : goal.make_keys_and_states-requires-clause-there
@@ -27,7 +27,8 @@ returns-in-Ok-clause-made c =
     record { free = made.fresh; low = made.low; is = made.made } in
     all_made c.args.tree.now c.create.new.self c.make_keys_and_states.new.tree c.args.parent c.args.width
     (record { buckets = buckets; keys = c.in-Ok.keys; states = c.in-Ok.states })
-    c.is_whole.ensures new c.is_whole-2.ensures c.requires.there c.in-Ok.ensures.made
+    c.is_whole.ensures new c.is_whole-2.ensures c.requires.there
+    (last_is c.args.tree.now c.is_whole.ensures c.create.new.self c.args.parent buckets kind.AllocSet new ∙ made.stamp) c.in-Ok.ensures.made
 
 pub returns-in-Err-clause-as_before : goal.returns-in-Err-clause-as_before
 returns-in-Err-clause-as_before c =
