@@ -1,7 +1,7 @@
 //! Answers.
 
 ghost use Rattle.std.specs.Prelude.{◌≡◌, ◌<◌, ◌++◌, ◌∷◌, [], map, length, slice_get, slice_index_or, All, List, Some, IfSome, IsTrue, ◌↔◌};
-ghost use Rattle.std.specs.Prelude.{IfOk, OnOk, OnErr};
+ghost use Rattle.std.specs.Prelude.{IfOk, IsOk, OnOk, OnErr};
 ghost use Rattle.grouping_model.specs.Aggregates.{Outcome, Plain};
 ghost use Rattle.grouping_model.specs.Datum.{Null};
 ghost use Rattle.agg_protocol.specs.Results.{outcome_of};
@@ -191,8 +191,9 @@ impl Answer {
         rows: AnswerRows,
         arrangement: &Arrangement,
     ) -> Result<Answer, AllocError>
-        ensures { IfOk result (λ answer. answer
+        ensures arranged { IfOk result (λ answer. answer
             ≡ arranged (map_arrangement order_term (arrangement_held arrangement.now)) rows) }
+        ensures without_terms { length arrangement.now.order.items ≡ 0 → IsOk result }
     {
         if arrangement.order.is_empty() {
             return Ok(Answer { rows, places: None });

@@ -314,8 +314,7 @@ impl Query {
         own.schema == theirs.schema && own.query == theirs.query
     }
 
-    /// A copy of the query. It takes no memory, since both share what is kept. The only error is that there are already
-    /// as many copies as can be counted.
+    /// A copy of the query, which shares what is kept. The only error is `AllocError`.
     pub fn try_clone(&self) -> Result<Query, AllocError>
         ensures { IfOk result (λ query. query ≡ self.now) }
     {
