@@ -3,3 +3,4 @@ pub mod Words
 pub mod ToldLaws
 pub mod DeliveredLaws
 pub mod MergedLaws
+pub mod EmptyLaws

@@ -1,7 +1,7 @@
 //! Laws of merging.
 
-ghost use Rattle.std.specs.Prelude.{◌≡◌, ◌≤◌, ◌↔◌, ℕ, Bool, List, Result, map, IsUtf8};
-ghost use Rattle.grouping_model.specs.World.{World, IsWorld, Knowledge};
+ghost use Rattle.std.specs.Prelude.{◌≡◌, ◌≤◌, ◌↔◌, ℕ, Bool, List, [], Result, map, IsUtf8};
+ghost use Rattle.grouping_model.specs.World.{World, IsWorld, Knowledge, nothing};
 ghost use Rattle.grouping_model.specs.declared.delivered.Delivered.{Delivered};
 ghost use Rattle.packed_rows.specs.Columns.{kinds};
 ghost use Rattle.batch_reader.specs.declared.batch.Batch.{Batch};
@@ -18,6 +18,13 @@ ghost use Rattle.replica_merge.specs.Outcomes.{AfterDelivery, AfterJoin, AfterMe
 ghost use Rattle.replica_merge.specs.Results.{DeliversBatch, JoinsReplicas, MergesReplicas};
 ghost use Rattle.replica_merge.specs.declared.error.MergeError.{MergeError};
 ghost use Rattle.replica_merge.specs.Replicas.{Parts, Held, told, Fits, AreHeldParts, IsMergeOf, MergesIn, SavedAlike, counted_part};
+
+/// An empty replica, as [`Replica::new`](crate::Replica::new) makes it, fits each world and knows nothing. So what holds of replicas that
+/// fit begins with it.
+pub fn empty_replicas()
+    ensures fits { (query : Checked) (world : World) → Fits world (record { query = query; parts = [] }) }
+    ensures knows { told [] ≡ nothing }
+{}
 
 /// What holds after a delivery, by the contract of `deliver`.
 pub fn delivered_batch()

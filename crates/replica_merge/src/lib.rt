@@ -13,8 +13,8 @@ mod uniting;
 pub use error::MergeError;
 pub use known_origin::KnownOrigin;
 pub use laws::{
-    countable_rows, delivered_batch, files_that_fit, joined_replicas, loaded_files_fit,
-    merged_files, merged_knowledge, merged_replicas, same_files,
+    countable_rows, delivered_batch, empty_replicas, files_that_fit, joined_replicas,
+    loaded_files_fit, merged_files, merged_knowledge, merged_replicas, same_files,
 };
 pub use merging::Joined;
 pub use origin_prefix::{Delivered, JoinError, RefusedBatch};

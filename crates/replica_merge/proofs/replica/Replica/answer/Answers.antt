@@ -66,7 +66,7 @@ returns-clause-width c =
     (IfOk-weaker c.arranged.result _ _ (λ rows is. shown_wide held given.2.run rows of (arranged_shown (meaning held.query)
     c.in_ok-spans.spans.items given.0 rows (is ∙ (λ i. arranged (map_arrangement order_term (c.arrangement.ensures i)) ((given.1
     ∙ ap (λ those. those ++ given.0) c.new-rows.ensures) i))) given.2))
-    c.arranged.ensures)
+    c.arranged.ensures.arranged)
 
 pub returns-clause-answer : goal.returns-clause-answer
 returns-clause-answer c =
@@ -79,7 +79,7 @@ returns-clause-answer c =
     (IfOk-weaker c.arranged.result _ _ (λ rows is world of_kinds fits. shown_answer held given.2.run rows of (arranged_shown
     (meaning held.query) c.in_ok-spans.spans.items given.0 rows (is ∙ (λ i. arranged (map_arrangement order_term (c.arrangement.ensures i))
     ((given.1 ∙ ap (λ those. those ++ given.0) c.new-rows.ensures) i))) given.2) world fits)
-    c.arranged.ensures)
+    c.arranged.ensures.arranged)
 
 pub returns-clause-rows : goal.returns-clause-rows
 returns-clause-rows c =
@@ -92,4 +92,4 @@ returns-clause-rows c =
     (c.in_default.ensures.others refl)) (arranged_shown (meaning held.query) c.in_ok-spans.spans.items given.0 rows
     (is ∙ (λ i. arranged (map_arrangement order_term (c.arrangement.ensures i)) ((given.1 ∙ ap (λ those. those ++ given.0)
     c.new-rows.ensures) i))) given.2))
-    c.arranged.ensures)
+    c.arranged.ensures.arranged)
