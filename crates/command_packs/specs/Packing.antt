@@ -25,13 +25,15 @@ use Rattle.clap.specs.declared.parser.matches.ArgMatches.{ArgMatches}
 use Rattle.command_packs.specs.Options.{AreUnread, AreWords, IsHeadOf, IsLayoutOf}
 use Rattle.command_packs.specs.declared.options.Words.{Words}
 
--- the refusal of a plain CSV: a header that does not fit the columns is no schema of theirs, and rows are refused as those of a batch are
+-- the refusal of a plain CSV: a header that does not fit the columns is no schema of theirs, a blank line that may be a null leaves the
+-- number of rows open, and rows are refused as those of a batch are
 abbrev pub pack_refusal : PackError → Refusal
 pack_refusal plain.NoMemory = NoMemory
 pack_refusal plain.NoHeader = BadSchema
 pack_refusal (plain.UnknownColumn place) = BadSchema
 pack_refusal (plain.MissingColumn column) = BadSchema
 pack_refusal (plain.RepeatedColumn column) = BadSchema
+pack_refusal plain.BlankLine = Batch batch.RowCount
 pack_refusal (plain.WrongWidth row) = Batch (batch.WrongWidth row)
 pack_refusal plain.TooManyRows = Batch batch.TooManyRows
 pack_refusal plain.TooLong = Run InputTooLong

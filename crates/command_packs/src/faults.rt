@@ -4,7 +4,7 @@ use csv::{ByteRecord, ReaderBuilder};
 use fault_sentences::{FieldFault, line_of};
 use grouping_model::limits::{MAX_INPUT_LEN, MAX_ROWS};
 use packed_rows::Schema;
-use plain_batches::{Layout, PackError};
+use plain_batches::{Layout, PackError, blank_lines};
 use sentences::{Quoted, Reason};
 use std::alloc::{AllocError, Global};
 
@@ -50,6 +50,19 @@ fn push_name(said: &mut String, name: &str) -> Result<(), AllocError> {
         said.push_str(", ")?;
     }
     said.push_str(name)
+}
+
+/// The line of the byte at a place, the first line being 1. A line ends at a line feed, at a carriage return, or at both together.
+fn line_at(text: &[u8], place: usize) -> u64 {
+    let mut line = 1u64;
+    let mut is_behind_return = false;
+    for byte in text.get(..place).unwrap_or_default() {
+        if *byte == b'\r' || *byte == b'\n' && !is_behind_return {
+            line = line.saturating_add(1);
+        }
+        is_behind_return = *byte == b'\r';
+    }
+    line
 }
 
 impl PlainText<'_> {
@@ -163,6 +176,17 @@ impl PlainText<'_> {
         format!(in alloc; "the header has {name} more than once")
     }
 
+    /// Says which line is blank, and how one tells whether it is a null.
+    fn say_blank(&self, alloc: Global) -> Result<String, AllocError> {
+        let Some(place) = blank_lines(self.layout.delimiter, self.csv).first else {
+            return Ok(String::new(alloc));
+        };
+        let line = line_at(self.csv, place);
+        format!(in alloc;
+            "line {line} is blank: write \\N if it is a null, or delete it; --null TEXT sets another null, and skips blank lines"
+        )
+    }
+
     /// Says how many fields a row has, and how many are wanted.
     fn say_width(&self, alloc: Global, row: usize) -> Result<String, AllocError> {
         let Some(record) = self.row_at(alloc, row)? else {
@@ -233,6 +257,7 @@ impl PlainText<'_> {
             PackError::UnknownColumn { .. } => self.say_unknown(alloc),
             PackError::MissingColumn { .. } => self.say_missing(alloc),
             PackError::RepeatedColumn { column } => self.say_repeated(alloc, column),
+            PackError::BlankLine => self.say_blank(alloc),
             PackError::WrongWidth { row } => self.say_width(alloc, row),
             PackError::TooManyRows => format!(in alloc;
                 "more than {MAX_ROWS} rows, the limit of a batch: split the file with agg_make_batches"

@@ -29,10 +29,12 @@ use command_words::{ALLOW_EMPTY, input_name};
 use file_sentences::summary_reason;
 use out_files::CutShort;
 use packed_rows::Schema;
-use plain_batches::{Layout, PackError, pack_batch};
+use plain_batches::{Layout, PackError, blank_lines, pack_batch};
 use replies::{ExitKind, Refusal, RunError};
 use script_io::put_all;
+use sentences::Plain;
 use std::alloc::Global;
+use std::fmt;
 use std::io::{Read, Write};
 use std::rt::Files;
 
@@ -58,7 +60,8 @@ fn schema_of<'p, R: Files + AllocGlobal, I: Read>(
     }
 }
 
-/// The refusal of a plain CSV. A header that doesn't fit the columns is no schema of theirs.
+/// The refusal of a plain CSV. A header that doesn't fit the columns is no schema of theirs. A blank line that may be a null leaves the
+/// number of rows open.
 fn refusal_of(why: PackError) -> Refusal
     ensures { result ≡ pack_refusal why }
 {
@@ -68,6 +71,7 @@ fn refusal_of(why: PackError) -> Refusal
         | PackError::UnknownColumn { .. }
         | PackError::MissingColumn { .. }
         | PackError::RepeatedColumn { .. } => Refusal::BadSchema,
+        PackError::BlankLine => Refusal::Batch(BatchError::RowCount),
         PackError::WrongWidth { row } => Refusal::Batch(BatchError::WrongWidth { row }),
         PackError::TooManyRows => Refusal::Batch(BatchError::TooManyRows),
         PackError::TooLong => Refusal::Run(RunError::InputTooLong),
@@ -112,18 +116,55 @@ fn is_cut(csv: &[u8]) -> bool {
     !csv.is_empty() && !matches!(csv.last(), Some(b'\n' | b'\r'))
 }
 
-/// The batch file that words tell, by the columns of their summary, and whether the last line of their CSV has no end.
+/// A batch file, and what is said of the CSV of which it was made.
+#[derive(Drop)]
+struct Made {
+    file: Vec<u8>,
+    /// Whether the last line of the CSV has no end.
+    is_cut: bool,
+    /// How many blank lines it has.
+    blank_lines: usize,
+}
+
+/// The blank lines of a file were not read as rows.
+#[derive(Clone, Copy)]
+struct BlankSkipped<'p> {
+    path: &'p str,
+    count: usize,
+}
+
+impl fmt::Display for BlankSkipped<'_> {
+    fn fmt<W: fmt::Write>(&self, f: &mut fmt::Formatter<W>) -> fmt::Result {
+        let (path, count) = (Plain(self.path), self.count);
+        write!(f, "{path}: blank lines skipped: {count}")
+    }
+}
+
+/// Says what a batch file leaves out of a CSV, and whether that may be cut off.
+fn say_made<W: Write, E: Write>(made: &Made, path: &str, streams: &mut Streams<'_, W, E>)
+    ensures { streams.new.writer.now ≡ streams.old.writer.now }
+{
+    if made.blank_lines > 0 {
+        let count = made.blank_lines;
+        streams.say(&BlankSkipped { path, count });
+    }
+    if made.is_cut {
+        streams.say(&CutShort { path });
+    }
+}
+
+/// The batch file that words tell, by the columns of their summary.
 fn pack<'p, R: Files + AllocGlobal, I: Read>(
     inputs: &mut Inputs<'_, R, I>,
     words: Words<'p>,
     layout: Layout<'_>,
     origin: u16,
     number: u32,
-) -> Result<(Vec<u8>, bool), Problem<'p>>
+) -> Result<Made, Problem<'p>>
     requires origin { origin ≤ LAST_ORIGIN }
     requires number { 1 ≤ number }
     ensures packed { IfOk result (λ made. IsPacked words.entry (unread I.remaining inputs.old.reader.now) layout.entry origin number
-        made.0.items) }
+        made.file.items) }
     ensures why { IfErr result (λ problem. IsNotPacked words.entry (unread I.remaining inputs.old.reader.now) layout.entry origin number
         problem.why) }
 {
@@ -133,7 +174,11 @@ fn pack<'p, R: Files + AllocGlobal, I: Read>(
         return Err(empty(alloc, words.csv));
     }
     match pack_batch(alloc, &schema, layout, origin, number, &csv) {
-        Ok(file) => Ok((file, is_cut(&csv))),
+        Ok(file) => Ok(Made {
+            file,
+            is_cut: is_cut(&csv),
+            blank_lines: blank_lines(layout.delimiter, &csv).count,
+        }),
         Err(why) => {
             let text = PlainText {
                 schema: &schema,
@@ -193,12 +238,9 @@ fn write_packed<R: Files + AllocGlobal, I: Read, W: Write, E: Write>(
         Err(problem) => return end_unread(&problem, streams),
     };
     match pack(&mut inputs, words, layout, origin, number) {
-        Ok((file, is_cut)) => {
-            if is_cut {
-                let path = input_name(words.csv);
-                say(streams.alloc, streams.errors, &CutShort { path });
-            }
-            match put_all(streams.writer, &file) {
+        Ok(made) => {
+            say_made(&made, input_name(words.csv), &mut *streams);
+            match put_all(streams.writer, &made.file) {
                 Ok(()) => ExitKind::Done,
                 Err(_) => stop(streams.output_fault(), streams),
             }

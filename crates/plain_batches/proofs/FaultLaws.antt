@@ -1,9 +1,11 @@
 -- Why a plain CSV is refused, step by step.
-use Rattle.std.proofs.Common.{◌≡◌, ℕ, Bool, List, Some, ap, length, sym, ◌∙◌}
+use Rattle.std.proofs.Common.{◌≡◌, ℕ, Bool, List, Some, ap, length, subst, sym, ◌∙◌}
 use Rattle.std.specs.Prelude.{Result, Ok, Err, IfErr}
 use Rattle.packed_rows.specs.Columns.{Column, names}
 use Rattle.script_io.specs.Records.{Record}
 use Rattle.plain_batches.specs.Plain.{parts_of, plain_records}
+use Rattle.plain_batches.specs.Columns.{ArePlaces}
+use Rattle.plain_batches.specs.Packed.{HasNoBlank}
 use Rattle.plain_batches.specs.Refusal.{HasNoOther, HasParts, HeaderFault, IsRightHeader, MisplacedFault, PlainFault, WidthFault}
 use Rattle.plain_batches.specs.declared.layout.Layout.{Layout}
 use Rattle.plain_batches.specs.declared.error.PackError.{PackError}
@@ -37,9 +39,19 @@ misplaced_header skips names header (Err (RepeatedColumn column)) known fault = 
 misplaced_header skips names header (Err error) known fault = absurd fault
 
 pub widths_refused : (columns : List Column) (layout : Layout) (csv : List ℕ) (header : Record) (rows : List Record) (error : PackError)
-    → HasParts columns layout csv header rows → IsRightHeader layout.skips_columns (names columns) header
+    → HasParts columns layout csv header rows → IsRightHeader layout.skips_columns (names columns) header → HasNoBlank layout csv header
     → WidthFault (length header) rows error → PlainFault columns layout csv error
-widths_refused columns layout csv header rows NoMemory parts right fault = tt
-widths_refused columns layout csv header rows (WrongWidth row) parts right fault = (header, rows, parts, right, fault)
-widths_refused columns layout csv header rows TooManyRows parts right fault = (header, rows, parts, right, fault)
-widths_refused columns layout csv header rows error parts right fault = absurd fault
+widths_refused columns layout csv header rows NoMemory parts right blank fault = tt
+widths_refused columns layout csv header rows (WrongWidth row) parts right blank fault = (header, rows, parts, right, blank, fault)
+widths_refused columns layout csv header rows TooManyRows parts right blank fault = (header, rows, parts, right, blank, fault)
+widths_refused columns layout csv header rows error parts right blank fault = absurd fault
+
+-- a header is right by the names of its columns
+pub right_header : (layout : Layout) (columns : List Column) (named header : Record) (places : List ℕ) → named ≡ names columns
+    → HasNoOther layout.skips_columns named header → ArePlaces header named places
+    → IsRightHeader layout.skips_columns (names columns) header
+right_header layout columns named header places names_are known at = record {
+  known = subst (λ (n : Record). HasNoOther layout.skips_columns n header) names_are known;
+  places = places;
+  at = subst (λ (n : Record). ArePlaces header n places) names_are at;
+}

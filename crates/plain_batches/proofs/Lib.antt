@@ -1,4 +1,5 @@
 pub mod ReadingFacts
+pub mod BlankLaws
 pub mod FileLaws
 pub mod PlainLaws
 pub mod FaultLaws

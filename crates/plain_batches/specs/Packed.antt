@@ -7,6 +7,7 @@ use Rattle.packed_rows.specs.Columns.{Column, kinds, names}
 use Rattle.script_io.specs.Records.{Record}
 use Rattle.batch_reader.specs.File.{BatchFile, FileHead, read_file}
 use Rattle.batch_reader.specs.Rows.{ReadsRows}
+use Rattle.plain_batches.specs.Blank.{blank_lines}
 use Rattle.plain_batches.specs.Plain.{parts_of, plain_records}
 use Rattle.plain_batches.specs.Columns.{AreAmong, ArePlaces, arranged}
 use Rattle.plain_batches.specs.declared.layout.Layout.{Layout}
@@ -17,11 +18,17 @@ pub record Plain : Type 0 where
   pub places : List ℕ
   pub rows : List Record
 
--- a plain CSV has this: its parts by its layout, each column of the schema by its name, and no other where none may be left out
+-- a plain CSV has no blank line where that might be a null: where a row is one field, and an empty field is null
+abbrev pub HasNoBlank : Layout → (csv : List ℕ) → (header : Record) → Type 0
+HasNoBlank layout csv header = length header ≡ 1 → layout.null.now ≡ [] → blank_lines layout.delimiter csv ≡ 0
+
+-- a plain CSV has this: its parts by its layout, each column of the schema by its name, and no other where none may be left out. No null
+-- is lost in a blank line
 pub record IsPlain (columns : List Column) (layout : Layout) (csv : List ℕ) (plain : Plain) : Type 0 where
   pub parts : parts_of layout.has_header (names columns) (plain_records layout.delimiter csv) ≡ Some (plain.header, plain.rows)
   pub known : layout.skips_columns ≡ false → AreAmong (names columns) plain.header
   pub at : ArePlaces plain.header (names columns) plain.places
+  pub blank : HasNoBlank layout csv plain.header
   pub widths : All (λ fields. length fields ≡ length plain.header) plain.rows
 
 -- the records of the batch: the fields of each row in the order of the schema's columns, with null for what stands for it

@@ -5,13 +5,14 @@ use Rattle.packed_rows.specs.Columns.{Column, kinds, names}
 use Rattle.script_io.specs.Records.{Record}
 use Rattle.batch_reader.specs.Refusal.{FirstFault}
 use Rattle.batch_reader.specs.declared.error.BatchError.TheVariants as batch
+use Rattle.plain_batches.specs.Blank.{blank_lines}
 use Rattle.plain_batches.specs.Plain.{parts_of, plain_records}
 use Rattle.plain_batches.specs.Columns.{AreAmong, ArePlaces, IsNamed, IsNowhere}
-use Rattle.plain_batches.specs.Packed.{MakesFile, batch_records}
+use Rattle.plain_batches.specs.Packed.{HasNoBlank, MakesFile, batch_records}
 use Rattle.plain_batches.specs.declared.layout.Layout.{Layout}
 use Rattle.plain_batches.specs.declared.error.PackError.{PackError}
 use Rattle.plain_batches.specs.declared.error.PackError.TheVariants.{NoMemory, NoHeader, UnknownColumn, MissingColumn, RepeatedColumn}
-use Rattle.plain_batches.specs.declared.error.PackError.TheVariants.{WrongWidth, TooManyRows, TooLong, BadField}
+use Rattle.plain_batches.specs.declared.error.PackError.TheVariants.{BlankLine, WrongWidth, TooManyRows, TooLong, BadField}
 
 -- the first name of a header that is none of these
 pub record IsFirstUnknown (names header : Record) (place : ℕ) : Type 0 where
@@ -85,14 +86,21 @@ PartsFault has_header records NoMemory = Unit {0}
 PartsFault has_header records NoHeader = (has_header ≡ true) × (records ≡ [])
 PartsFault has_header records error = ⊥
 
--- its header is refused; its header is right, and its rows are refused by their number and widths
+-- its header is refused
 abbrev pub RefusesHeader : List Column → Layout → List ℕ → PackError → Type 0
 RefusesHeader columns layout csv error = (header : Record) × (rows : List Record) × HasParts columns layout csv header rows
     × HeaderFault layout.skips_columns (names columns) header error
 
+-- its header is right and one name, and a blank line may be a null
+abbrev pub RefusesBlank : List Column → Layout → List ℕ → Type 0
+RefusesBlank columns layout csv = (header : Record) × (rows : List Record) × HasParts columns layout csv header rows
+    × IsRightHeader layout.skips_columns (names columns) header × (length header ≡ 1) × (layout.null.now ≡ [])
+    × (blank_lines layout.delimiter csv ≢ 0)
+
+-- its header is right, it has no such blank line, and its rows are refused by their number and widths
 abbrev pub RefusesWidths : List Column → Layout → List ℕ → PackError → Type 0
 RefusesWidths columns layout csv error = (header : Record) × (rows : List Record) × HasParts columns layout csv header rows
-    × IsRightHeader layout.skips_columns (names columns) header × WidthFault (length header) rows error
+    × IsRightHeader layout.skips_columns (names columns) header × HasNoBlank layout csv header × WidthFault (length header) rows error
 
 -- the error of a plain CSV before its batch file is made, unless memory ran out, in this order
 abbrev pub PlainFault : List Column → Layout → List ℕ → PackError → Type 0
@@ -101,6 +109,7 @@ PlainFault columns layout csv NoHeader = PartsFault layout.has_header (plain_rec
 PlainFault columns layout csv (UnknownColumn place) = RefusesHeader columns layout csv (UnknownColumn place)
 PlainFault columns layout csv (MissingColumn column) = RefusesHeader columns layout csv (MissingColumn column)
 PlainFault columns layout csv (RepeatedColumn column) = RefusesHeader columns layout csv (RepeatedColumn column)
+PlainFault columns layout csv BlankLine = RefusesBlank columns layout csv
 PlainFault columns layout csv (WrongWidth row) = RefusesWidths columns layout csv (WrongWidth row)
 PlainFault columns layout csv TooManyRows = RefusesWidths columns layout csv TooManyRows
 PlainFault columns layout csv error = ⊥

@@ -1,12 +1,15 @@
 //! Batch files of plain CSV.
 
-ghost use Rattle.std.specs.Prelude.{◌≡◌, ◌≤◌, [], length, Some, true, IfErr, IfOk, OnOk};
+ghost use Rattle.std.specs.Prelude.{◌≡◌, ◌≢◌, ◌≤◌, [], length, Some, true, IfErr, IfOk, OnOk};
 ghost use Rattle.csv.specs.Records.{fields_of};
 ghost use Rattle.grouping_model.specs.declared.limits.TheConstants.{LAST_ORIGIN};
+ghost use Rattle.plain_batches.specs.Blank.{blank_lines};
 ghost use Rattle.plain_batches.specs.Plain.{parts_of};
 ghost use Rattle.plain_batches.specs.Packed.{MakesFile, PacksPlain};
 ghost use Rattle.plain_batches.specs.Refusal.{PackFault, PartsFault, PlainFault};
+ghost use Rattle.plain_batches.specs.declared.error.PackError.TheVariants.{BlankLine};
 
+use crate::blank::blank_lines;
 use crate::columns::{checked_places, names_of};
 use crate::error::PackError;
 use crate::layout::Layout;
@@ -40,6 +43,19 @@ fn header_of(
     Ok(header)
 }
 
+/// Refuses a blank line where it may be a null: where a row is one field, and an empty field is null.
+fn check_blank(layout: Layout<'_>, width: usize, csv: &[u8]) -> Result<(), PackError>
+    ensures none { OnOk result (width ≡ 1 → layout.entry.null.now ≡ [] → blank_lines layout.entry.delimiter csv.now ≡ 0) }
+    ensures refused { IfErr result (λ error. (error ≡ BlankLine) × (width ≡ 1) × (layout.entry.null.now ≡ [])
+        × (blank_lines layout.entry.delimiter csv.now ≢ 0)) }
+{
+    let may_be_null = width == 1 && layout.null.is_empty();
+    if may_be_null && blank_lines(layout.delimiter, csv).count > 0 {
+        return Err(PackError::BlankLine);
+    }
+    Ok(())
+}
+
 /// The batch file of the rows of a plain CSV, whose values are not checked.
 fn make_file(
     alloc: Global,
@@ -59,6 +75,7 @@ fn make_file(
     let header = header_of(alloc, &names, layout.has_header, &mut records)?;
     let places = checked_places(alloc, &names, &header, layout.skips_columns)?;
     let width = header.len();
+    check_blank(layout, width, csv)?;
     let (rows, lines) = row_lines(alloc, layout.null, &places, width, &mut records)?;
     drop(records);
     drop(places);
@@ -70,8 +87,8 @@ fn make_file(
 }
 
 /// The batch file of a plain CSV, by a schema, with this origin and number. Its records are the rows, each with a field for each
-/// column of the schema, in the schema's order, or in that of a header. Fields are those of batch files. The file is returned only
-/// after `read_batch` has read it again.
+/// column of the schema, in the schema's order, or in that of a header. Fields are those of batch files. A blank line is no record, and is
+/// refused where it may be a null. The file is returned only after `read_batch` has read it again.
 pub fn pack_batch(
     alloc: Global,
     schema: &Schema,

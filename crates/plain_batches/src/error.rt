@@ -7,9 +7,9 @@ use std::alloc::AllocError;
 use thiserror::Error;
 
 /// Why a plain CSV is not a batch: the first that applies, in this order, `NoMemory` aside. `MissingColumn` and `RepeatedColumn` name
-/// the first column that the header doesn't name exactly once. `WrongWidth` comes before `TooManyRows` if the row is one of the first
-/// [`MAX_ROWS`](grouping_model::limits::MAX_ROWS). Columns of the schema, places in the header and rows are counted from 0, and the
-/// header is not a row.
+/// the first column that the header doesn't name exactly once. `BlankLine` comes before all faults of rows, and `WrongWidth` before
+/// `TooManyRows` if the row is one of the first [`MAX_ROWS`](grouping_model::limits::MAX_ROWS). Columns of the schema, places in the
+/// header and rows are counted from 0, and the header is not a row.
 #[derive(Clone, Copy, Debug, PartialEq, Eq, Error)]
 pub enum PackError {
     /// Memory ran out.
@@ -27,6 +27,9 @@ pub enum PackError {
     /// The header names this column of the schema more than once.
     #[error("the header names column {column} more than once; columns are counted from 0")]
     RepeatedColumn { column: usize },
+    /// A blank line may be a null, since a row is one field and an empty field is null. `csv` reads no record of it.
+    #[error("a blank line, which may be a null in a table of one column")]
+    BlankLine,
     /// A row has more or fewer fields than the header has names, or the schema columns.
     #[error("row {row} has more or fewer fields than there are columns; rows are counted from 0")]
     WrongWidth { row: usize },

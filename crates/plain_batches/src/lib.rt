@@ -2,6 +2,7 @@
 #![tactic(auto)]
 
 mod batch;
+mod blank;
 mod columns;
 mod error;
 mod laws;
@@ -11,6 +12,7 @@ mod records;
 mod rows;
 
 pub use batch::pack_batch;
+pub use blank::{BlankLines, blank_lines};
 pub use error::PackError;
 pub use laws::packed_batches_are_read;
 pub use layout::Layout;

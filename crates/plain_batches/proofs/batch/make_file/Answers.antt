@@ -1,14 +1,14 @@
-use Rattle.std.proofs.Common.{◌≡◌, ◌<◌, ◌∙◌, ℕ, List, ◌++◌, ap, false, flat_map, length, map, subst, sym}
+use Rattle.std.proofs.Common.{◌≡◌, ◌<◌, ◌∙◌, ℕ, List, [], ◌++◌, ap, false, flat_map, length, map, subst, sym}
 use Rattle.std.specs.Prelude.{All}
 use Rattle.std.proofs.lemmas.Result.{err_from_is_err_and}
 use Rattle.csv.specs.Records.{fields_of}
 use Rattle.csv.specs.Writing.{default_writer, row_text}
-use Rattle.packed_rows.specs.Columns.{names}
 use Rattle.script_io.specs.Records.{Record}
+use Rattle.plain_batches.specs.Blank.{blank_lines}
 use Rattle.plain_batches.specs.Columns.{AreAmong, ArePlaces, arranged}
 use Rattle.plain_batches.specs.Packed.{IsPlain, Plain, file_of, file_text, head_fields, head_of}
-use Rattle.plain_batches.specs.Refusal.{HasNoOther, HeaderFault, IsRightHeader, WidthFault}
-use Rattle.plain_batches.proofs.FaultLaws.{has_parts, header_refused, widths_refused}
+use Rattle.plain_batches.specs.Refusal.{HeaderFault, WidthFault}
+use Rattle.plain_batches.proofs.FaultLaws.{has_parts, header_refused, right_header, widths_refused}
 use Rattle.plain_batches.proofs.PlainLaws.{places_within}
 use Rattle.plain_batches.proofs.batch.make_file.Goals as goal
 
@@ -42,14 +42,24 @@ returns-in_err-rows-clause-refused c =
     let parts = has_parts columns c.args.layout c.args.csv.now (fields_of c.in_ok-names.names) header _ rows c.in_ok-names.ensures.names
     c.new-records.ensures c.in_ok-header.ensures.parts in
     let fault = subst (λ (width : ℕ). WidthFault width rows c.in_err-rows.field-0.0) c.len-width.ensures c.in_err-rows.ensures.refused in
-    let named = c.in_ok-names.ensures.names in
-    let right : IsRightHeader c.args.layout.skips_columns (names columns) header =
-    record {
-      known = subst (λ (n : Record). HasNoOther c.args.layout.skips_columns n header) named c.in_ok-places.ensures.known;
-      places = c.in_ok-places.places.items;
-      at = subst (λ (n : Record). ArePlaces header n c.in_ok-places.places.items) named c.in_ok-places.ensures.places;
-    } in
-    rw (p.1, p.2) (widths_refused columns c.args.layout c.args.csv.now header rows c.in_err-rows.field-0.0 parts right fault)
+    let right = right_header c.args.layout columns (fields_of c.in_ok-names.names) header c.in_ok-places.places.items
+    c.in_ok-names.ensures.names c.in_ok-places.ensures.known c.in_ok-places.ensures.places in
+    let blank = subst (λ (width : ℕ). width ≡ 1 → c.args.layout.null.now ≡ [] → blank_lines c.args.layout.delimiter c.args.csv.now ≡ 0)
+    c.len-width.ensures c.in_ok-check_blank.ensures.none in
+    rw (p.1, p.2) (widths_refused columns c.args.layout c.args.csv.now header rows c.in_err-rows.field-0.0 parts right blank fault)
+
+pub returns-in_err-check_blank-clause-refused : goal.returns-in_err-check_blank-clause-refused
+returns-in_err-check_blank-clause-refused c =
+    let p = err_from_is_err_and c.from_residual-in_err-check_blank.result c.from_residual-in_err-check_blank.ensures.1 in
+    let columns = c.args.schema.now in
+    let header = fields_of c.in_ok-header.header in
+    let rows = c.header_of.new.records in
+    let parts = has_parts columns c.args.layout c.args.csv.now (fields_of c.in_ok-names.names) header _ rows c.in_ok-names.ensures.names
+    c.new-records.ensures c.in_ok-header.ensures.parts in
+    let right = right_header c.args.layout columns (fields_of c.in_ok-names.names) header c.in_ok-places.places.items
+    c.in_ok-names.ensures.names c.in_ok-places.ensures.known c.in_ok-places.ensures.places in
+    let refused = c.in_err-check_blank.ensures.refused in
+    rw (p.1, p.2, refused.0) (header, rows, parts, right, sym c.len-width.ensures ∙ refused.1, refused.2, refused.3)
 
 pub returns-clause-made : goal.returns-clause-made
 returns-clause-made c =
@@ -66,6 +76,8 @@ returns-clause-made c =
           c.in_ok-header.ensures.parts;
       known = subst (λ (n : Record). layout.skips_columns ≡ false → AreAmong n header) named c.in_ok-places.ensures.known;
       at = subst (λ (n : Record). ArePlaces header n places) named c.in_ok-places.ensures.places;
+      blank = subst (λ (width : ℕ). width ≡ 1 → layout.null.now ≡ [] → blank_lines layout.delimiter c.args.csv.now ≡ 0)
+          c.len-width.ensures c.in_ok-check_blank.ensures.none;
       widths = subst (λ (width : ℕ). All (λ fields. length fields ≡ width) rows) c.len-width.ensures c.in_ok-rows.ensures.widths;
     } in
     let head = λ (count : ℕ). row_text default_writer (head_fields (head_of c.args.origin c.args.number count)) in
