@@ -113,7 +113,8 @@ fn csv_table(alloc: Global, replica: &Replica) -> Result<(usize, Vec<u8>), Alloc
 {
     let mut table = CsvTable::new(alloc, replica.query())?;
     replica.answer_into(&mut table)?;
-    table.finish()
+    let finished = table.finish()?;
+    Ok((finished.rows, finished.text))
 }
 
 /// The same in TSV.
@@ -123,7 +124,8 @@ fn tsv_table(alloc: Global, replica: &Replica) -> Result<(usize, Vec<u8>), Alloc
 {
     let mut table = TsvTable::new(alloc, replica.query())?;
     replica.answer_into(&mut table)?;
-    Ok(table.finish())
+    let finished = table.finish();
+    Ok((finished.rows, finished.text))
 }
 
 /// The same in JSON.
@@ -133,7 +135,8 @@ fn json_table(alloc: Global, replica: &Replica) -> Result<(usize, Vec<u8>), Allo
 {
     let mut table = JsonTable::new(alloc, replica.query())?;
     replica.answer_into(&mut table)?;
-    Ok(table.finish())
+    let finished = table.finish();
+    Ok((finished.rows, finished.text))
 }
 
 /// How many rows a replica's answer has, and its table in a format. For each world that the replica fits, it is the query's answer. Rows

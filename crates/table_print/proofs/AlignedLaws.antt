@@ -185,13 +185,19 @@ written_item item = (item_form item.0, option_map string_bytes item.1)
 pub length-written : (q : Checked) (items : List CodeItem) → places_of items ≡ q.written.items → length items ≡ length q.written.items
 length-written q items places = sym (length-map items written_item) ∙ ap length places
 
-pub side_at : (q : Checked) (items : List CodeItem) (n : ℕ) (d : CodeItem) → places_of items ≡ q.written.items → n < length q.written.items
-    → slice_get (sides q) n ≡ Some (side_of (kind_of_form (kinds q.columns) (item_form (get_or items n d).0)))
-side_at q items n d places within =
-    let f = λ (item : Form ℕ × Option (List ℕ)). side_of (kind_of_form (kinds q.columns) item.0) in
+-- what is told of each item, at a place
+pub told_at : {A : Type 0} (tell : Form ℕ → A) (q : Checked) (items : List CodeItem) (n : ℕ) (d : CodeItem) (other : A)
+    → places_of items ≡ q.written.items → n < length q.written.items
+    → slice_get (map (λ (item : Form ℕ × Option (List ℕ)). tell item.0) q.written.items) n ≡ Some (tell (item_form (get_or items n d).0))
+told_at tell q items n d other places within =
+    let f = λ (item : Form ℕ × Option (List ℕ)). tell item.0 in
     let there : n < length items = omega (arith, length-written q items places) in
     let at : get_or q.written.items n (written_item d) ≡ written_item (get_or items n d)
     = ap (λ (is : List (Form ℕ × Option (List ℕ))). get_or is n (written_item d)) (sym places)
     ∙ get_or-map written_item items n d (written_item d) there in
-    slice_get-get_or (sides q) n Left (omega (arith, length-sides q))
-    ∙ ap (λ side. Some side) (get_or-map f q.written.items n (written_item d) Left within ∙ ap f at)
+    slice_get-get_or (map f q.written.items) n other (omega (arith, length-map q.written.items f))
+    ∙ ap (λ told. Some told) (get_or-map f q.written.items n (written_item d) other within ∙ ap f at)
+
+pub side_at : (q : Checked) (items : List CodeItem) (n : ℕ) (d : CodeItem) → places_of items ≡ q.written.items → n < length q.written.items
+    → slice_get (sides q) n ≡ Some (side_of (kind_of_form (kinds q.columns) (item_form (get_or items n d).0)))
+side_at q items n d places within = told_at (λ form. side_of (kind_of_form (kinds q.columns) form)) q items n d Left places within

@@ -3,3 +3,4 @@ pub mod WriterLaws
 pub mod AlignedLaws
 pub mod JsonLaws
 pub mod NameLaws
+pub mod AnswerColumnLaws

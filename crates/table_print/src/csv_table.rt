@@ -15,7 +15,7 @@ ghost use Rattle.script_io.specs.LineWriter.{IsBetween};
 ghost use Rattle.table_print.specs.Writer.{IsWithin, WritesLine};
 
 use crate::cell::cell;
-use crate::rows::{one_more, push_answer};
+use crate::rows::{FinishedTable, one_more, push_answer};
 use agg_protocol::ResultValue;
 use csv::Writer;
 use group_answers::RowSink;
@@ -110,10 +110,10 @@ impl CsvTable {
         Ok(())
     }
 
-    /// How many rows the table has, and its text. The only error is a failed allocation, now or for an earlier row.
-    pub fn finish(self) -> Result<(usize, Vec<u8>), AllocError>
+    /// The table. The only error is a failed allocation, now or for an earlier row.
+    pub fn finish(self) -> Result<FinishedTable, AllocError>
         ensures text { IfOk result (λ found. (headers : List (List ℕ)) (rows : List (List Outcome)) →
-            IsCsvTable headers rows self → (found.0 ≡ length rows) × (found.1.items ≡ table_text headers rows)) }
+            IsCsvTable headers rows self → (found.rows ≡ length rows) × (found.text.items ≡ table_text headers rows)) }
         ensures whole { OnOk result (¬ (HasFailed self)) }
     {
         if self.failed {
@@ -121,7 +121,7 @@ impl CsvTable {
         }
         let rows = self.rows;
         match self.writer.into_inner() {
-            Ok(text) => Ok((rows, text)),
+            Ok(text) => Ok(FinishedTable { rows, text }),
             Err(_) => Err(AllocError),
         }
     }
@@ -155,6 +155,6 @@ pub fn print_csv(alloc: Global, query: &Query, answer: &Answer) -> Result<Vec<u8
 {
     let mut table = CsvTable::new(alloc, query)?;
     push_answer(alloc, answer, &mut table)?;
-    let (_, text) = table.finish()?;
-    Ok(text)
+    let finished = table.finish()?;
+    Ok(finished.text)
 }

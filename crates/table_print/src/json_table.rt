@@ -15,7 +15,7 @@ ghost use Rattle.table_print.specs.Json.{escaped_as, name_of, plain_byte};
 
 use crate::cell::cell;
 use crate::pieces::{hex_digit, push_separator};
-use crate::rows::{one_more, push_answer};
+use crate::rows::{FinishedTable, one_more, push_answer};
 use agg_protocol::ResultValue;
 use group_answers::RowSink;
 use having_filter::{Answer, Query};
@@ -239,12 +239,15 @@ impl JsonTable {
         Ok(())
     }
 
-    /// How many rows the table has, and its text.
-    pub fn finish(self) -> (usize, Vec<u8>)
+    /// The table.
+    pub fn finish(self) -> FinishedTable
         ensures { (headers : List (List ℕ)) (rows : List (List Outcome)) → IsJsonTable headers rows self →
-            (result.0 ≡ length rows) × (result.1.items ≡ json_text headers rows) }
+            (result.rows ≡ length rows) × (result.text.items ≡ json_text headers rows) }
     {
-        (self.rows, self.text)
+        FinishedTable {
+            rows: self.rows,
+            text: self.text,
+        }
     }
 }
 
@@ -278,6 +281,6 @@ pub fn print_json(alloc: Global, query: &Query, answer: &Answer) -> Result<Vec<u
 {
     let mut table = JsonTable::new(alloc, query)?;
     push_answer(alloc, answer, &mut table)?;
-    let (_, text) = table.finish();
-    Ok(text)
+    let finished = table.finish();
+    Ok(finished.text)
 }

@@ -8,6 +8,13 @@ use group_answers::RowSink;
 use having_filter::Answer;
 use std::alloc::{AllocError, Global};
 
+/// A finished table: how many rows it has, and its text.
+#[derive(Drop)]
+pub struct FinishedTable {
+    pub rows: usize,
+    pub text: Vec<u8>,
+}
+
 /// The number of rows with one more. No memory has room for the texts of more rows than a `usize` counts.
 pub(crate) fn one_more(rows: usize) -> Result<usize, AllocError>
     ensures { IfOk result (λ more. more ≡ rows + 1) }

@@ -11,7 +11,7 @@ ghost use Rattle.table_print.specs.Tsv.{behind_backslash, tsv_byte, tsv_cell, ts
 
 use crate::cell::cell;
 use crate::pieces::push_separator;
-use crate::rows::{one_more, push_answer};
+use crate::rows::{FinishedTable, one_more, push_answer};
 use agg_protocol::ResultValue;
 use group_answers::RowSink;
 use having_filter::{Answer, Query};
@@ -131,12 +131,15 @@ impl TsvTable {
         Ok(())
     }
 
-    /// How many rows the table has, and its text.
-    pub fn finish(self) -> (usize, Vec<u8>)
+    /// The table.
+    pub fn finish(self) -> FinishedTable
         ensures { (headers : List (List ℕ)) (rows : List (List Outcome)) → IsTsvTable headers rows self →
-            (result.0 ≡ length rows) × (result.1.items ≡ tsv_text headers rows) }
+            (result.rows ≡ length rows) × (result.text.items ≡ tsv_text headers rows) }
     {
-        (self.rows, self.text)
+        FinishedTable {
+            rows: self.rows,
+            text: self.text,
+        }
     }
 }
 
@@ -169,6 +172,6 @@ pub fn print_tsv(alloc: Global, query: &Query, answer: &Answer) -> Result<Vec<u8
 {
     let mut table = TsvTable::new(alloc, query)?;
     push_answer(alloc, answer, &mut table)?;
-    let (_, text) = table.finish();
-    Ok(text)
+    let finished = table.finish();
+    Ok(finished.text)
 }

@@ -12,4 +12,4 @@ returns c =
     (λ answer is most groups low are.
     let rows = given.1 ∙ ap (λ those. those ++ given.0) c.new-rows.ensures ∙ given.2 most groups low are in
     is ∙ (λ i. arranged (map_arrangement order_term (c.arrangement.ensures i)) (rows i)))
-    c.arranged.ensures
+    c.arranged.ensures.arranged

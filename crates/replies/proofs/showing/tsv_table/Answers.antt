@@ -9,7 +9,7 @@ pub returns : goal.returns
 returns c =
     let names = headers c.query.result.now in
     let answer = c.in_ok-answer_into.ensures in
-    let both = c.finish.ensures names answer.0 (answer.1 names [] c.in_ok-table.ensures) in
+    let both = c.finish-finished.ensures names answer.0 (answer.1 names [] c.in_ok-table.ensures) in
     record {
       given = answer.0;
       answers = answer.2;

@@ -5,4 +5,4 @@ use Rattle.table_print.proofs.json_table.print_json.Goals as goal
 pub returns : goal.returns
 returns c =
     let names = headers c.args.query.now in
-    (c.finish-text.ensures names c.args.answer.now (c.in_ok-push_answer.ensures names [] c.in_ok-table.ensures)).1
+    (c.finish-finished.ensures names c.args.answer.now (c.in_ok-push_answer.ensures names [] c.in_ok-table.ensures)).1
