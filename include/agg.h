@@ -31,7 +31,7 @@ enum {
     AGG_NOT_OPEN = 3,         /* the slot has no summary */
     AGG_ALREADY_OPEN = 4,     /* the slot has a summary already */
     AGG_BAD_COMMAND = 10,     /* a text is not UTF-8 */
-    AGG_NO_SUCH_NAME = 11,    /* there is no status of this number */
+    AGG_NO_SUCH_NAME = 11,    /* there is no status, or no format, of this number */
     AGG_NAME_TAKEN = 12,      /* no call of this library returns it */
     AGG_LIMIT_OUT_OF_RANGE = 13,
     AGG_BAD_SCHEMA = 14,      /* the text of the columns, or that in a file */
@@ -76,8 +76,9 @@ enum {
  * a lock, by the start or the end of a thread, or by a sequentially consistent atomic: so one thread's call ends before another's begins, in
  * the sense of C11. If threads share a slot, take a lock of your own, for calls that only ask, too, since each call takes the summary out of
  * its slot and puts it back. For agg_merge lock both slots, always in one order. Calls on different slots may run at the same time. No call
- * waits, can be interrupted, takes a lock, starts a thread, or touches a file. None may be made from a signal handler, or in the child of a
- * fork of a process with threads.
+ * waits, can be interrupted, takes a lock, starts a thread, or touches a file. None may be made from a signal handler. In the child of a
+ * fork, a slot that another thread was using is lost; calls on other slots work as far as malloc does there: in a process without threads,
+ * and by glibc in any.
  *
  * Pointers. No pointer is null, even if there are no bytes. Except for the two slots of agg_merge, what a call writes overlaps none of its
  * other arguments. Texts are UTF-8 with their length, without a terminating zero. After a status other than AGG_DONE, what a pointer such
@@ -91,6 +92,12 @@ typedef struct {
 
 /* The default limit, in bytes. */
 #define AGG_USUAL_LIMIT 4194304
+
+/*
+ * The most bytes of its thread's stack that a call takes, whatever it is given. It is not proved, but measured, on input that was made to
+ * take much. Give a thread that calls the library more than that, beside what the rest of it takes.
+ */
+#define AGG_STACK 2097152
 
 /*
  * Opens an empty summary of a query over columns.
@@ -142,7 +149,8 @@ uint32_t agg_feed_rows(agg_slot *slot, uint32_t origin, uint32_t number, uint32_
  * Merges the summary of another slot: afterwards `into` knows what either knew, and `from` is as it was, though the call uses its slot
  * meanwhile. The order of merges makes no difference, nor does a repeated one.
  *
- * Refusals: AGG_NOT_OPEN if either slot has no summary, or both are one slot; AGG_DIFFERENT_QUERY; AGG_ORIGIN_DISAGREES.
+ * Refusals: AGG_NOT_OPEN if both are one slot, which is told by the pointers alone, or if either slot has no summary; AGG_DIFFERENT_QUERY;
+ * AGG_ORIGIN_DISAGREES.
  */
 uint32_t agg_merge(agg_slot *into, agg_slot *from);
 
@@ -158,15 +166,26 @@ uint32_t agg_merge_bytes(agg_slot *slot, const uint8_t *file, size_t file_len);
 uint32_t agg_save(agg_slot *slot, size_t *wanted);
 /*
  * The table of the answer, in CSV with a header, or in columns below one another, and how many rows it has beside the header. Early batches
- * are not counted. agg_known lists them; the foot that agg_tool puts under its aligned table does not come with it.
+ * are not counted: agg_known lists them.
  */
 uint32_t agg_answer(agg_slot *slot, bool aligned, size_t *rows, size_t *wanted);
+/*
+ * The same in a format: 0 is CSV, 1 columns below one another, 2 TSV as COPY of PostgreSQL writes it, 3 JSON, an object a line. Refusals:
+ * AGG_NO_SUCH_NAME for another number, which changes nothing, not even what agg_reason tells; then as agg_answer.
+ */
+enum { AGG_CSV = 0, AGG_ALIGNED = 1, AGG_TSV = 2, AGG_JSON = 3 };
+uint32_t agg_table(agg_slot *slot, uint32_t format, size_t *rows, size_t *wanted);
 /* A line `origin O upto P` for each origin of which something is known, with ` early N ..` after it. */
 uint32_t agg_known(agg_slot *slot, size_t *wanted);
 /* The canonical text of the query. */
 uint32_t agg_query(agg_slot *slot, size_t *wanted);
 /* The canonical text of the columns. */
 uint32_t agg_columns(agg_slot *slot, size_t *wanted);
+/*
+ * The columns of the answer, as `city text, count bigint, sum numeric`: the name and the type of each. A sum is a numeric, of up to 128
+ * bits; the other types are bigint, boolean and text. A name may stand twice.
+ */
+uint32_t agg_answer_columns(agg_slot *slot, size_t *wanted);
 
 /* Where a refusal is. */
 enum {
@@ -184,12 +203,12 @@ typedef struct {
 } agg_place;
 
 /*
- * The sentence on the last call on the slot, apart from agg_reason, that ended with AGG_NO_MEMORY or a status from 10 on, and its place; no
- * bytes and no place if none did. Calls that ended otherwise leave it as it is. It is for people, and is what agg_tool writes on standard
- * error: one line, and for columns or a query two more, the text and a caret under the place. Lines of a batch are counted as in its file,
- * where the head is line 1, for agg_feed_rows, too. If memory ran out for it, it is a short one. Its words may change. It also works on a
- * slot without a summary, after a refusal of agg_new or agg_load. Refusals: AGG_NOT_OPEN for an empty slot, and AGG_NO_MEMORY, which
- * changes nothing.
+ * The sentence on the last call on the slot, apart from agg_reason and an agg_table of no format, that ended with AGG_NO_MEMORY or a status
+ * from 10 on, and its place; no bytes and no place if none did. Calls that ended otherwise leave it as it is. It is for people, and is what
+ * agg_tool writes on standard error: one line, and for columns or a query two more, the text and a caret under the place. Lines of a batch
+ * are counted as in its file, where the head is line 1, for agg_feed_rows, too. If memory ran out for it, it is a short one. Its words may
+ * change. It also works on a slot without a summary, after a refusal of agg_new or agg_load. Refusals: AGG_NOT_OPEN for an empty slot, and
+ * AGG_NO_MEMORY, which changes nothing.
  */
 uint32_t agg_reason(agg_slot *slot, agg_place *place, size_t *wanted);
 

@@ -31,11 +31,12 @@ use Rattle.replica_merge.specs.Results.{MergesHeld}
 use Rattle.refusals.specs.Refusals.{limit_out_of_range, IsApart}
 use Rattle.replies.specs.Printed.{PrintsAnswer}
 use Rattle.replies.specs.Text.{origins_text}
+use Rattle.table_print.specs.AnswerColumns.{answer_columns}
 use Rattle.refusals.specs.declared.refusal.Refusal.TheVariants.{BadCommand, TapeFault, TapeDamaged}
 pub use Rattle.refusals.specs.declared.refusal.Refusal.{Refusal}
 pub use Rattle.refusals.specs.declared.refusal.Refusal.TheVariants.{NoMemory}
 pub use Rattle.replies.specs.declared.showing.Format.{Format}
-pub use Rattle.replies.specs.declared.showing.Format.TheVariants.{Csv, Aligned}
+pub use Rattle.replies.specs.declared.showing.Format.TheVariants.{Csv, Aligned, Tsv, Json}
 use Rattle.command_replicas.specs.Commands.{IsNew, IsNotNew, FeedIsCounted, FileMergeIsCounted}
 pub use Rattle.command_replicas.specs.Commands.{IsTooLong}
 use Rattle.command_replicas.specs.Results.{Feeds, LoadsFile, MergesFile}
@@ -160,3 +161,7 @@ IsQueryText held text = text ≡ spelling (by_names held.query)
 
 abbrev pub IsColumnsText : Held → List ℕ → Type 0
 IsColumnsText held text = text ≡ printed held.query.columns
+
+-- a text is that of the answer's columns, with their types
+abbrev pub IsAnswerColumnsText : Held → List ℕ → Type 0
+IsAnswerColumnsText held text = text ≡ answer_columns held.query

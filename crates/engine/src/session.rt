@@ -4,7 +4,7 @@ ghost use Rattle.std.specs.Prelude.{◌≡◌, ◌≢◌, IfOk, IfErr, OnOk, OnE
 ghost use Rattle.hash_agg.specs.Means.{AreMeans};
 ghost use Rattle.command_replicas.specs.Commands.{IsTooLong};
 ghost use Rattle.engine.specs.Calls.{IsNoLimit, Creates, Loads, FeedsFile, FeedsRows, MergesSession, MergesFileSession, IsFileOf};
-ghost use Rattle.engine.specs.Calls.{IsTableOf, IsKnownText, IsQueryText, IsColumnsText};
+ghost use Rattle.engine.specs.Calls.{IsTableOf, IsKnownText, IsQueryText, IsColumnsText, IsAnswerColumnsText};
 
 use crate::rows::read_numbered;
 use grouping_model::limits::MAX_INPUT_LEN;
@@ -14,6 +14,7 @@ use replies::{Format, Refusal, RunError, origin_lines, table};
 use std::alloc::{AllocError, Global};
 use std::marker::Model;
 use std::str::from_utf8;
+use table_print::print_columns;
 
 /// A replica, the limit and seed of its aggregations, and what they took. Groups beyond the limit are spilled to tapes in memory, which
 /// each call takes and frees.
@@ -257,5 +258,11 @@ impl Session {
         ensures { IfOk result (λ text. IsColumnsText self.now.held (string_bytes text)) }
     {
         self.replica.query().schema().print()
+    }
+    /// The columns of the answer with their types, as `city text, sum numeric`. The only error is out of memory.
+    pub fn answer_columns(&self) -> Result<Vec<u8>, AllocError>
+        ensures { IfOk result (λ text. IsAnswerColumnsText self.now.held text.items) }
+    {
+        print_columns(self.alloc, self.replica.query())
     }
 }

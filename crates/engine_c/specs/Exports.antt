@@ -1,7 +1,7 @@
 -- What the exported functions do to slots, by what the calls of a session do. All of this is our own.
 use Rattle.std.specs.Prelude.{◌≡◌, ◌≢◌, ◌<◌, ◌≤◌, ◌++◌, ◌⊎◌, ℕ, Bool, true, false, List, length, drop}
-use Rattle.std.specs.Prelude.{Option, Some, None, is_some, IsSome, Result, IfOk, OnOk, OnErr}
-use Rattle.engine.specs.Calls.{Held, Refusal, Delivered, Folded, Early, Known, Format, Csv, Aligned}
+use Rattle.std.specs.Prelude.{[], ◌∷◌, slice_get, Option, Some, None, is_some, IsSome, Result, IfOk, OnOk, OnErr}
+use Rattle.engine.specs.Calls.{Held, Refusal, Delivered, Folded, Early, Known, Format, Csv, Aligned, Tsv, Json}
 use Rattle.engine_calls.specs.Calls.{OnSession, OpensBy, Asks}
 use Rattle.engine.specs.Sessions.{SessionState}
 use Rattle.engine_calls.specs.Keeping.{KeptState, ReasonOnAsking, ReasonOnClosed, ReasonOnMerge, ReasonOnOpen, Unchanged, nothing}
@@ -26,6 +26,10 @@ delivery_of Known = record { kind = 2; upto = 0 }
 abbrev pub format_by : Bool → Format
 format_by true = Aligned
 format_by false = Csv
+
+-- the format of a number, if there is one
+abbrev pub format_numbered : ℕ → Option Format
+format_numbered number = slice_get (Csv ∷ Aligned ∷ Tsv ∷ Json ∷ []) number
 
 -- a call gives nothing but its status
 abbrev pub GivesNothing : Unit {0} → Type 0

@@ -3,12 +3,12 @@
 
 ghost use Rattle.std.specs.Prelude.{◌≡◌, ◌≢◌, ◌⊎◌, [], None, IsSome, IfSome, codes, length};
 ghost use Rattle.engine.specs.Calls.{Creates, Loads, FeedsFile, FeedsRows, MergesFileSession, IsFileOf, IsTooLong, IsTableOf};
-ghost use Rattle.engine.specs.Calls.{IsKnownText, IsQueryText, IsColumnsText};
+ghost use Rattle.engine.specs.Calls.{IsKnownText, IsQueryText, IsColumnsText, IsAnswerColumnsText};
 ghost use Rattle.engine.specs.Statuses.{status_number, status_at};
-ghost use Rattle.engine.specs.declared.status.Status.TheVariants.{Done, NoMemory, NotOpen};
+ghost use Rattle.engine.specs.declared.status.Status.TheVariants.{Done, NoMemory, NoSuchName, NotOpen};
 ghost use Rattle.engine_calls.specs.Calls.{OnSession, ForMemory, MergesWith, last_place};
 ghost use Rattle.engine_calls.specs.declared.last.Asked.TheVariants.{Create, Feed, Load, Merge, Save};
-ghost use Rattle.engine_c.specs.Exports.{kept_by, delivery_of, format_by, CallsSlot, AsksSlot, OpensSlot, FillsSlot, StaysFull};
+ghost use Rattle.engine_c.specs.Exports.{kept_by, delivery_of, format_by, format_numbered, CallsSlot, AsksSlot, OpensSlot, FillsSlot, StaysFull};
 ghost use Rattle.engine_c.specs.Exports.{GivesNothing, HandsOut, Fetches, Names, AsksReason, KeepsReason, MergesReason};
 
 mod crossing;
@@ -20,8 +20,8 @@ mod slot;
 
 pub use crossing::slots_cross;
 use delivery::Delivery;
-use engine::{Place, Seed, Status};
-use outcomes::{delivery, format_by, hand_out, number_of};
+use engine::{Format, Place, Seed, Status};
+use outcomes::{delivery, format_by, format_numbered, hand_out, number_of};
 use slot::{Slot, filled, taken, taken_or_new};
 use std::alloc::Global;
 
@@ -134,15 +134,15 @@ pub extern "C" fn agg_feed_rows(
     Status::Done.number()
 }
 
-/// Merges the replica of another slot's session.
+/// Merges the replica of another slot's session. Each slot is lent for the call alone, so that no slot is in both places: the function in
+/// include/agg_merge.c, which C calls, refuses that before it calls this one.
 #[unsafe(no_mangle)]
-pub extern "C" fn agg_merge(alloc: Global, into: &mut Slot, from: &mut Slot) -> u32
+pub extern "C" fn agg_merge_apart(alloc: Global, into: &mut Slot, from: &mut Slot) -> u32
     ensures merges { CallsSlot (MergesWith (kept_by from.old.handle.kept).session) (MergesReason (kept_by from.old.handle.kept).session)
         GivesNothing into.old.handle.kept into.new.handle.kept result }
     ensures full { StaysFull into.old.handle.kept into.new.handle.kept }
     ensures from { from.new.handle.kept ≡ from.old.handle.kept }
 {
-    // The first slot is emptied before the second is read: so one slot in both places is refused, and stays as it is.
     let Some(mut own) = taken(alloc, into) else {
         return Status::NotOpen.number();
     };
@@ -235,7 +235,45 @@ pub extern "C" fn agg_columns(alloc: Global, slot: &mut Slot, wanted: &mut usize
     number_of(outcome)
 }
 
-/// Makes the answer's table in a format, and gives its number of rows: `agg_fetch` fetches the table.
+/// Makes the text of the answer's columns, each with its type: `agg_fetch` fetches it.
+#[unsafe(no_mangle)]
+pub extern "C" fn agg_answer_columns(alloc: Global, slot: &mut Slot, wanted: &mut usize) -> u32
+    ensures asks { AsksSlot (λ held text _. IsAnswerColumnsText held text) ForMemory AsksReason GivesNothing slot.old.handle.kept
+        slot.new.handle.kept wanted.new result }
+    ensures full { StaysFull slot.old.handle.kept slot.new.handle.kept }
+{
+    let Some(mut kept) = taken(alloc, slot) else {
+        return Status::NotOpen.number();
+    };
+    let outcome = kept.answer_columns();
+    *wanted = kept.told().len();
+    *slot = filled(kept);
+    number_of(outcome)
+}
+
+/// Makes the answer's table in the format of a number, as [`agg_answer`] does. The numbers are 0 for CSV, 1 for columns below one another,
+/// 2 for TSV and 3 for JSON; of any other there is no format, and nothing changes.
+#[unsafe(no_mangle)]
+pub extern "C" fn agg_table(
+    alloc: Global,
+    slot: &mut Slot,
+    format: u32,
+    rows: &mut usize,
+    wanted: &mut usize,
+) -> u32
+    ensures asks { IfSome (format_numbered format) (λ named. AsksSlot (λ held text count. IsTableOf named held count text) ForMemory
+        AsksReason (λ count. rows.new ≡ count) slot.old.handle.kept slot.new.handle.kept wanted.new result) }
+    ensures none { format_numbered format ≡ None → result ≡ status_number NoSuchName }
+    ensures same { format_numbered format ≡ None → slot.new.handle.kept ≡ slot.old.handle.kept }
+    ensures full { StaysFull slot.old.handle.kept slot.new.handle.kept }
+{
+    match format_numbered(format) {
+        Some(named) => table_in(alloc, slot, named, rows, wanted),
+        None => Status::NoSuchName.number(),
+    }
+}
+
+/// Makes the answer's table in CSV, or in columns below one another, and gives its number of rows: `agg_fetch` fetches the table.
 #[unsafe(no_mangle)]
 pub extern "C" fn agg_answer(
     alloc: Global,
@@ -248,18 +286,7 @@ pub extern "C" fn agg_answer(
         (λ count. rows.new ≡ count) slot.old.handle.kept slot.new.handle.kept wanted.new result }
     ensures full { StaysFull slot.old.handle.kept slot.new.handle.kept }
 {
-    let Some(mut kept) = taken(alloc, slot) else {
-        return Status::NotOpen.number();
-    };
-    let outcome = kept.answer(format_by(aligned));
-    *wanted = kept.told().len();
-    *slot = filled(kept);
-    let count = match outcome {
-        Ok(count) => count,
-        Err(status) => return status.number(),
-    };
-    *rows = count;
-    Status::Done.number()
+    table_in(alloc, slot, format_by(aligned), rows, wanted)
 }
 
 /// Makes the sentence of the last refusal, and gives its place: `agg_fetch` fetches the sentence. Neither has anything if there was none.
@@ -349,4 +376,30 @@ pub extern "C" fn agg_version(out: &mut [u8], wanted: &mut usize) -> u32
     ensures { HandsOut (codes "0.1.0") out.old out.new wanted.new result }
 {
     hand_out(b"0.1.0", out, wanted)
+}
+
+/// Makes the answer's table in a format, and gives its number of rows.
+fn table_in(
+    alloc: Global,
+    slot: &mut Slot,
+    format: Format,
+    rows: &mut usize,
+    wanted: &mut usize,
+) -> u32
+    ensures asks { AsksSlot (λ held text count. IsTableOf format held count text) ForMemory AsksReason
+        (λ count. rows.new ≡ count) slot.old.handle.kept slot.new.handle.kept wanted.new result }
+    ensures full { StaysFull slot.old.handle.kept slot.new.handle.kept }
+{
+    let Some(mut kept) = taken(alloc, slot) else {
+        return Status::NotOpen.number();
+    };
+    let outcome = kept.answer(format);
+    *wanted = kept.told().len();
+    *slot = filled(kept);
+    let count = match outcome {
+        Ok(count) => count,
+        Err(status) => return status.number(),
+    };
+    *rows = count;
+    Status::Done.number()
 }

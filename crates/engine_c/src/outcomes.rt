@@ -2,7 +2,7 @@
 
 ghost use Rattle.std.specs.Prelude.{◌≡◌};
 ghost use Rattle.engine.specs.Statuses.{number_told};
-ghost use Rattle.engine_c.specs.Exports.{delivery_of, format_by, HandsOut};
+ghost use Rattle.engine_c.specs.Exports.{delivery_of, format_by, format_numbered, HandsOut};
 
 use crate::delivery::Delivery;
 use engine::{Delivered, Format, Status};
@@ -26,6 +26,19 @@ pub(crate) fn format_by(aligned: bool) -> Format
         Format::Aligned
     } else {
         Format::Csv
+    }
+}
+
+/// The format of a number, if there is one.
+pub(crate) fn format_numbered(number: u32) -> Option<Format>
+    ensures { result ≡ format_numbered number }
+{
+    match number {
+        0 => Some(Format::Csv),
+        1 => Some(Format::Aligned),
+        2 => Some(Format::Tsv),
+        3 => Some(Format::Json),
+        _ => None,
     }
 }
 

@@ -2,7 +2,7 @@
 
 ghost use Rattle.std.specs.Prelude.{◌≡◌, [], None, Some, IfOk, IfErr, IfSome, OnOk, OnErr, option_map};
 ghost use Rattle.engine.specs.Calls.{Creates, Loads, FeedsFile, FeedsRows, MergesFileSession, IsFileOf, IsTooLong, IsTableOf};
-ghost use Rattle.engine.specs.Calls.{IsKnownText, IsQueryText, IsColumnsText, NoMemory};
+ghost use Rattle.engine.specs.Calls.{IsKnownText, IsQueryText, IsColumnsText, IsAnswerColumnsText, NoMemory};
 ghost use Rattle.engine.specs.Statuses.{status_of};
 ghost use Rattle.engine_calls.specs.Calls.{OnSession, OpensBy, Asks, ForMemory, MergesWith, last_place};
 ghost use Rattle.engine_calls.specs.Keeping.{Unchanged, nothing, reason_made, reason_state};
@@ -370,6 +370,28 @@ impl Kept {
             Err(_) => return Err(self.refuse_for_memory()),
         };
         self.told = text.into_bytes();
+        Ok(())
+    }
+
+    /// Keeps the columns of the answer with their types as the result.
+    ///
+    /// # Errors
+    ///
+    /// `NotOpen`, and `NoMemory`. Nothing changes then.
+    pub fn answer_columns(&mut self) -> Result<(), Status>
+        ensures asks { OnSession (Asks (λ held text _. IsAnswerColumnsText held text) ForMemory self.new.told)
+            self.old self.new result }
+        ensures reason { ReasonOnAsking self.old.session self.old.reason self.new.reason result }
+        ensures same { OnErr result (Unchanged self.old self.new) }
+    {
+        let Some(session) = &self.session else {
+            return Err(Status::NotOpen);
+        };
+        let text = match session.answer_columns() {
+            Ok(text) => text,
+            Err(_) => return Err(self.refuse_for_memory()),
+        };
+        self.told = text;
         Ok(())
     }
 

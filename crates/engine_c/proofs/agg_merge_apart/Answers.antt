@@ -1,6 +1,6 @@
 use Rattle.engine.specs.declared.status.Status.TheVariants.{NotOpen}
 use Rattle.engine_c.proofs.SlotLaws.{empty_slot, merges_into_none, reasons_of_none, unmerged_slot}
-use Rattle.engine_c.proofs.agg_merge.Goals as goal
+use Rattle.engine_c.proofs.agg_merge_apart.Goals as goal
 
 pub returns-in_default-clause-merges : goal.returns-in_default-clause-merges
 returns-in_default-clause-merges c =
