@@ -13,7 +13,8 @@ use Rattle.replies.specs.declared.ending.ExitKind.TheVariants.{Done, Fault}
 use Rattle.replies.specs.declared.ending.Outcome.{Outcome}
 use Rattle.refusals.specs.declared.error.RunError.{RunError}
 use Rattle.refusals.specs.declared.error.RunError.TheVariants.{InputTooLong, NoMemory, ReadFault, WriteFault}
-use Rattle.script_machine.specs.Headline.{WritesRight}
+use Rattle.script_machine.specs.Headline.{IsRightOutput}
+use Rattle.script_machine.specs.Streams.{Wrote}
 use Rattle.command_streams.specs.DiskLaws.{honest_in_memory}
 use Rattle.command_streams.specs.Disks.{command_tapes, is_in_memory}
 use Rattle.command_scripts.specs.Runs.{streams_over, RanScript, RunEnds, ScriptEnds, SeededEnds}
@@ -51,16 +52,17 @@ done_right Honest Right (Err WriteFault) done right so = absurd cc
 
 pub right_over : {D W : Type 0} (g : Ghosts D) (script : Option (List ℕ)) (contents : W → Option (List ℕ)) (writer writer_now : Fused W)
     (disk disk_now : D) (exit : ExitKind) → SeededEnds g script contents writer writer_now disk disk_now exit → IsTrue (g.honest disk)
-    → exit ≡ Done → WritesRight (streams_over contents script writer writer_now)
+    → exit ≡ Done → Wrote (streams_over contents script writer writer_now) IsRightOutput
 right_over g script contents writer writer_now disk disk_now exit (inl (seed, ran)) so done =
-    done_right (IsTrue (g.honest disk)) (WritesRight (streams_over contents script writer writer_now)) ran.run (sym ran.ended ∙ done)
+    done_right (IsTrue (g.honest disk)) (Wrote (streams_over contents script writer writer_now) IsRightOutput) ran.run
+    (sym ran.ended ∙ done)
     ran.headline so
 right_over g script contents writer writer_now disk disk_now exit (inr (faulty, same)) so done =
     let e : Fault ≡ Done = sym faulty ∙ done in absurd cc
 
 pub right_in_memory : {F W : Type 0} (in_memory : Bool) (script : Option (List ℕ)) (contents : W → Option (List ℕ))
     (writer writer_now : Fused W) (exit : ExitKind) → ScriptEnds F in_memory script contents writer writer_now exit → in_memory ≡ true
-    → exit ≡ Done → WritesRight (streams_over contents script writer writer_now)
+    → exit ≡ Done → Wrote (streams_over contents script writer writer_now) IsRightOutput
 right_in_memory in_memory script contents writer writer_now exit (inl (seed, disk, disk_now, same, ran)) here done =
     right_over command_tapes script contents writer writer_now disk disk_now exit (inl (seed, ran)) (honest_in_memory disk ∙ same ∙ here)
     done

@@ -16,9 +16,10 @@ use Rattle.refusals.specs.declared.error.RunError.TheVariants.{WriteFault}
 use Rattle.refusals.specs.declared.refusal.Refusal.TheVariants.{Run}
 use Rattle.replies.specs.declared.reply.Reply.TheVariants.{Refused}
 use Rattle.script_machine.specs.Exact.{WritesExactly}
-use Rattle.script_machine.specs.Headline.{Streams, WritesRight, streams}
+use Rattle.script_machine.specs.Headline.{Promise}
 use Rattle.script_machine.specs.Output.{tells_write_fault}
 use Rattle.script_machine.specs.Running.{Runs, RunsOver}
+use Rattle.script_machine.specs.Streams.{Streams, streams}
 use Rattle.command_streams.specs.Disks.{command_tapes, is_in_memory}
 use Rattle.command_streams.specs.Stopping.{RepliesRefused}
 
@@ -28,7 +29,7 @@ pub record RunEnds {D I W : Type 0} (g : Ghosts D) (seed : Seed) (remaining : I 
     (reader reader_now : Fused I) (writer writer_now : Fused W) (disk disk_now : D) (exit : ExitKind) : Type 0 where
   pub run : Result Outcome RunError
   pub ended : exit ≡ run_ending run
-  pub headline : OnOk run (IsTrue (g.honest disk) → WritesRight (streams remaining contents reader writer writer_now))
+  pub headline : Promise (g.honest disk) (streams remaining contents reader writer writer_now) run
   pub runs : Runs g seed remaining contents reader reader_now writer writer_now disk disk_now run
 
 -- what a run reads and writes, of a script that a reader has left
@@ -41,7 +42,7 @@ pub record RanScript {D W : Type 0} (g : Ghosts D) (seed : Seed) (script : Optio
     (writer writer_now : Fused W) (disk disk_now : D) (exit : ExitKind) : Type 0 where
   pub run : Result Outcome RunError
   pub ended : exit ≡ run_ending run
-  pub headline : OnOk run (IsTrue (g.honest disk) → WritesRight (streams_over contents script writer writer_now))
+  pub headline : Promise (g.honest disk) (streams_over contents script writer writer_now) run
   pub exact : OnOk run (IsTrue (g.honest disk) → WritesExactly (streams_over contents script writer writer_now))
   pub any_disk : RunsOver g seed disk disk_now (streams_over contents script writer writer_now) run
   pub write_fault : FailsAsTold writer writer_now (tells_write_fault run)

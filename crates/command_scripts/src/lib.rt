@@ -6,7 +6,8 @@ ghost use Rattle.replies.specs.Text.{said_text};
 ghost use Rattle.replies.specs.declared.ending.ExitKind.TheVariants.{Done};
 ghost use Rattle.replies.specs.declared.reply.Reply.TheVariants.{Refused};
 ghost use Rattle.script_io.specs.Fused.{written};
-ghost use Rattle.script_machine.specs.Headline.{WritesRight};
+ghost use Rattle.script_machine.specs.Headline.{IsRightOutput};
+ghost use Rattle.script_machine.specs.Streams.{Wrote};
 ghost use Rattle.command_streams.specs.Stopping.{RepliesRefused};
 ghost use Rattle.command_scripts.specs.Runs.{streams_over, RunEnds, ScriptEnds, SeededEnds};
 
@@ -205,7 +206,7 @@ pub fn run_script_over<
     ensures ends { SeededEnds D.TapeDisk (I.remaining reader.old) W.contents streams.old.writer.now streams.new.writer.now disk.old disk.new
         result }
     ensures right { IsTrue (D.TapeDisk.honest disk.old) → result ≡ Done →
-        WritesRight (streams_over W.contents (I.remaining reader.old) streams.old.writer.now streams.new.writer.now) }
+        Wrote (streams_over W.contents (I.remaining reader.old) streams.old.writer.now streams.new.writer.now) IsRightOutput }
 {
     match system_seed(rt) {
         Ok(seed) => {
@@ -237,7 +238,7 @@ pub fn run_script<R: Files + AllocGlobal + RandomSource, I: Read, W: Write, E: W
     ensures ends { ScriptEnds R.File (is_none spill.entry) (I.remaining reader.old) W.contents streams.old.writer.now streams.new.writer.now
         result }
     ensures right { is_none spill.entry ≡ true → result ≡ Done →
-        WritesRight (streams_over W.contents (I.remaining reader.old) streams.old.writer.now streams.new.writer.now) }
+        Wrote (streams_over W.contents (I.remaining reader.old) streams.old.writer.now streams.new.writer.now) IsRightOutput }
 {
     let mut disk = match open_disk(rt, spill) {
         Ok(disk) => disk,

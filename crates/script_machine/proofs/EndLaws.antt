@@ -19,14 +19,15 @@ use Rattle.script_io.specs.declared.input.InputError.TheVariants as input
 use Rattle.replies.specs.declared.ending.Outcome.{Outcome}
 use Rattle.refusals.specs.declared.error.RunError.{RunError}
 use Rattle.refusals.specs.declared.error.RunError.TheVariants as stop
-use Rattle.script_machine.proofs.Words.{AreWritten, Command, DiskFrame, ExecutesAllBut, Works, WorksThrough, empty, exact_wording}
+use Rattle.script_machine.proofs.Words.{Command, DiskFrame, Works, WorksThrough}
 use Rattle.script_machine.proofs.Words.{run_error}
 use Rattle.script_machine.specs.Exact.{IsExactOutput, WritesExactly}
-use Rattle.script_machine.proofs.RunLaws.{output_lengths, ran_none, right_of_exact, stops_short, writes_all, writes_front, writes_some}
-use Rattle.script_machine.specs.Headline.{IsRightOutput, Streams, WritesRight, commands_in}
+use Rattle.script_machine.proofs.RunLaws.{answered_of_exact, output_lengths, ran_none, stops_short, writes_all, writes_front, writes_some}
+use Rattle.script_machine.specs.Headline.{IsRightOutput, Promise, commands_in}
 use Rattle.script_machine.specs.Output.{Ends, KeepsUnread, StopsAt, WritesAll, disk_over, tells_read_fault, tells_write_fault}
 use Rattle.script_machine.specs.Running.{RunsOver}
-use Rattle.script_machine.specs.Text.{Wording, joined}
+use Rattle.script_machine.specs.Streams.{Streams, Wrote}
+use Rattle.script_machine.specs.Text.{joined}
 
 -- what holds of an error that it is passed on as holds of the result
 pub passed_on : {T E : Type 0} (result : Result T E) (e : E) (P : Result T E → Type 0) → IsErrAnd result (λ x. x ≡ e) → P (Err e) → P result
@@ -196,7 +197,7 @@ writes_exactly g seed before after streams (Ok outcome) runs = λ so. go so stre
               texts = all.texts;
               each = lengths.0;
               each_text = lengths.1;
-              right = λ front. right_of_exact (take front (commands_in script)) (take front all.replies) (take front all.texts)
+              answered = λ front. answered_of_exact (take front (commands_in script)) (take front all.replies) (take front all.texts)
                   (all.output.right so front);
               whole = refl;
             };
@@ -205,18 +206,17 @@ writes_exactly g seed before after streams (Ok outcome) runs = λ so. go so stre
         )
 
 -- so it wrote a right one
-pub exact_is_right : (streams : Streams) → WritesExactly streams → WritesRight streams
+exact_is_right : (streams : Streams) → WritesExactly streams → Wrote streams IsRightOutput
 exact_is_right streams = go streams.script
   where
     go : (script : Option (List ℕ)) → IfSome script (λ s. (output : List ℕ) × Appends streams.old streams.new output
         × IsExactOutput s output)
-        → IfSome script (λ s. (wording : Wording) × (output : List ℕ) × Appends streams.old streams.new output
-        × IsRightOutput wording s output)
+        → IfSome script (λ s. (output : List ℕ) × Appends streams.old streams.new output × IsRightOutput s output)
     go None wrote = tt
-    go (Some script) wrote = (exact_wording, wrote.0, wrote.1, wrote.2.is_right)
+    go (Some script) wrote = (wrote.0, wrote.1, wrote.2.is_right)
 
-pub writes_right : {D : Type 0} (g : Ghosts D) (seed : Seed) (before after : D) (streams : Streams) (result : Result Outcome RunError)
-    → RunsOver g seed before after streams result → OnOk result (IsTrue (g.honest before) → WritesRight streams)
-writes_right g seed before after streams (Err e) runs = tt
-writes_right g seed before after streams (Ok outcome) runs = λ so.
+pub keeps_promise : {D : Type 0} (g : Ghosts D) (seed : Seed) (before after : D) (streams : Streams) (result : Result Outcome RunError)
+    → RunsOver g seed before after streams result → Promise (g.honest before) streams result
+keeps_promise g seed before after streams (Err e) runs = tt
+keeps_promise g seed before after streams (Ok outcome) runs = λ so.
     exact_is_right streams (writes_exactly g seed before after streams (Ok outcome) runs so)

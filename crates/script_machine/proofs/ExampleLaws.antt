@@ -1,6 +1,6 @@
 -- README's first script: its commands, their replies and texts, and that there are no others.
-use Rattle.std.specs.Prelude.{◌≡◌, ◌≤◌, refl, ℕ, pos, true, false, nat_lt, List, [], ◌∷◌, ◌++◌, length, take, codes, All, Contains}
-use Rattle.std.specs.Prelude.{FitsSigned, Some, None, Ok}
+use Rattle.std.specs.Prelude.{◌≡◌, ◌≤◌, refl, ℕ, zero, suc, pos, true, false, nat_lt, List, [], ◌∷◌, ◌++◌, length, take, codes, All}
+use Rattle.std.specs.Prelude.{Contains, FitsSigned, Some, None, Ok}
 use Rattle.std.specs.Int.{w64}
 use Rattle.std.specs.List.{AllByRecursion, list_all}
 use Rattle.std.proofs.Common.{◌∙◌, ap, sym, subst, arith, inl, lit<, lit≤}
@@ -26,11 +26,13 @@ use Rattle.script_machine.proofs.AgreementLaws.{is_world}
 use Rattle.script_machine.proofs.BatchLaws.{one_fed}
 use Rattle.script_machine.proofs.Reasons.{exactly}
 use Rattle.script_machine.proofs.ReplyLaws.{one_reply}
-use Rattle.script_machine.proofs.RunLaws.{front_right, right_fronts, right_of_exact}
+use Rattle.script_machine.proofs.RunLaws.{answered_of_exact, front_right, right_fronts}
 unfoldable use Rattle.script_machine.proofs.RunLaws.{RightAlong}
 use Rattle.script_machine.proofs.Words.{Accepts, AgreesAt, AgreesWith, AreExact, As, As_nothing, Bigint_kind, Checked, Command, Exactly}
 use Rattle.script_machine.proofs.Words.{Fed, FeedAgrees, For_fault, For_memory, IsBatch, IsOfColumns, IsReply, IsSchemaText, IsWorld}
-use Rattle.script_machine.proofs.Words.{Knowledge, Reads, Record, Rightly, Row, State, World, after, exact_wording, is_refused}
+use Rattle.script_machine.proofs.Words.{Knowledge, Reads, Record, As_defined, Row, State, World, after, is_refused, request_of}
+use Rattle.script_machine.proofs.Words.{TellsWhy}
+unfoldable use Rattle.script_machine.proofs.Words.{Along}
 use Rattle.script_machine.proofs.Words.{kinds, learn, meaning, nothing, parsing, start, world_of}
 use Rattle.script_machine.specs.Example.{HasFirstOutput, first_output, first_script}
 use Rattle.script_machine.specs.Exact.{IsExactOutput}
@@ -299,10 +301,10 @@ unfolding digits fields_text is_blank
 table_is = refl
 
 answer_is : (world : World) → world 0 1 ≡ Some oslo_rows → world 0 2 ≡ Some bergen_rows
-    → reply_text exact_wording world (machine.Answered first_query both) ≡ answer_line
+    → reply_text world (machine.Answered first_query both) ≡ answer_line
 answer_is world one two = ap answer_over_rows (rows_known world one two) ∙ table_is
 
-query_line : (world : World) → reply_text exact_wording world (machine.Has_query first_query)
+query_line : (world : World) → reply_text world (machine.Has_query first_query)
     ≡ query_told_again
 query_line world = refl
 
@@ -311,21 +313,21 @@ query_line world = refl
 along : (world : World) → RightAlong world start first_commands first_replies first_texts
 unfolding RightAlong request_of is_utf8 chars lib.Utf8.encode digits
 along world = λ a. (
-  Rightly columns_told,
+  As_defined columns_told,
   refl,
   λ b. (
-    Rightly query_told,
+    As_defined query_told,
     sym (query_line world),
     λ c. (
-      Rightly north_made,
+      As_defined north_made,
       refl,
       λ d. (
-        Rightly bergen_taken,
+        As_defined bergen_taken,
         refl,
         λ e. (
-          Rightly oslo_taken,
+          As_defined oslo_taken,
           refl,
-          λ f. (Rightly north_answered, sym (answer_is world (e.1 oslo oslo_is) (d.1 bergen bergen_is)), tt),
+          λ f. (As_defined north_answered, sym (answer_is world (e.1 oslo oslo_is) (d.1 bergen bergen_is)), tt),
         ),
       ),
     ),
@@ -343,7 +345,7 @@ first_right = record {
     texts = first_texts;
     each = ap length (sym commands_are);
     each_text = refl;
-    right = λ front. right_of_exact (take front (commands_in first_script)) (take front first_replies) (take front first_texts)
+    answered = λ front. answered_of_exact (take front (commands_in first_script)) (take front first_replies) (take front first_texts)
         (exact_fronts front);
     whole = refl;
   };
@@ -379,7 +381,7 @@ agrees_read holds accepting reply agrees (As_nothing none why says) = subst (Agr
 -- a reply that is no refusal is the exact one
 one_right : (old : State) (request : Request) (owned : List Record) (reply wanted : Reply) → IsReply Exactly old request owned reply
     → is_refused reply ≡ false → Exactly old request owned wanted → reply ≡ wanted
-one_right old request owned reply wanted (Rightly is) ok exact = one_reply old request owned reply wanted is exact
+one_right old request owned reply wanted (As_defined is) ok exact = one_reply old request owned reply wanted is exact
 one_right old request owned reply wanted (For_memory is) ok exact = absurd (true≢false (sym (ap is_refused is) ∙ ok))
 one_right old request owned reply wanted (For_fault uses is) ok exact = absurd (true≢false (sym (ap is_refused is) ∙ ok))
 
@@ -397,7 +399,7 @@ pub record Left (later : State) (cs : List Command) (ts : List (List ℕ)) (text
 next : (old : State) (request : Request) (c : Command) (cs : List Command) (wanted : Reply) (text : List ℕ) (xs : List Reply)
     (ts : List (List ℕ)) → request_of c.head ≡ request
     → ((reply : Reply) → AgreesAt first_world old request c.owned reply) → Exactly old request c.owned wanted
-    → reply_text exact_wording first_world wanted ≡ text
+    → reply_text first_world wanted ≡ text
     → RightAlong first_world old (c ∷ cs) xs ts → NoneRefused xs → Left (after old wanted) cs ts text
 unfolding RightAlong
 next old request c cs wanted text (x ∷ xs) (t ∷ ts) asks agrees exact says right sound =
@@ -409,7 +411,7 @@ next old request c cs wanted text (x ∷ xs) (t ∷ ts) asks agrees exact says r
       texts = ts;
       right = subst (λ y. RightAlong first_world (after old y) cs xs ts) same here.2;
       sound = sound.1;
-      whole = ap (λ u. u ++ joined ts) (here.1 ∙ ap (reply_text exact_wording first_world) same ∙ says);
+      whole = ap (λ u. u ++ joined ts) (here.1 ∙ ap (reply_text first_world) same ∙ says);
     }
 next old request c cs wanted text [] ts asks agrees exact says right sound = absurd right
 next old request c cs wanted text (x ∷ xs) [] asks agrees exact says right sound = absurd right
@@ -514,13 +516,45 @@ module _ (xs : List Reply) (ts : List (List ℕ)) (right : RightAlong first_worl
       ∙ ap (λ l. codes "folded upto 2\n" ++ l) (behind_answer.whole
       ∙ ap (λ l. answer_line ++ l) (none_left with_oslo behind_answer.replies behind_answer.texts behind_answer.right))))))
 
+-- a reply that is no refusal needs no reason
+tells_none : (old : State) (request : Request) (owned : List Record) (reply : Reply) → is_refused reply ≡ false
+    → TellsWhy old request owned reply
+tells_none old (ask.Columns text) owned (machine.Refused why) sound = absurd (true≢false sound)
+tells_none old (ask.Query text) owned (machine.Refused why) sound = absurd (true≢false sound)
+tells_none old (ask.Feed name origin number told) owned (machine.Refused why) sound = absurd (true≢false sound)
+tells_none old request owned reply sound = tt
+
+exact_reply : (old : State) (request : Request) (owned : List Record) (reply : Reply) → is_refused reply ≡ false
+    → IsReply machine.Replies old request owned reply → IsReply Exactly old request owned reply
+exact_reply old request owned reply sound (As_defined is) = As_defined (is, tells_none old request owned reply sound)
+exact_reply old request owned reply sound (For_memory is) = For_memory is
+exact_reply old request owned reply sound (For_fault uses is) = For_fault uses is
+
+exact_if_none_refused : (old : State) (cs : List Command) (xs : List Reply) → AllByRecursion (λ reply. is_refused reply ≡ false) xs
+    → Along (IsReply machine.Replies) old cs xs → Along (IsReply Exactly) old cs xs
+unfolding Along
+exact_if_none_refused old [] [] sound all = tt
+exact_if_none_refused old (c ∷ cs) (x ∷ xs) sound all =
+    (exact_reply old (request_of c.head) c.owned x sound.0 all.0, exact_if_none_refused (after old x) cs xs sound.1 all.1)
+exact_if_none_refused old [] (x ∷ xs) sound all = absurd all
+exact_if_none_refused old (c ∷ cs) [] sound all = absurd all
+
+taken : (P : Reply → Type 0) (n : ℕ) (xs : List Reply) → AllByRecursion P xs → AllByRecursion P (take n xs)
+taken P zero xs all = tt
+taken P (suc n) [] all = tt
+taken P (suc n) (x ∷ xs) all = (all.0, taken P n xs all.1)
+
 pub has_first_output : HasFirstOutput
 has_first_output = record {
   right = first_right;
-  only = λ output is sound.
-      let given = is.is_right in
+  only = λ output given sound.
       let fronts : (front : ℕ) → AreExact (take front (commands_in first_script)) (take front given.replies) (take front given.texts) =
-      λ front history keeps. (is.tells front history keeps, (given.right front history keeps).1) in
+      λ front history keeps.
+      let right = given.answered front history keeps in (
+        exact_if_none_refused start (take front (commands_in first_script)) (take front given.replies)
+            (taken (λ reply. is_refused reply ≡ false) front given.replies sound) right.0,
+        right.1,
+      ) in
       let right : RightAlong first_world start (commands_in first_script) given.replies given.texts =
       right_fronts first_world start (commands_in first_script) given.replies given.texts given.each given.each_text
       (λ front. fronts front first_world) in

@@ -11,3 +11,5 @@ pub mod SomeReply
 pub mod SameLaws
 pub mod AgreementLaws
 pub mod ExampleLaws
+pub mod ClaimLaws
+pub mod QuestionLaws

@@ -2,7 +2,7 @@
 use Rattle.std.specs.Prelude.{◌≡◌, ◌⊎◌, refl, ℕ, List, [], Option, Some, None, IfSome, unwrap_or}
 use Rattle.std.proofs.Common.{ap, sym, subst, inl, inr, ◌∙◌}
 use Rattle.script_machine.proofs.Words.{Accepts, Checked, Column, Exactly, Fed, IsBatch, IsNoBatch, IsNoQuery, IsReply, IsSchemaText}
-use Rattle.script_machine.proofs.Words.{Knowledge, Reads, As, As_nothing, Record, Refusal, Rightly, State, TellsWhy, kinds, known_list}
+use Rattle.script_machine.proofs.Words.{Knowledge, Reads, As, As_nothing, Record, Refusal, As_defined, State, TellsWhy, kinds, known_list}
 use Rattle.script_machine.proofs.Words.{limit_reply, replica_reply, reply_of}
 use Rattle.group_parser.specs.Lemmas.ParseLaws.{not_both}
 use Rattle.script_commands.specs.Commands as ask
@@ -171,7 +171,7 @@ exactly old request owned reply r = (go request r, tells_why old request owned r
 
 pub rightly : {old : State} {request : Request} {owned : List Record} {reply : Reply} → Replies old request owned reply
     → IsReply Exactly old request owned reply
-rightly {old = old} {request = request} {owned = owned} {reply = reply} r = Rightly (exactly old request owned reply r)
+rightly {old = old} {request = request} {owned = owned} {reply = reply} r = As_defined (exactly old request owned reply r)
 
 -- ---- and the other way round
 

@@ -9,8 +9,8 @@ use Rattle.std.proofs.lemmas.Grind.{flat_map-append}
 use Rattle.std.specs.Io.KnownBytes.{Appends}
 use Rattle.std.proofs.KnownBytes.{Appends-nil, Appends-trans}
 use Rattle.script_machine.proofs.Words.{DiskFrame, World, Record, Command, request_of, State}
-use Rattle.script_machine.proofs.Words.{AllMayRead, AreExact, Exactly, Refused, Run, Step, Along, MayReply, exact_wording}
-use Rattle.script_machine.proofs.Words.{IsReply, Agrees, AgreesAt, As_always, For_fault, For_memory, Rightly, start, after}
+use Rattle.script_machine.proofs.Words.{AllMayRead, AreExact, Exactly, Refused, Run, Step, Along, MayReply}
+use Rattle.script_machine.proofs.Words.{IsReply, Agrees, AgreesAt, As_always, For_fault, For_memory, As_defined, start, after}
 use Rattle.script_machine.proofs.Words.{is_refused, is_fault, line}
 use Rattle.script_machine.proofs.Words.{refusal_name, said_text, is_refusal, is_tape_fault, faults_in, Store, empty, Represents, FitsWorld}
 use Rattle.script_machine.proofs.Words.{Answers, Steps, Executes, Executed, ExecutesAllBut, AreWritten, IsSaid, StopsInLast, said_texts}
@@ -21,7 +21,7 @@ use Rattle.script_io.specs.Output.{StopsShort}
 use Rattle.script_io.specs.OutputLaws.{short-first, short-second}
 use Rattle.script_commands.specs.Commands.{Request, command_at, commands_of, owned_by}
 use Rattle.script_commands.specs.declared.command.Command as read
-use Rattle.script_machine.specs.Headline.{AreRight}
+use Rattle.script_machine.specs.Headline.{AreAnswered}
 use Rattle.script_machine.specs.Machine as machine
 use Rattle.script_machine.specs.Machine.{Reply, Replies}
 use Rattle.script_machine.specs.Text.{joined, reply_text, replies_text}
@@ -77,7 +77,7 @@ reads_append (x ∷ xs) ys [] us p q = absurd p
 unfoldable pub RightAlong : World → State → List Command → List Reply → List (List ℕ) → Type 0
 RightAlong world old [] [] [] = Unit {0}
 RightAlong world old (c ∷ cs) (x ∷ xs) (t ∷ ts) = AgreesAt world old (request_of c.head) c.owned x
-    → IsReply Exactly old (request_of c.head) c.owned x × (t ≡ reply_text exact_wording world x) × RightAlong world (after old x) cs xs ts
+    → IsReply Exactly old (request_of c.head) c.owned x × (t ≡ reply_text world x) × RightAlong world (after old x) cs xs ts
 RightAlong world old cs xs ts = ⊥
 
 right_append : (world : World) (old : State) (cs ds : List Command) (xs ys : List Reply) (ts us : List (List ℕ))
@@ -96,7 +96,7 @@ right_append world old (c ∷ cs) ds (x ∷ xs) ys [] us p q = absurd p
 -- then those of each front are right
 pub front_right : (world : World) (old : State) (cs : List Command) (xs : List Reply) (ts : List (List ℕ)) → RightAlong world old cs xs ts
     → (n : ℕ) → Agrees world old (take n cs) (take n xs)
-    → Along (IsReply Exactly) old (take n cs) (take n xs) × (joined (take n ts) ≡ replies_text exact_wording world (take n xs))
+    → Along (IsReply Exactly) old (take n cs) (take n xs) × (joined (take n ts) ≡ replies_text world (take n xs))
 unfolding RightAlong Along
 front_right world old cs xs ts right zero agrees = (tt, refl)
 front_right world old [] [] [] right (suc n) agrees = (tt, refl)
@@ -439,13 +439,13 @@ take_long (x ∷ xs) (suc n) e = ap (λ l. x ∷ l) (take_long xs n (omega (arit
 -- where a reply is given with its reason, it is right
 reasons_aside : (old : State) (request : Request) (owned : List Record) (reply : Reply) → IsReply Exactly old request owned reply
     → IsReply Replies old request owned reply
-reasons_aside old request owned reply (Rightly is) = Rightly is.0
+reasons_aside old request owned reply (As_defined is) = As_defined is.0
 reasons_aside old request owned reply (For_memory is) = For_memory is
 reasons_aside old request owned reply (For_fault uses is) = For_fault uses is
 
-pub right_of_exact : (commands : List Command) (replies : List Reply) (texts : List (List ℕ)) → AreExact commands replies texts
-    → AreRight exact_wording commands replies texts
-right_of_exact commands replies texts exact = λ history keeps.
+pub answered_of_exact : (commands : List Command) (replies : List Reply) (texts : List (List ℕ)) → AreExact commands replies texts
+    → AreAnswered commands replies texts
+answered_of_exact commands replies texts exact = λ history keeps.
     let is = exact history keeps in
     (along_weaker (IsReply Exactly) (IsReply Replies) reasons_aside start commands replies is.0, is.1)
 
@@ -468,20 +468,20 @@ right_whole disk commands replies texts is so =
 pub right_fronts : (world : World) (old : State) (cs : List Command) (xs : List Reply) (ts : List (List ℕ)) → length xs ≡ length cs
     → length ts ≡ length xs
     → ((n : ℕ) → Agrees world old (take n cs) (take n xs)
-    → Along (IsReply Exactly) old (take n cs) (take n xs) × (joined (take n ts) ≡ replies_text exact_wording world (take n xs)))
+    → Along (IsReply Exactly) old (take n cs) (take n xs) × (joined (take n ts) ≡ replies_text world (take n xs)))
     → RightAlong world old cs xs ts
 unfolding RightAlong Along
 right_fronts world old [] [] [] same same_texts fronts = tt
 right_fronts world old (c ∷ cs) (x ∷ xs) (t ∷ ts) same same_texts fronts = λ agrees.
     let first = fronts 1 (agrees, tt) in
-    let text : t ≡ reply_text exact_wording world x = append_cancel_right t (reply_text exact_wording world x) [] first.1 in (
+    let text : t ≡ reply_text world x = append_cancel_right t (reply_text world x) [] first.1 in (
       first.0.0,
       text,
       right_fronts world (after old x) cs xs ts (omega (arith, same)) (omega (arith, same_texts)) (λ n rest.
           let more = fronts (suc n) (agrees, rest) in (
             more.0.1,
-            append_cancel_left t (joined (take n ts)) (replies_text exact_wording world (take n xs)) (more.1
-                ∙ ap (λ l. l ++ replies_text exact_wording world (take n xs)) (sym text)),
+            append_cancel_left t (joined (take n ts)) (replies_text world (take n xs)) (more.1
+                ∙ ap (λ l. l ++ replies_text world (take n xs)) (sym text)),
           )),
     )
 right_fronts world old [] [] (t ∷ ts) same same_texts fronts = absurd (omega (arith, same_texts))

@@ -3,7 +3,7 @@ use Rattle.std.specs.Prelude.{◌≡◌, List, [], ◌∷◌, ℕ, refl, map, le
 use Rattle.std.proofs.Common.{sym, ap, inl, inr, arith}
 use Rattle.grouping_model.specs.Grouping.{part}
 use Rattle.script_machine.proofs.Words.{World, Knowledge, knows, prefix, early, count_up, origins, origin_rows, batch_rows, Checked}
-use Rattle.script_machine.proofs.Words.{packings, meaning, line, KnowTheSame, State, exact_wording, file_saved}
+use Rattle.script_machine.proofs.Words.{packings, meaning, line, KnowTheSame, State, file_saved}
 use Rattle.script_machine.proofs.Reasons.{answer_reply, known_reply, save_reply}
 use Rattle.grouping_model.specs.EarlyLaws.{early_are}
 use Rattle.grouping_model.specs.KnowledgeLaws.{same_knowledge}
@@ -23,7 +23,7 @@ same_set k = same_knowledge k.known k.known_there k.same
 
 pub same_answers : (here there : State) (a b : List ℕ) (world other : World) (r s : Reply) → KnowTheSame here there a b world other
     → r ≡ answer_reply here.query (here.replicas a) → s ≡ answer_reply there.query (there.replicas b)
-    → (reply_text exact_wording world r ≡ reply_text exact_wording other s) × (file_saved world r ≡ file_saved other s)
+    → (reply_text world r ≡ reply_text other s) × (file_saved world r ≡ file_saved other s)
 same_answers here there a b world other r s k one two =
     rw (
       one,
@@ -39,7 +39,7 @@ same_answers here there a b world other r s k one two =
 
 pub same_lists : (here there : State) (a b : List ℕ) (world other : World) (r s : Reply) → KnowTheSame here there a b world other
     → r ≡ known_reply (here.replicas a) → s ≡ known_reply (there.replicas b)
-    → (reply_text exact_wording world r ≡ reply_text exact_wording other s) × (file_saved world r ≡ file_saved other s)
+    → (reply_text world r ≡ reply_text other s) × (file_saved world r ≡ file_saved other s)
 same_lists here there a b world other r s k one two =
     rw (one, two, k.knows_here, k.knows_there, sym (same_set k)) (refl, refl)
 
@@ -92,7 +92,7 @@ same_file query known world other same = λ i. file_in Second query (map (λ ori
 pub same_files : (here there : State) (a b saved other_saved : List ℕ) (world other : World) (r s : Reply)
     → KnowTheSame here there a b world other
     → r ≡ save_reply here.query (here.replicas a) saved → s ≡ save_reply there.query (there.replicas b) other_saved
-    → (reply_text exact_wording world r ≡ reply_text exact_wording other s) × (file_saved world r ≡ file_saved other s)
+    → (reply_text world r ≡ reply_text other s) × (file_saved world r ≡ file_saved other s)
 same_files here there a b saved other_saved world other r s k one two =
     let files = same_file k.query k.known world other k.rows in
     rw (one, two, k.asked, k.asked_there, k.knows_here, k.knows_there, sym (same_set k)) (

@@ -17,9 +17,10 @@ use Rattle.script_machine.proofs.Words.{meaning, Accepts, known_list, reply_of, 
 use Rattle.script_machine.proofs.Words.{IsBatch, IsNoBatch, IsNoQuery, Takes, IsOfBatch, IsOtherBatch, State, Exactly}
 use Rattle.script_machine.proofs.Words.{limit_reply, replica_reply, IsReply, FeedAgrees, uses_tapes, with_replica, line, known_text}
 use Rattle.script_machine.proofs.Words.{answer_text, said_text, IsHeldAt, TellsDisagreement, Store, IsStore, IsFileOf, AreSaved}
+use Rattle.script_machine.proofs.Words.{IsReplicaFile}
 use Rattle.script_machine.proofs.Words.{IsFitting, Represents, FitsWorld, Answers, Steps, JoinRefused, JoinsNames, Updates, Files}
 use Rattle.script_machine.proofs.Words.{replica_at, saved_at, knowledge_of, limit_out_of_range, columns_refusal, merge_refusal, Refusal}
-use Rattle.script_machine.proofs.Words.{Becomes, KeepsAll, Rightly, TakesFed, For_memory, For_fault, As_always}
+use Rattle.script_machine.proofs.Words.{Becomes, KeepsAll, As_defined, TakesFed, For_memory, For_fault, As_always}
 use Rattle.script_machine.proofs.Words.{For_disagreement, For_damage}
 use Rattle.script_machine.proofs.Reasons.{ColumnsReply, FeedReply, QueryReply, Replies, answer_reply, exactly, known_reply, load_reply}
 use Rattle.script_machine.proofs.Reasons.{merge_reply, rightly, save_reply}
@@ -28,6 +29,7 @@ use Rattle.query_checks.specs.Spelling.{spelling}
 use Rattle.having_filter.specs.Kept.{by_names}
 use Rattle.grouping_model.specs.declared.delivered.Delivered.{Delivered}
 use Rattle.summary_codec.specs.Reading.{IsSaved}
+use Rattle.replica_merge.specs.Lemmas.EmptyLaws.{empty_fits}
 use Rattle.replica_merge.specs.Results.{MergesHeld}
 use Rattle.summary_codec.specs.WorldFile.{world_file}
 use Rattle.script_commands.specs.Commands as ask
@@ -303,17 +305,10 @@ store_asked store columns query is told none over =
 
 -- ---- replicas
 
--- a replica that knows nothing fits each world
-fits_nothing : (query : Checked) (world : World) → Fits world (record { query = query; parts = [] })
-fits_nothing query world origin =
-    record {
-      there = λ n low high. absurd (omega (arith, low, high));
-      run = tt;
-      early = λ n rows found. absurd (none_is found);
-    }
-  where
-    none_is : {X : Type 0} {x : X} → ◌≡◌ {A = Option X} None (Some x) → ⊥
-    none_is e = true≢false (sym (ap is_some e))
+-- a file that is there is that of a replica
+pub file_there : (store : Store) (saved bytes : List ℕ) → IsStore store → saved_at store saved ≡ Some bytes → IsReplicaFile bytes
+file_there store saved bytes is there =
+    let file : IsFileOf store.query bytes = subst (λ o. IfSome o (IsFileOf store.query)) there (is.files saved) in (file.held, file.is)
 
 some_there : {X : Type 0} (o : Option X) → is_some o ≡ true → (x : X) × (o ≡ Some x)
 some_there None e = absurd (true≢false (sym e))
@@ -593,8 +588,8 @@ module _ {honest : Bool} where
             (inl (record { what = columns; is_so = is; says = refl }))) in
             record {
               said = machine.Has_columns columns;
-              may = As_always (Rightly reply);
-              strict = λ right world f agrees. Rightly reply;
+              may = As_always (As_defined reply);
+              strict = λ right world f agrees. As_defined reply;
               represents = record { columns = refl; query = r.query; replicas = r.replicas; saved = r.saved; limit = r.limit };
               is = tt;
               fits = λ right world f agrees. record { of_columns = agrees.0 reply.0; fit = f.fit; files = f.files };
@@ -718,7 +713,7 @@ module _ {honest : Bool} where
           represents = represents_updated state old new name.now (record { query = query; parts = [] }) nothing r u refl;
           is = tt;
           fits = λ right world f agrees. fits_updated world old new name.now (record { query = query; parts = [] }) u
-              (fits_nothing query world) f;
+              (empty_fits query world) f;
           reads = λ world. refl;
           text = λ right world f agrees. refl;
         };

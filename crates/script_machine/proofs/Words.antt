@@ -27,14 +27,14 @@ unfoldable pub use Rattle.script_machine.specs.Executing.{Executed}
 pub use Rattle.script_machine.specs.Executing.{AreWritten, Executes, ExecutesAllBut, StopsInLast, Works, WorksThrough, said_texts}
 pub use Rattle.script_machine.specs.Joining.{JoinRefused, JoinsNamed, JoinsNames}
 pub use Rattle.script_machine.specs.Limits.{FeedWorked, WorksAtLimit, setting_at}
-pub use Rattle.script_machine.specs.AnyDisk.{MayReply, Run, As_always, For_damage, For_disagreement, is_fault, is_refused}
+pub use Rattle.script_machine.specs.AnyDisk.{MayReply, Run, As_always, For_damage, For_disagreement, is_fault}
 unfoldable pub use Rattle.script_machine.specs.AnyDisk.{AllMayRead}
 pub use Rattle.script_machine.specs.Exact.{AreExact, ExactRun, Exactly, TellsWhy}
 unfoldable pub use Rattle.script_machine.specs.Machine.{Along}
-pub use Rattle.script_machine.specs.Machine.{Agrees, AgreesAt, AgreesWith, FeedAgrees, IsReply, Reads, Refused, State, Step, StrictRun}
-pub use Rattle.script_machine.specs.Machine.{As, As_nothing, For_fault, For_memory, Rightly, after, limit_reply, replica_reply, start}
-pub use Rattle.script_machine.specs.Machine.{uses_tapes, with_replica}
-pub use Rattle.script_machine.specs.Wording.{exact_wording, file_saved}
-pub use Rattle.script_machine.specs.Views.{Answers, AreSaved, Files, FitsWorld, IsFileOf, IsFitting, IsSaid, IsStore}
+pub use Rattle.script_machine.specs.Machine.{Agrees, AgreesAt, AgreesWith, FeedAgrees, IsReply, Reads, Refused, State, Step}
+pub use Rattle.script_machine.specs.Machine.{As, As_nothing, For_fault, For_memory, As_defined, after, limit_reply, replica_reply, start}
+pub use Rattle.script_machine.specs.Machine.{is_refused, uses_tapes, with_replica}
+pub use Rattle.script_machine.specs.Text.{file_saved}
+pub use Rattle.script_machine.specs.Views.{Answers, AreSaved, Files, FitsWorld, IsFileOf, IsFitting, IsReplicaFile, IsSaid, IsStore}
 pub use Rattle.script_machine.specs.Views.{Becomes, KeepsAll, Loads, Makes, Represents, Saves, Steps, Store, TakesFed, TakesIn, Updates}
 pub use Rattle.script_machine.specs.Views.{empty, knowledge_of, replica_at, saved_at}

@@ -10,8 +10,7 @@ use Rattle.grouping_model.specs.World.{World, Batch, Knowledge, knows}
 use Rattle.query_checks.specs.Checks.{Checked}
 use Rattle.refusals.specs.Batches.{Fed, IsBatch}
 use Rattle.script_machine.specs.Machine.{State, Reply, Has_columns, Step, Along, Replies, after}
-use Rattle.script_machine.specs.Wording.{exact_wording, file_saved}
-use Rattle.script_machine.specs.Text.{reply_text}
+use Rattle.script_machine.specs.Text.{file_saved, reply_text}
 
 -- the state after replies, one after the other
 abbrev pub after_all : State → List Reply → State
@@ -30,11 +29,17 @@ pub record KnowTheSame (here there : State) (a b : List ℕ) (world other : Worl
   pub same : (batch : Batch) → knows known batch ≡ knows known_there batch
   pub rows : (origin number : ℕ) → IsTrue (knows known (origin, number)) → world origin number ≡ other origin number
 
+-- two requests ask the same of two replicas of these names: for the answer, for what is known, or to be saved
+pub data AskAlike (a b : List ℕ) (ask asked : Request) : Type 0 where
+  For_answers : ask ≡ Answer a → asked ≡ Answer b → AskAlike a b ask asked
+  For_lists : ask ≡ Known a → asked ≡ Known b → AskAlike a b ask asked
+  For_files : (saved other_saved : List ℕ) → ask ≡ Save a saved → asked ≡ Save b other_saved → AskAlike a b ask asked
+
 -- a request of one script and one of another print the same text, and save the same bytes if they save any
 abbrev pub SaysTheSame : (here there : State) (world other : World) (ask asked : Request) → Type 0
 SaysTheSame here there world other ask asked =
     (owned : List Record) (r s : Reply) → Replies here ask owned r → Replies there asked owned s
-    → (reply_text exact_wording world r ≡ reply_text exact_wording other s) × (file_saved world r ≡ file_saved other s)
+    → (reply_text world r ≡ reply_text other s) × (file_saved world r ≡ file_saved other s)
 
 -- two replicas print and save the same bytes: their answers, what they know, and their files, under any names
 pub record PrintTheSame (here there : State) (a b : List ℕ) (world other : World) : Type 0 where

@@ -11,7 +11,6 @@ use Rattle.refusals.specs.Refusals.{tells_fault}
 use Rattle.replies.specs.Text.{line, answer_text}
 use Rattle.refusals.specs.declared.refusal.Refusal.TheVariants.{OriginDisagrees, TapeDamaged}
 use Rattle.script_machine.specs.Exact.{Exactly}
-use Rattle.script_machine.specs.Wording.{exact_wording}
 use Rattle.script_machine.specs.Machine.{State, Reply, Took, Merged, Saved, Answered, Refused, Replies, IsReply, Along, uses_tapes}
 use Rattle.script_machine.specs.Text.{reply_text}
 
@@ -47,10 +46,6 @@ pub data MayReply (honest : Bool) (old : State) (request : Request) (owned : Lis
 abbrev pub Run : Bool → State → List Command → List Reply → Type 0
 Run honest = Along (MayReply honest)
 
-abbrev pub is_refused : Reply → Bool
-is_refused (Refused why) = true
-is_refused reply = false
-
 -- whether a reply tells that the tape disk failed
 abbrev pub is_fault : Reply → Bool
 is_fault (Refused why) = tells_fault why
@@ -61,7 +56,7 @@ is_fault reply = false
 abbrev pub MayRead : Reply → List ℕ → Type 0
 MayRead (Saved saved query known) text = (count : ℕ) × (text ≡ line (codes "saved ") (decimal count))
 MayRead (Answered query known) text = (rows : List (List Outcome)) × (text ≡ answer_text (length rows) (table_text (headers query) rows))
-MayRead reply text = (world : World) → text ≡ reply_text exact_wording world reply
+MayRead reply text = (world : World) → text ≡ reply_text world reply
 
 -- the same reply by reply
 unfoldable pub AllMayRead : List Reply → List (List ℕ) → Type 0

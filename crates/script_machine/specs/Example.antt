@@ -1,8 +1,10 @@
--- README's first script, and what the promise says of it: it has README's output, and no other. All of this is our own.
+-- README's first script, and what the promise says of it: README's output is right, and no other without a refusal is. All of this is
+-- our own.
 use Rattle.std.specs.Prelude.{ℕ, ◌≡◌, ◌++◌, false, List, codes}
 use Rattle.std.specs.List.{AllByRecursion}
-use Rattle.script_machine.specs.AnyDisk.{is_refused}
 use Rattle.script_machine.specs.Exact.{IsExactOutput}
+use Rattle.script_machine.specs.Headline.{IsRightOutput}
+use Rattle.script_machine.specs.Machine.{is_refused}
 
 -- the script, as in examples/first.script
 abbrev pub first_script : List ℕ
@@ -29,8 +31,8 @@ first_output =
     ++ codes "bergen,1,7\n"
     ++ codes "oslo,1,5\n"
 
--- this output is right to the byte, and it is the only one without a refusal
+-- this output is right, to the byte, and no other without a refusal is
 pub record HasFirstOutput : Type 0 where
   pub right : IsExactOutput first_script first_output
-  pub only : (output : List ℕ) (is : IsExactOutput first_script output)
-      → AllByRecursion (λ reply. is_refused reply ≡ false) is.is_right.replies → output ≡ first_output
+  pub only : (output : List ℕ) (is : IsRightOutput first_script output)
+      → AllByRecursion (λ reply. is_refused reply ≡ false) is.replies → output ≡ first_output

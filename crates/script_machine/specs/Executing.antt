@@ -13,9 +13,10 @@ use Rattle.refusals.specs.declared.error.RunError.{RunError}
 use Rattle.refusals.specs.declared.error.RunError.TheVariants.{InputTooLong, NoMemory, ReadFault, WriteFault}
 use Rattle.replies.specs.declared.reply.Reply.{Reply}
 use Rattle.script_machine.specs.Disagreements.{TellsDisagreement}
-use Rattle.script_machine.specs.Headline.{Streams, commands_in}
+use Rattle.script_machine.specs.Headline.{commands_in}
 use Rattle.script_machine.specs.Limits.{WorksAtLimit}
 use Rattle.script_machine.specs.Output.{LeavesSome}
+use Rattle.script_machine.specs.Streams.{Streams}
 use Rattle.script_machine.specs.Views.{Store, Steps, empty}
 
 -- a command that asks for this and owns these records is answered, over a tape disk. The reply and what is kept then are the machine's,

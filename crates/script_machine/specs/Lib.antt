@@ -1,7 +1,7 @@
 pub mod Headline
+pub mod Streams
 pub mod Machine
 pub mod Text
-pub mod Wording
 pub mod Exact
 pub mod AnyDisk
 pub mod Example

@@ -55,6 +55,11 @@ pub data Reply : Type 0 where
   -- nothing changed
   Refused : Refusal → Reply
 
+-- whether nothing changed
+abbrev pub is_refused : Reply → Bool
+is_refused (Refused why) = true
+is_refused reply = false
+
 -- a text or a batch is read: what it stands for is accepted; if it stands for nothing, it is refused, for some reason (Exact has it)
 pub data Reads {X : Type 0} (says : X → Type 0) (accepting : X → Reply) (reply : Reply) : Type 0 where
   As : (what : X) → says what → reply ≡ accepting what → Reads says accepting reply
@@ -117,11 +122,11 @@ uses_tapes request = false
 abbrev pub Step : Type 1
 Step = State → Request → List Record → Reply → Type 0
 
--- how a command may be answered: rightly, or by a refusal because memory ran out or the tape disk failed
-pub data IsReply (rightly : Step) (old : State) (request : Request) (owned : List Record) (reply : Reply) : Type 0 where
-  Rightly : rightly old request owned reply → IsReply rightly old request owned reply
-  For_memory : reply ≡ Refused NoMemory → IsReply rightly old request owned reply
-  For_fault : IsTrue (uses_tapes request) → reply ≡ Refused TapeFault → IsReply rightly old request owned reply
+-- how a command may be answered: as a step defines it, or by a refusal because memory ran out or the tape disk failed
+pub data IsReply (step : Step) (old : State) (request : Request) (owned : List Record) (reply : Reply) : Type 0 where
+  As_defined : step old request owned reply → IsReply step old request owned reply
+  For_memory : reply ≡ Refused NoMemory → IsReply step old request owned reply
+  For_fault : IsTrue (uses_tapes request) → reply ≡ Refused TapeFault → IsReply step old request owned reply
 
 -- a name has this value, and the others what they had
 abbrev pub with_replica : (List ℕ → Option Knowledge) → List ℕ → Knowledge → List ℕ → Option Knowledge
@@ -151,10 +156,6 @@ Along step old (command ∷ commands) (reply ∷ replies) =
     step old (request_of command.head) command.owned reply × Along step (after old reply) commands replies
 Along step old commands replies = ⊥
 
--- each command is answered rightly, or refused because memory ran out or by the tape disk
-abbrev pub StrictRun : State → List Command → List Reply → Type 0
-StrictRun = Along (IsReply Replies)
-
 -- a world has the given columns
 abbrev pub AgreesWith : World → Reply → Type 0
 AgreesWith world (Has_columns columns) = IsWorld (kinds columns) world
@@ -167,8 +168,8 @@ FeedAgrees world old (Feed name origin number told) owned =
     → world fed.origin fed.number ≡ Some fed.rows)
 FeedAgrees world old request owned = Unit {0}
 
--- a script agrees with a world that has the columns of its right replies, and each batch that is fed: then no origin gave a number to two
--- batches. Only right replies count
+-- a script agrees with a world that has the columns that its replies have told, and each batch that is fed: then no origin gave a number to
+-- two batches. Only replies by `Replies` count
 abbrev pub AgreesAt : World → Step
 AgreesAt world old request owned reply = (Replies old request owned reply → AgreesWith world reply) × FeedAgrees world old request owned
 

@@ -9,10 +9,11 @@ use Rattle.script_commands.specs.Commands.{Command}
 use Rattle.replies.specs.declared.ending.Outcome.{Outcome}
 use Rattle.refusals.specs.declared.error.RunError.{RunError}
 use Rattle.refusals.specs.declared.error.RunError.TheVariants.{InputTooLong, ReadFault, NoMemory, WriteFault}
-use Rattle.script_machine.specs.AnyDisk.{Run, AllMayRead, is_refused, is_fault}
+use Rattle.script_machine.specs.AnyDisk.{Run, AllMayRead, is_fault}
 use Rattle.script_machine.specs.Exact.{AreExact}
-use Rattle.script_machine.specs.Headline.{Streams, commands_in}
-use Rattle.script_machine.specs.Machine.{Reply, start}
+use Rattle.script_machine.specs.Headline.{commands_in}
+use Rattle.script_machine.specs.Machine.{Reply, is_refused, start}
+use Rattle.script_machine.specs.Streams.{Streams}
 use Rattle.script_machine.specs.Text.{joined}
 
 -- the tape disk while a run is made: whether it is honest, and how often it had failed before and after

@@ -11,8 +11,8 @@ use Rattle.replies.specs.declared.ending.Outcome.{Outcome}
 use Rattle.refusals.specs.declared.error.RunError.{RunError}
 use Rattle.script_machine.specs.Executing.{WorksThrough}
 use Rattle.script_machine.specs.Exact.{WritesExactly}
-use Rattle.script_machine.specs.Headline.{Streams, streams}
 use Rattle.script_machine.specs.Output.{Ends, disk_over, tells_read_fault, tells_write_fault}
+use Rattle.script_machine.specs.Streams.{Streams, streams}
 
 -- a run ended so, in the machine's words; each command had its effect, which says when a disagreement is reported, at which limit groups
 -- are spilled, and that the seed is this one from the first command to the last; and the disk is as honest as before, so another script

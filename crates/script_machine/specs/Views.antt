@@ -25,7 +25,6 @@ use Rattle.replies.specs.declared.showing.Format.TheVariants.{Csv}
 use Rattle.script_machine.specs.Machine as machine
 use Rattle.script_machine.specs.Machine.{State, IsReply, AgreesAt, after}
 use Rattle.script_machine.specs.Exact.{Exactly}
-use Rattle.script_machine.specs.Wording.{exact_wording}
 use Rattle.script_machine.specs.AnyDisk.{MayReply, MayRead}
 use Rattle.script_machine.specs.Text.{reply_text}
 
@@ -56,6 +55,10 @@ pub record IsFileOf (query : Option Checked) (bytes : List ℕ) : Type 0 where
   pub held : Held
   pub asked : query ≡ Some held.query
   pub is : IsSaved bytes held.query held.parts
+
+-- bytes are the file of one replica, whatever its query
+abbrev pub IsReplicaFile : List ℕ → Type 0
+IsReplicaFile bytes = (held : Held) × IsSaved bytes held.query held.parts
 
 -- the query is over the columns, and each replica and each file has it
 pub record IsStore (store : Store) : Type 0 where
@@ -146,7 +149,7 @@ pub record Answers (honest : Bool) (state : State) (request : Request) (owned : 
       → IsReply Exactly state request owned said
   pub fits : IsTrue honest → (world : World) → FitsWorld world old → AgreesAt world state request owned said → FitsWorld world new
   pub text : IsTrue honest → (world : World) → FitsWorld world old → AgreesAt world state request owned said → said_text reply
-      ≡ reply_text exact_wording world said
+      ≡ reply_text world said
 
 -- the replicas and the files stay
 pub record KeepsAll (old new : Store) : Type 0 where

@@ -1,14 +1,15 @@
 //! Runs a script.
 
-ghost use Rattle.std.specs.Prelude.{◌≡◌, ◌≤◌, ◌+◌, ℕ, length, IsTrue, OnOk};
+ghost use Rattle.std.specs.Prelude.{◌≡◌, ◌≤◌, ◌+◌, ℕ, length};
 ghost use Rattle.tape_disks.specs.Disk.{DiskFrame};
 ghost use Rattle.script_io.specs.Fused.{FailsAsTold, written};
 ghost use Rattle.script_commands.specs.Commands.{commands_of};
 ghost use Rattle.script_machine.specs.Views.{empty};
 ghost use Rattle.script_machine.specs.Executing.{Works};
-ghost use Rattle.script_machine.specs.Headline.{WritesRight, commands_in, streams};
+ghost use Rattle.script_machine.specs.Headline.{Promise, commands_in};
 ghost use Rattle.script_machine.specs.Running.{Runs};
 ghost use Rattle.script_machine.specs.Output.{tells_write_fault};
+ghost use Rattle.script_machine.specs.Streams.{streams};
 
 use crate::lines::Lines;
 use crate::session::Session;
@@ -121,8 +122,7 @@ pub fn run<R: Read, W: Write, D: TapeDisk>(
     disk: &mut D,
 ) -> Result<Outcome, RunError>
     // The promise: the output is right for the script.
-    ensures headline { OnOk result (IsTrue (D.TapeDisk.honest disk.old) → WritesRight
-        (streams R.remaining W.contents reader.old writer.old writer.new)) }
+    ensures headline { Promise (D.TapeDisk.honest disk.old) (streams R.remaining W.contents reader.old writer.old writer.new) result }
     // Beside it: what is read, the output to the byte, what holds over any disk, and that faults are reported where they are.
     ensures runs { Runs D.TapeDisk DEFAULT_SEED R.remaining W.contents reader.old reader.new writer.old writer.new disk.old disk.new
         result }
@@ -141,8 +141,7 @@ pub fn run_observed<R: Read, W: Write, O: Observer, D: TapeDisk>(
     disk: &mut D,
     seed: Seed,
 ) -> Result<Outcome, RunError>
-    ensures headline { OnOk result (IsTrue (D.TapeDisk.honest disk.old) → WritesRight
-        (streams R.remaining W.contents reader.old writer.old writer.new)) }
+    ensures headline { Promise (D.TapeDisk.honest disk.old) (streams R.remaining W.contents reader.old writer.old writer.new) result }
     ensures runs { Runs D.TapeDisk seed R.remaining W.contents reader.old reader.new writer.old writer.new disk.old disk.new result }
 {
     let script = read_input(alloc, reader, MAX_INPUT_LEN)?;

@@ -4,15 +4,16 @@ ghost use Rattle.std.specs.Prelude.{◌≡◌, IsTrue, List, Option, ℕ};
 ghost use Rattle.grouping_model.specs.declared.limits.TheConstants.{LAST_ORIGIN, LAST_NUMBER, MAX_ROWS, MAX_COLUMNS, MAX_KEYS, MAX_CALLS};
 ghost use Rattle.grouping_model.specs.declared.limits.TheConstants.{MAX_ITEMS, MAX_QUERY_LEN, DEEPEST_CONDITION, MAX_OPEN, MAX_NAME_LEN};
 ghost use Rattle.grouping_model.specs.declared.limits.TheConstants.{MAX_TEXT_LEN, MAX_INPUT_LEN};
+ghost use Rattle.grouping_model.specs.World.{World};
 ghost use Rattle.hash_agg.specs.declared.means.TheConstants.{MIN_LIMIT, MAX_LIMIT, DEFAULT_LIMIT};
 ghost use Rattle.script_io.specs.Output.{StopsShort};
 ghost use Rattle.script_io.specs.Records.{Record};
 ghost use Rattle.script_commands.specs.Commands.{Command, Request};
 ghost use Rattle.refusals.specs.Batches.{Fed};
-ghost use Rattle.script_machine.specs.Agreement.{OneBatchEach, AreAmong, world_of};
+ghost use Rattle.script_machine.specs.Agreement.{OneBatchEach, AreAmong, KnowTheSame, PrintTheSame, after_all, world_of};
 ghost use Rattle.script_machine.specs.Example.{HasFirstOutput};
 ghost use Rattle.script_machine.specs.Exact.{AreExact, Exactly};
-ghost use Rattle.script_machine.specs.Headline.{SameKnowledgeSameBytes};
+ghost use Rattle.script_machine.specs.Headline.{Claim, SameKnowledgeSameBytes};
 ghost use Rattle.script_machine.specs.Output.{Disk, IsOutput, WritesFront};
 ghost use Rattle.script_machine.specs.Text.{joined};
 ghost use Rattle.script_machine.specs.Machine.{State, Reply, Agrees, start};
@@ -26,10 +27,20 @@ pub fn one_reply()
         ((reply : Reply) → ¬ (Exactly old request owned reply)) → ⊥ }
 {}
 
+/// An answer is the table of the query over each origin's unbroken prefix of what the replica knows. A replica that is fed a batch knows
+/// one more, and a merge makes known what either replica knew.
+pub fn what_replies_mean()
+    ensures { Claim }
+{}
+
 /// Two replicas of one query that know the same batches print and save the same bytes, in one script or in two: the same answer, the same
-/// list of what is known, and the same saved file, under any name. The order of the batches and repeats make no difference.
+/// list of what is known, and the same saved file, under any name. The order of the batches and repeats make no difference. So it is in
+/// their outputs, and in the states of any replies.
 pub fn same_batches_same_bytes()
-    ensures { SameKnowledgeSameBytes }
+    ensures outputs { SameKnowledgeSameBytes }
+    ensures states { (here there : List Reply) (a b : List ℕ) (history other : World) →
+        KnowTheSame (after_all start here) (after_all start there) a b history other →
+        PrintTheSame (after_all start here) (after_all start there) a b history other }
 {}
 
 /// The clauses about prefixes of an output imply the same for the whole, and for a run that stopped: over an honest disk, if all commands
@@ -51,7 +62,7 @@ pub fn one_batch_each_agrees()
         Agrees (world_of feds) start commands replies }
 {}
 
-/// README's first script has the output that README shows: it is right to the byte, and no other output without a refusal is.
+/// README's first script has the output that README shows: it is right to the byte, and no other output without a refusal is right.
 pub fn first_example()
     ensures { HasFirstOutput }
 {}

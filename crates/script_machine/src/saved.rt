@@ -2,9 +2,10 @@
 
 ghost use Rattle.std.specs.Prelude.{◌≡◌, ◌++◌, IfOk, IfSome};
 ghost use Rattle.replica_merge.specs.Results.{IsLoaded};
+ghost use Rattle.script_machine.specs.Views.{IsReplicaFile};
 
 use having_filter::Query;
-use replica_merge::Replica;
+use replica_merge::{Replica, SummaryError};
 use std::alloc::{AllocError, Global};
 use std::marker::Model;
 use std::rc::Rc;
@@ -63,14 +64,18 @@ fn joined(alloc: Global, head: &[u8], rest: &[u8]) -> Result<Vec<u8>, AllocError
     Ok(bytes)
 }
 
-/// The replica of a summary file, which shares the given query if the file has it. A file that a replica saved has no fault, so
-/// the only error is out of memory.
+/// The replica of a file that a replica saved, which shares the given query if the file has it. Such a file has no fault, so the only
+/// error is out of memory.
 fn replica_of(alloc: Global, known: Option<&Query>, file: &[u8]) -> Result<Replica, AllocError>
+    requires { IsReplicaFile file.now }
     ensures { IfOk result (IsLoaded file.now) }
 {
     match Replica::load_sharing(alloc, known, file) {
         Ok(replica) => Ok(replica),
-        Err(_) => Err(AllocError),
+        Err(why) => match why {
+            SummaryError::NoMemory => Err(AllocError),
+            _ => unreachable!(),
+        },
     }
 }
 
@@ -96,12 +101,13 @@ impl SavedFile {
         })
     }
 
-    /// The replica of the file, which shares the given query. If a replica saved the file, the only error is out of memory.
+    /// The replica of the file, which shares the given query. A replica saved it, so the only error is out of memory.
     pub(crate) fn replica(
         &self,
         alloc: Global,
         known: Option<&Query>,
     ) -> Result<Replica, AllocError>
+        requires { IsReplicaFile self.now }
         ensures { IfOk result (IsLoaded self.now) }
     {
         let Some(head) = &self.head else {

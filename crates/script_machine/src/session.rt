@@ -21,7 +21,7 @@ ghost use Rattle.replies.specs.declared.reply.Reply.TheVariants as says;
 ghost use Rattle.refusals.specs.declared.refusal.Refusal.TheVariants.{NoMemory};
 ghost use Rattle.script_machine.specs.Executing.{Executes};
 ghost use Rattle.script_machine.specs.Joining.{JoinsNamed};
-ghost use Rattle.script_machine.specs.Views.{empty, Steps};
+ghost use Rattle.script_machine.specs.Views.{empty, IsReplicaFile, Steps};
 ghost use Rattle.tape_disks.specs.Disk.{DiskFrame};
 
 use crate::saved::{Head, SavedFile, head_of};
@@ -130,13 +130,14 @@ fn file_of_replica(
     Ok((key, file))
 }
 
-/// The replica of a summary file, with a copy of its name. It shares the script's query.
+/// The replica of a file that a replica saved, with a copy of its name. It shares the script's query.
 fn replica_of_file(
     alloc: Global,
     query: &Option<Query>,
     name: &[u8],
     file: &SavedFile,
 ) -> Result<(Vec<u8>, Replica), AllocError>
+    requires { IsReplicaFile file.now }
     ensures name { IfOk result (λ made. made.0.items ≡ name.now) }
     ensures loaded { IfOk result (λ made. IsLoaded file.now made.1) }
 {

@@ -1,7 +1,7 @@
 use Rattle.std.proofs.Common.{◌∙◌}
 use Rattle.refusals.specs.Refusals.{run_error}
 use Rattle.script_machine.proofs.EndLaws.{never_fine, runs_passed, faults_passed, fails_passed, runs_read, runs_unread}
-use Rattle.script_machine.proofs.EndLaws.{writes_exactly, writes_right}
+use Rattle.script_machine.proofs.EndLaws.{keeps_promise, writes_exactly}
 use Rattle.script_machine.proofs.EndLaws.{fails_unread, faults_read, told_as}
 use Rattle.script_machine.proofs.engine.run_observed.Goals as goal
 
@@ -27,7 +27,7 @@ pub returns-clause-headline : goal.returns-clause-headline
 returns-clause-headline g c =
     let whole = c.in_ok-script.ensures.whole in
     let works = rw c.deref.ensures.value at c.run_script.ensures.works in
-    writes_right g.D.TapeDisk _ _ _ _ _ (runs_read g.D.TapeDisk _ _ _ _ _ _ _ _ _ whole.0 whole.1 whole.2 works c.run_script.ensures.disk)
+    keeps_promise g.D.TapeDisk _ _ _ _ _ (runs_read g.D.TapeDisk _ _ _ _ _ _ _ _ _ whole.0 whole.1 whole.2 works c.run_script.ensures.disk)
 
 pub returns-clause-runs : goal.returns-clause-runs
 returns-clause-runs g c =

@@ -3,8 +3,8 @@ use Rattle.std.proofs.Common.{sym}
 use Rattle.summary_codec.specs.declared.version.Version.TheVariants.{Second}
 use Rattle.script_machine.proofs.Words.{Held, Store}
 use Rattle.script_commands.specs.Commands as ask
-use Rattle.script_machine.proofs.StoreLaws.{leaves_it, load_nowhere, loaded, loaded_asks, no_memory_same, out_of_memory, put_named}
-use Rattle.script_machine.proofs.StoreLaws.{same_entries, store_updated, turns_it, updated}
+use Rattle.script_machine.proofs.StoreLaws.{file_there, leaves_it, load_nowhere, loaded, loaded_asks, no_memory_same, out_of_memory}
+use Rattle.script_machine.proofs.StoreLaws.{put_named, same_entries, store_updated, turns_it, updated}
 use Rattle.script_machine.proofs.session.Session.load.Goals as goal
 
 pub returns-in_default-clause-answers : goal.returns-in_default-clause-answers
@@ -14,6 +14,18 @@ returns-in_default-clause-answers c = λ honest owned. leaves_it c.self.view_is 
 pub returns-in_default-replica_of_file-clause-answers : goal.returns-in_default-replica_of_file-clause-answers
 returns-in_default-replica_of_file-clause-answers c = λ honest owned. out_of_memory (ask.Load c.args.name.now c.args.saved.now) owned
     c.args.self.now
+
+pub replica_of_file-requires : goal.replica_of_file-requires
+replica_of_file-requires c =
+    let old : Store = record {
+      columns = c.self.inside.columns;
+      query = c.self.inside.query;
+      replicas = c.self.inside.replicas.entries;
+      saved = c.self.inside.saved.entries;
+      limit = c.self.inside.means.limit;
+      seed = c.self.inside.means.seed;
+    } in
+    file_there old c.args.saved.now c.in-Some.file.now c.self.invariant (sym c.in-Some.ensures.value)
 
 pub invariant_of-self-2 : goal.invariant_of-self-2
 invariant_of-self-2 c =
