@@ -98,6 +98,16 @@ pub(crate) fn is_header_line(schema: &Schema, line: &[u8]) -> bool {
     column == schema.width()
 }
 
+/// Whether a byte is a control character that no text has: all but those that part words and lines.
+fn is_control(byte: u8) -> bool {
+    byte < 9 || (byte > 13 && byte < 32)
+}
+
+/// Whether bytes are a text.
+fn is_text(bytes: &[u8]) -> bool {
+    str::from_utf8(bytes).is_ok() && !bytes.iter().any(|byte| is_control(*byte))
+}
+
 /// What a file is that is not a summary file, where that is known.
 fn known(file: &[u8]) -> Option<&'static str> {
     if file.starts_with(b"batch,") {
@@ -108,7 +118,7 @@ fn known(file: &[u8]) -> Option<&'static str> {
     }
     match known_by_front(file) {
         Some(known) => Some(known),
-        None if str::from_utf8(file.get(..file.len().min(64)).unwrap_or(file)).is_ok() => {
+        None if is_text(file.get(..file.len().min(64)).unwrap_or(file)) => {
             Some("it is a text file")
         }
         None => None,
