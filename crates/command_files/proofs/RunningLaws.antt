@@ -103,9 +103,7 @@ performs_kept Answer matches means held from passed_now output sent kept (table,
   record {
     rows = table.rows;
     table = table.table;
-    foot = table.foot;
     answers = table.answers;
-    stands = table.stands;
     printed = Appends-kept _ _ _ _ table.printed kept;
   },
   lacks,

@@ -1,12 +1,10 @@
 -- What a running command writes to standard output. All of this is our own.
-use Rattle.std.specs.Prelude.{◌≡◌, ◌≢◌, ◌≤◌, Bool, true, false, ℕ, List, [], ◌++◌, length, Option}
+use Rattle.std.specs.Prelude.{◌≡◌, ◌≤◌, Bool, true, false, ℕ, List, [], ◌++◌, length, Option}
 use Rattle.std.specs.Io.KnownBytes.{Appends}
 use Rattle.script_io.specs.Fused.{written}
 use Rattle.summary_codec.specs.Reading.{IsSaved}
-use Rattle.grouping_model.specs.Replies.{known_list}
 use Rattle.grouping_model.specs.declared.limits.TheConstants.{MAX_INPUT_LEN}
-use Rattle.holding_sentences.specs.Waiting.{waiting}
-use Rattle.replica_merge.specs.Replicas.{Held, told}
+use Rattle.replica_merge.specs.Replicas.{Held}
 use Rattle.replies.specs.Printed.{PrintsAnswer}
 use Rattle.replies.specs.Text.{said_text}
 use Rattle.replies.specs.declared.ending.ExitKind.{ExitKind}
@@ -14,7 +12,6 @@ use Rattle.refusals.specs.declared.refusal.Refusal.{Refusal}
 use Rattle.replies.specs.declared.reply.Reply.{Reply}
 use Rattle.replies.specs.declared.reply.Reply.TheVariants.{Refused, Saved}
 use Rattle.replies.specs.declared.showing.Format.{Format}
-use Rattle.replies.specs.declared.showing.Format.TheVariants.{Aligned}
 use Rattle.command_streams.specs.Stopping.{ending_of}
 use Rattle.command_files.specs.declared.reporter.Reporter.{Reporter}
 
@@ -54,18 +51,10 @@ pub record Saves {W E : Type 0} (contents : W → Option (List ℕ)) (held : Hel
   pub short : length file ≤ MAX_INPUT_LEN
   pub printed : Prints contents old new (file_on_output old.is_piped file ++ reply_on_output old.is_piped (Saved (length file)))
 
--- what stands at the foot of a table: something under an aligned one where there is something to tell, and else nothing
-pub record IsFoot (format : Format) (lines : ℕ) (foot : List ℕ) : Type 0 where
-  pub footless : format ≢ Aligned → foot ≡ []
-  pub quiet : lines ≡ 0 → foot ≡ []
-  pub heard : format ≡ Aligned → lines ≢ 0 → foot ≢ []
-
--- the answer of a replica was printed: its table, and at the foot of an aligned one what it does not count
+-- the answer of a replica was printed: its table, and nothing else
 pub record PrintsTable {W E : Type 0} (contents : W → Option (List ℕ)) (format : Format) (held : Held) (old new : Reporter W E) :
     Type 0 where
   pub rows : ℕ
   pub table : List ℕ
-  pub foot : List ℕ
   pub answers : PrintsAnswer format held rows table
-  pub stands : IsFoot format (waiting (known_list (told held.parts))) foot
-  pub printed : Prints contents old new (table ++ foot)
+  pub printed : Prints contents old new table

@@ -28,7 +28,7 @@ use Rattle.command_words.specs.declared.subcommands.Subcommand.TheVariants.{New,
 use Rattle.command_files.specs.Ending.{lacking}
 use Rattle.command_files.specs.Formats.{format_told, known_format_told}
 use Rattle.command_files.specs.Limits.{limit_of}
-use Rattle.command_files.specs.Reporting.{file_on_output, output_of, reply_on_output, IsFoot}
+use Rattle.command_files.specs.Reporting.{file_on_output, output_of, reply_on_output}
 use Rattle.command_files.specs.Texts.{AreTextsTold}
 use Rattle.command_files.specs.Taking.{CommandState, Manner, TakesAll, manner_of, state_of}
 use Rattle.command_files.specs.declared.reporter.Reporter.{Reporter}
@@ -57,14 +57,12 @@ pub record SavesHeld (held : Held) (is_piped : Bool) (old new : Option (List ℕ
   pub short : length file ≤ MAX_INPUT_LEN
   pub printed : Appends old new (saved_on_output is_piped file)
 
--- its answer was printed: its table, and at the foot of an aligned one what it does not count
+-- its answer was printed: its table, and nothing else
 pub record AnswersHeld (format : Format) (held : Held) (old new : Option (List ℕ)) : Type 0 where
   pub rows : ℕ
   pub table : List ℕ
-  pub foot : List ℕ
   pub answers : PrintsAnswer format held rows table
-  pub stands : IsFoot format (waiting (known_list (told held.parts))) foot
-  pub printed : Appends old new (table ++ foot)
+  pub printed : Appends old new table
 
 -- a command takes so many files into its replica, counts those that it passes over, and saves the replica
 pub record TakesAndSaves {F H : Type 0} (manner : Manner H) (count : ℕ) (old : CommandState F) (passed passed_now : ℕ)

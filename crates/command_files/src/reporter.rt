@@ -1,6 +1,6 @@
 //! What a command replies and says while it runs.
 
-ghost use Rattle.std.specs.Prelude.{◌≡◌, ◌≢◌, ℕ, List, length, true, false, IfErr, OnOk};
+ghost use Rattle.std.specs.Prelude.{◌≡◌, ◌≢◌, true, false, IfErr, OnOk};
 ghost use Rattle.std.specs.Io.KnownBytes.{Keeps};
 ghost use Rattle.script_io.specs.Fused.{has_failed};
 ghost use Rattle.replies.specs.Text.{said_text};
@@ -9,7 +9,7 @@ ghost use Rattle.refusals.specs.declared.error.RunError.TheVariants.{WriteFault}
 ghost use Rattle.refusals.specs.declared.refusal.Refusal.TheVariants.{Run};
 ghost use Rattle.replies.specs.declared.reply.Reply.TheVariants.{Refused};
 ghost use Rattle.command_streams.specs.Stopping.{ending_of, EndsRefused, RepliesRefused};
-ghost use Rattle.command_files.specs.Reporting.{output_of, reply_on_output, IsFoot, OnlySays, Prints, StopsBy};
+ghost use Rattle.command_files.specs.Reporting.{output_of, reply_on_output, OnlySays, Prints, StopsBy};
 
 use command_replicas::SummaryFile;
 use command_streams::{
@@ -18,7 +18,7 @@ use command_streams::{
 use file_sentences::Progress;
 use out_files::CutShort;
 use replica_merge::Delivered;
-use replies::{ExitKind, Format, Reply, put_reply};
+use replies::{ExitKind, Reply, put_reply};
 use script_io::{Fused, put_all};
 use std::alloc::{AllocError, Global};
 use std::fmt::Display;
@@ -221,48 +221,13 @@ impl<'c, W: Write, E: Write> Reporter<'c, W, E> {
         Ok(())
     }
 
-    /// Puts a line at the foot of an aligned table. Another table has no foot.
-    fn put_foot(&mut self, line: &str, format: Format) -> Result<(), Problem<'static>>
-        ensures put { OnOk result ((foot : List ℕ) × Prints W.contents self.old self.new foot × IsFoot format 1 foot) }
-        ensures fault { IfErr result (λ problem. problem.why ≡ Run WriteFault) }
-    {
-        match format {
-            Format::Aligned => {
-                self.print(line.as_bytes())?;
-                self.print(b"\n")?;
-                Ok(())
-            }
-            Format::Csv | Format::Tsv | Format::Json => Ok(()),
-        }
-    }
-
-    /// Writes a sentence, unless it is seen already.
-    fn say_unseen(&mut self, line: &String, is_seen: bool)
+    /// Tells on standard error which batches an answer does not count, since they wait for others.
+    pub(crate) fn tell_waiting(&mut self, lines: &[String])
         ensures says { OnlySays self.old self.new }
     {
-        if is_seen {
-            return;
-        }
-        self.streams.say(line);
-    }
-
-    /// Tells which batches an answer does not count, since they wait for others: on standard error, and at the foot of an aligned table.
-    /// Where both go to a terminal, it is told once.
-    pub(crate) fn tell_waiting(
-        &mut self,
-        lines: &[String],
-        format: Format,
-    ) -> Result<(), Problem<'static>>
-        ensures told { OnOk result ((foot : List ℕ) × Prints W.contents self.old self.new foot × IsFoot format (length lines.now) foot) }
-        ensures fault { IfErr result (λ problem. problem.why ≡ Run WriteFault) }
-    {
-        let has_foot = matches!(format, Format::Aligned);
-        let is_seen = has_foot && self.streams.terminals.output && self.streams.terminals.errors;
         for line in lines {
-            self.put_foot(line, format)?;
-            self.say_unseen(line, is_seen);
+            self.say(line);
         }
-        Ok(())
     }
 
     /// Removes the file in which the tapes lay. If it can't be removed, a sentence says so.

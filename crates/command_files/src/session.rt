@@ -441,7 +441,7 @@ impl<'c, R: Files + AllocGlobal + RandomSource, I: Read, W: Write, E: Write> Ses
         match (waiting_lines(alloc, replica), table(alloc, replica, format)) {
             (Ok(lines), Ok(found)) => {
                 self.reporter.print(&found.1)?;
-                self.reporter.tell_waiting(&lines, format)?;
+                self.reporter.tell_waiting(&lines);
                 self.explain_answer(replica, is_told);
                 self.passed = lacking(matches, &lines);
                 Ok(())

@@ -229,8 +229,8 @@ false, and numbers of any size. A JSON name that an earlier column has gets a
 dot and its place, as sum.3.
 
 Batches that wait for a missing one are not counted. Standard error says so for
-at most ten origins, as 'origin 0: 1 early batch is not counted; missing 2', and
-so does the foot of an aligned table. With --complete the status is then 1.
+at most ten origins, as 'origin 0: 1 early batch is not counted; missing 2'.
+With --complete the status is then 1.
 
 The groups of several origins are merged in memory, without spilling. --limit
 and --spill are accepted, as by feed and merge, and have no effect here.
@@ -261,9 +261,11 @@ IN does not have is refused, unless --skip-columns ignores its fields. Fields
 are separated by commas, or by the one byte of --delimiter, as ';', or tab. An
 empty field is null, or with --null TEXT the field TEXT; \\N is always null.
 Other fields are as in a batch file: see agg_tool feed --help. Blank lines are
-skipped: a null that stands alone is \\N. A batch has at most 1,048,576 rows;
-agg_make_batches splits a longer file into batches. An empty CSV is refused, as
-the program that writes it may have failed; --allow-empty makes it a batch.
+skipped, and standard error says how many. In a table of one column they might
+be nulls, and are refused, unless --null tells another text. A batch has at most
+1,048,576 rows; agg_make_batches splits a longer file into batches. An empty CSV
+is refused, as the program that writes it may have failed; --allow-empty makes
+it a batch.
 
 If something is wrong, 'refused NAME' is printed in the place of the batch, and
 standard error names the line and the column.
