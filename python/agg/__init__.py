@@ -4,10 +4,9 @@
 """
 
 from . import errors
+from ._library import VERSION as __version__
 from ._library import version
 from ._summary import USUAL_LIMIT, Delivered, Known, Summary
 from .errors import Place, Refused
 
-__all__ = ["USUAL_LIMIT", "Delivered", "Known", "Place", "Refused", "Summary", "errors", "version"]
-
-__version__ = "0.1.0"
+__all__ = ["USUAL_LIMIT", "Delivered", "Known", "Place", "Refused", "Summary", "__version__", "errors", "version"]

@@ -11,7 +11,12 @@ from typing import Any, Callable, Dict, List, Sequence, Tuple
 from ._columns import Column
 from ._rows import NULL
 
-_VALUES: Dict[str, Callable[[str], Any]] = {"bigint": int, "boolean": {"t": True, "f": False}.__getitem__, "text": str}
+_VALUES: Dict[str, Callable[[str], Any]] = {
+    "bigint": int,
+    "numeric": int,
+    "boolean": {"t": True, "f": False}.__getitem__,
+    "text": str,
+}
 
 
 def columns_of(columns: Sequence[Column], table: str) -> List[List[Any]]:

@@ -7,9 +7,9 @@ A frame of pandas is asked for its values by its own methods, since by the proto
 
 from __future__ import annotations
 
-import array
 import ctypes
 import itertools
+import struct
 from typing import Any, List, Sequence
 
 from ._columns import Column
@@ -22,8 +22,10 @@ _CPU = 1
 _CODES = {
     (_INT, 8): "b", (_INT, 16): "h", (_INT, 32): "i", (_INT, 64): "q",
     (_UINT, 8): "B", (_UINT, 16): "H", (_UINT, 32): "I", (_UINT, 64): "Q",
-    (_FLOAT, 32): "f", (_FLOAT, 64): "d", (_BOOL, 8): "B",
+    (_FLOAT, 16): "e", (_FLOAT, 32): "f", (_FLOAT, 64): "d", (_BOOL, 8): "B",
 }  # fmt: skip
+# By the bits of a float: from this integer on, it may have been rounded from another.
+_ROUNDED = {16: 2**11, 32: 2**24, 64: 2**53}
 
 
 def _bytes_of(buffer: Any) -> bytes:
@@ -45,10 +47,7 @@ def _plain(buffer: Any, dtype: Any, first: int, size: int) -> List[Any]:
     code = _CODES.get((kind, bits))
     if code is None or endianness not in ("=", "|", "<"):
         raise TypeError(f"a column of kind {kind}, {bits} bits and byte order {endianness} is not bigint, boolean or text")
-    values = array.array(code)
-    width = values.itemsize
-    values.frombytes(data[first * width : (first + size) * width])
-    return values.tolist()
+    return list(struct.unpack_from(f"={size}{code}", data, first * struct.calcsize(f"={code}")))
 
 
 def _strings(buffers: Any, first: int, size: int) -> List[Any]:
@@ -75,9 +74,9 @@ def _is_null(column: Any, buffers: Any, values: List[Any], first: int) -> List[b
     return [False] * len(values)
 
 
-def _whole(value: float) -> Any:
-    """A float that stands for one integer, as pandas makes them where a column has nulls, is that integer."""
-    return int(value) if value.is_integer() and abs(value) < 2**53 else value
+def _whole(value: float, bits: int) -> Any:
+    """A float of so many bits that stands for one integer, as pandas makes them where a column has nulls, is that integer."""
+    return int(value) if value.is_integer() and abs(value) < _ROUNDED.get(bits, 2**53) else value
 
 
 def _values(column: Any) -> List[Any]:
@@ -100,7 +99,7 @@ def _values(column: Any) -> List[Any]:
         names = _values(column.describe_categorical["categories"])
         values = [None if null else names[value] for value, null in zip(values, nulls)]
     elif kind == _FLOAT:
-        values = [None if null else _whole(value) for value, null in zip(values, nulls)]
+        values = [None if null else _whole(value, column.dtype[1]) for value, null in zip(values, nulls)]
     elif kind == _BOOL:
         values = [None if null else bool(value) for value, null in zip(values, nulls)]
     elif any(nulls):
@@ -115,7 +114,9 @@ def _pandas_values(series: Any) -> List[Any]:
     if nulls.any():
         values = [None if null else value for value, null in zip(values, nulls.tolist())]
     if series.dtype.kind == "f":
-        values = [value if value is None else _whole(value) for value in values]
+        # The type of a sparse column has that of its values.
+        bits = 8 * getattr(series.dtype, "subtype", series.dtype).itemsize
+        values = [value if value is None else _whole(value, bits) for value in values]
     return values
 
 

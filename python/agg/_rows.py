@@ -177,5 +177,5 @@ def as_csv(columns: Sequence[Column], rows: Any) -> Tuple[List[List[Any]], bytes
     text = "\n".join(map(",".join, zip(*fields)))
     try:
         return values, text.encode() + b"\n"
-    except UnicodeEncodeError:
-        raise _first_bad(columns, values) or AssertionError from None
+    except UnicodeEncodeError as why:
+        raise _first_bad(columns, values) or why from None

@@ -7,7 +7,7 @@ import os
 from typing import TYPE_CHECKING, Any, Dict, List, NamedTuple, Optional, Tuple, Type, Union
 
 from . import _answers, _columns, _library, _rows
-from .errors import BadBatchHead, BadField, LimitOutOfRange, TooManyRows
+from .errors import BadBatchHead, BadField, Forked, LimitOutOfRange, TooManyRows
 
 if TYPE_CHECKING:
     import pandas
@@ -79,12 +79,13 @@ class Summary:
     1,099,511,627,776: what does not keep within it is spilled, in memory. No result depends on it.
 
     Threads may share a summary: its calls wait for each other. While one works, other threads run. A signal's handler, also that of
-    Ctrl-C, runs when it has ended. In a process that `os.fork` made of one with threads none may be used: have multiprocessing `spawn`.
+    Ctrl-C, runs when it has ended: there the same summary can be saved and asked, but to change or close it raises `errors.InUse`. In the
+    child of a fork a summary that another thread was using raises `errors.Forked`; any other is a copy.
 
     What is refused raises a class of `agg.errors`, and changes nothing.
     """
 
-    __slots__ = ("_handle", "_limit", "_columns", "_query", "_rows", "__weakref__")
+    __slots__ = ("_handle", "_limit", "_columns", "_query", "_answer_columns", "__weakref__")
 
     def __init__(self, *, columns: str, query: str, limit: int = USUAL_LIMIT) -> None:
         schema, text = _text(columns), _text(query)
@@ -99,7 +100,7 @@ class Summary:
         self._limit = size
         self._query = self._handle.ask(_library.LIBRARY.agg_query).decode()
         self._columns = self._handle.ask(_library.LIBRARY.agg_columns).decode()
-        self._rows: Optional[Tuple[int, int]] = None
+        self._answer_columns = _columns.columns_of(self._handle.ask(_library.LIBRARY.agg_answer_columns).decode())
 
     @classmethod
     def from_bytes(cls: Type[Summary], data: Bytes, *, limit: int = USUAL_LIMIT) -> Summary:
@@ -145,7 +146,7 @@ class Summary:
         head = _number(origin, 32), _number(number, 32)
         if None in head:
             raise BadBatchHead(f"origin {origin}, number {number}: an origin is 0 to 1023, a number 1 to 4294967295")
-        columns = _columns.batch_columns(self._columns)
+        columns = _columns.columns_of(self._columns)
         values, data = _rows.as_csv(columns, rows)
         count = len(values[0])
         if _number(count, 32) is None:
@@ -204,9 +205,9 @@ class Summary:
 
     # The answer.
 
-    def _table(self) -> Tuple[List[_columns.Column], List[List[Any]]]:
-        columns = _columns.answer_columns(_columns.batch_columns(self._columns), self._query)
-        return columns, _answers.columns_of(columns, self.to_csv())
+    def _values(self) -> List[List[Any]]:
+        """Those of each column of the answer."""
+        return _answers.columns_of(self._answer_columns, self.to_csv())
 
     def answer(self) -> List[Any]:
         """The rows of the answer, in its order, as named tuples of int, bool, str and None.
@@ -214,17 +215,16 @@ class Summary:
         A name is the item's alias, or else that of its column or function. One that stands twice, or that is no name of Python's, is `_`
         and its place, the first being 0: an alias gives it another.
         """
-        columns, values = self._table()
-        row = _answers.row_type(tuple(column.name for column in columns))
-        return list(map(row._make, zip(*values)))
+        row = _answers.row_type(tuple(column.name for column in self._answer_columns))
+        return list(map(row._make, zip(*self._values())))
 
     def to_csv(self) -> str:
         """The answer in CSV: a header and a line for each row, null being `\\N`, true `t` and false `f`."""
-        return self._handle.answer(False)[1].decode()
+        return self._handle.answer(False).decode()
 
     def to_text(self) -> str:
         """The answer in columns below one another, to be read."""
-        return self._handle.answer(True)[1].decode()
+        return self._handle.answer(True).decode()
 
     def to_pandas(self) -> pandas.DataFrame:
         """The answer as a data frame of pandas, with its types for nulls: Int64, boolean and string.
@@ -233,28 +233,29 @@ class Summary:
         """
         import pandas
 
-        columns, values = self._table()
+        kinds = {"bigint": "Int64", "numeric": "Int64", "boolean": "boolean", "text": "string"}
         series = {}
-        for place, (column, found) in enumerate(zip(columns, values)):
-            kind: Any = {"bigint": "Int64", "boolean": "boolean", "text": "string"}[column.kind]
-            if column.kind == "bigint" and any(value is not None and not -(2**63) <= value < 2**63 for value in found):
+        for place, (column, found) in enumerate(zip(self._answer_columns, self._values())):
+            kind: Any = kinds[column.kind]
+            if column.kind == "numeric" and any(value is not None and not -(2**63) <= value < 2**63 for value in found):
                 kind = object
             series[place] = pandas.Series(found, dtype=kind)
         frame = pandas.DataFrame(series)
-        frame.columns = pandas.Index([column.name for column in columns])
+        frame.columns = pandas.Index([column.name for column in self._answer_columns])
         return frame
 
     def to_arrow(self) -> pyarrow.Table:
         """The answer as a table of Arrow: int64, bool and string; a sum is a decimal128 of 38 digits, which holds any."""
         import pyarrow
 
-        columns, values = self._table()
-        sums = _columns.sums(self._query)
-        kinds = {"bigint": pyarrow.int64(), "boolean": pyarrow.bool_(), "text": pyarrow.string()}
-        arrays = []
-        for place, (column, found) in enumerate(zip(columns, values)):
-            arrays.append(pyarrow.array(found, type=pyarrow.decimal128(38, 0) if place in sums else kinds[column.kind]))
-        return pyarrow.table(arrays, names=[column.name for column in columns])
+        kinds = {
+            "bigint": pyarrow.int64(),
+            "numeric": pyarrow.decimal128(38, 0),
+            "boolean": pyarrow.bool_(),
+            "text": pyarrow.string(),
+        }
+        arrays = [pyarrow.array(found, type=kinds[column.kind]) for column, found in zip(self._answer_columns, self._values())]
+        return pyarrow.table(arrays, names=[column.name for column in self._answer_columns])
 
     # The summary as a value.
 
@@ -274,14 +275,13 @@ class Summary:
 
     def __repr__(self) -> str:
         """The query, how many origins are known, and how many groups the answer has, which is counted anew where something has changed."""
-        changes = self._handle.changes
         try:
-            if self._rows is None or self._rows[0] != changes:
-                self._rows = changes, self._handle.count_rows()
-            origins = len(self.known())
+            groups, origins = self._handle.count_rows(), len(self.known())
         except ValueError:
             return f"<agg.Summary {self._query}: closed>"
-        return f"<agg.Summary {self._query}: {_counted(origins, 'origin')}, {_counted(self._rows[1], 'group')}>"
+        except Forked:
+            return f"<agg.Summary {self._query}: in use when its process was forked off>"
+        return f"<agg.Summary {self._query}: {_counted(origins, 'origin')}, {_counted(groups, 'group')}>"
 
     def close(self) -> None:
         """Gives back the memory, which else is given back with the last reference. Calls raise a ValueError then."""

@@ -65,7 +65,8 @@ def _by_executor(executor: Executor, shares: List[List[str]], columns: str, quer
     finally:
         for future in working:
             future.cancel()
-    assert ready is not None
+    if ready is None:
+        raise ValueError("there are no shares")
     return ready
 
 

@@ -2,13 +2,23 @@
 
 What was refused changed nothing. An exception has the sentence, which is for people, and the place, as far as one is known. All are
 `Refused`; those of a query, a batch, a file and a merge have a class of their own above them, and are a `ValueError` too.
+
+`InUse` and `Forked` are no refusals, but say that a program may not use a summary there. They change nothing, either.
 """
 
 from __future__ import annotations
 
 from typing import Dict, NamedTuple, Optional, Tuple, Type
 
-__all__ = ["Place", "Refused", "RefusedQuery", "RefusedBatch", "RefusedFile", "RefusedMerge"]
+__all__ = ["Forked", "InUse", "Place", "Refused", "RefusedQuery", "RefusedBatch", "RefusedFile", "RefusedMerge"]
+
+
+class InUse(RuntimeError):
+    """A signal's handler, or a `__del__`, was to change or close the summary on which its thread is inside a call."""
+
+
+class Forked(RuntimeError):
+    """Another thread was using the summary when this process was forked off, so that it can't be used here."""
 
 
 class Place(NamedTuple):

@@ -1,6 +1,10 @@
 """What tests share: a query, batches as texts by other code than the package's, and the query's answer by other code, too."""
 
+import os
 import random
+import subprocess
+import sys
+import textwrap
 
 import agg
 
@@ -53,3 +57,13 @@ def answered(rows):
         amounts, flags = zip(*groups[city])
         found.append((city, len(amounts), none_if_empty(sum, amounts), none_if_empty(min, amounts), none_if_empty(all, flags)))
     return found
+
+
+def run(*parts, cwd=None, **variables):
+    """What a program prints that these parts make, by the Python and the package of the tests. One that hangs or fails is an error."""
+    words = [sys.executable, *["-O"] * sys.flags.optimize, "-W", "ignore::DeprecationWarning", "-c", "".join(map(textwrap.dedent, parts))]
+    environment = {**os.environ, **variables}
+    done = subprocess.run(words, stdout=subprocess.PIPE, stderr=subprocess.PIPE, text=True, timeout=120, cwd=cwd, env=environment)
+    if done.returncode != 0:
+        raise AssertionError(f"status {done.returncode}: {done.stderr}")
+    return done.stdout

@@ -100,6 +100,7 @@ class Dask(Folder):
             os.kill(next(iter(cluster.workers.values())).pid, signal.SIGKILL)
 
         local = {"n_workers": 3, "threads_per_worker": 1, "processes": True, "host": "127.0.0.1", "dashboard_address": None}
+        local["local_directory"] = self.folder.name
         with tempfile.TemporaryDirectory() as notes, distributed.LocalCluster(**local) as cluster, distributed.Client(cluster) as client:
             thread = threading.Thread(target=strike)
             if kill:
@@ -121,7 +122,7 @@ class Dask(Folder):
         self.assertGreater(runs, 16)
 
     def test_refused(self):
-        with distributed.Client(processes=False, dashboard_address=None) as client:
+        with distributed.Client(processes=False, dashboard_address=None, local_directory=self.folder.name) as client:
             with self.assertRaises(agg.errors.BadBatchHead) as told:
                 agg.dask.summarize(client, [*self.paths, __file__], **TEXTS)
             self.assertEqual(told.exception.path, __file__)

@@ -3,6 +3,7 @@ where they are installed. And answers as data frames."""
 
 import array
 import ctypes
+import struct
 import unittest
 
 import agg
@@ -147,6 +148,17 @@ class Protocol(unittest.TestCase):
                 new(columns="d bigint", query="SELECT count(*) FROM batches").feed_rows(0, 1, Frame({"d": column}))
             self.assertEqual(told.exception.place, agg.Place(row=0, column=0))
 
+    def test_floats_that_may_be_rounded(self):
+        # Of fewer bits, fewer integers have a float of their own.
+        for code, bits, rounded in (("e", 16, 2**11), ("f", 32, 2**24), ("d", 64, 2**53)):
+            for sign in (1, -1):
+                column = Column(1, (FLOAT, bits, code, "="), struct.pack(code, sign * (rounded - 1)), (1, None))
+                self.same(Frame({"d": column}), [(sign * (rounded - 1),)], "d bigint")
+                for bad in (rounded, rounded + 2 ** (bits // 8), float("inf")):
+                    column = Column(1, (FLOAT, bits, code, "="), struct.pack(code, sign * bad), (1, None))
+                    with self.subTest(bits=bits, value=bad), self.assertRaises(agg.errors.BadField):
+                        new(columns="d bigint", query="SELECT count(*) FROM batches").feed_rows(0, 1, Frame({"d": column}))
+
     def test_categories_and_sentinels(self):
         codes = array.array("b", [1, 0, -1, 1]).tobytes()
         column = Column(4, (CATEGORICAL, 8, "c", "="), codes, (2, -1), categories=texts(["oslo", "bergen"]))
@@ -231,6 +243,16 @@ class Pandas(unittest.TestCase):
         for other in (frame[["city", "paid"]], frame.assign(more=1), frame.rename(columns={"paid": 5})):
             with self.assertRaises(agg.errors.WrongWidth):
                 new().feed_rows(0, 1, other)
+
+    def test_feeding_floats_that_may_be_rounded(self):
+        kinds = {"float16": 2**11, "float32": 2**24, "Float32": 2**24, "Sparse[float32]": 2**24, "float64": 2**53, "Float64": 2**53}
+        for kind, rounded in kinds.items():
+            one = new(columns="d bigint", query="SELECT d FROM batches GROUP BY d")
+            one.feed_rows(0, 1, pandas.DataFrame({"d": pandas.Series([rounded - 1, 1 - rounded], dtype=kind)}))
+            self.assertEqual([row.d for row in one.answer()], [1 - rounded, rounded - 1])
+            for bad in (rounded, -rounded):
+                with self.subTest(kind=kind, value=bad), self.assertRaises(agg.errors.BadField):
+                    one.feed_rows(0, 2, pandas.DataFrame({"d": pandas.Series([1, bad], dtype=kind)}))
 
     def test_feeding_categories(self):
         one = new(columns="c text", query="SELECT c, count(*) FROM batches GROUP BY c")

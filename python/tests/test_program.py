@@ -47,12 +47,7 @@ class Program(unittest.TestCase):
                 both = parts[0] | parts[1]
                 self.assertEqual(self.read("both.sum"), bytes(both))
                 self.assertEqual(self.tool("answer", "both.sum"), both.to_csv())
-                # The program's aligned table has a foot, a line for each origin with early batches.
-                printed, table = self.tool("answer", "both.sum", "--format", "aligned"), both.to_text()
-                self.assertEqual(printed[: len(table)], table)
-                foot = printed[len(table) :].splitlines()
-                self.assertEqual(len(foot), sum(bool(known.early) for known in both.known().values()))
-                self.assertTrue(all("not counted; missing" in line for line in foot), foot)
+                self.assertEqual(self.tool("answer", "both.sum", "--format", "aligned"), both.to_text())
                 Path(folder, "ours.sum").write_bytes(bytes(both))
                 self.tool("merge", "again.sum", "ours.sum", "one.sum")
                 self.assertEqual(agg.Summary.from_bytes(self.read("again.sum")), both)

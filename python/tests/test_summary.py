@@ -188,6 +188,18 @@ class Answers(unittest.TestCase):
             self.assertEqual(again, row)
             self.assertIs(type(again), type(row))
 
+    def test_kinds_are_those_of_the_items(self):
+        query = (
+            "SELECT city AS sum, sum(amount) AS city, count(*) AS every, every(paid) AS count, min(amount) AS n, count(city) AS n, paid"
+            " FROM batches GROUP BY city, paid"
+        )
+        kinds = ["sum text", "city numeric", "every bigint", "count boolean", "n bigint", "n bigint", "paid boolean"]
+        self.assertEqual(list(map(" ".join, new(query=query)._answer_columns)), kinds)
+        one = new(query="SELECT sum(amount) FROM batches WHERE city <> 'FROM, (' AND (amount <> -5 OR paid)")
+        self.assertEqual(list(map(" ".join, one._answer_columns)), ["sum numeric"])
+        one.feed_rows(0, 1, [("oslo", 5, True)])
+        self.assertEqual(repr(one.answer()), "[Row(sum=5)]")
+
     def test_no_groups(self):
         one = new(query="SELECT count(*), sum(amount) FROM batches")
         self.assertEqual(one.answer(), [(0, None)])

@@ -8,7 +8,7 @@ import time
 import unittest
 
 import agg
-from tests.common import batch, new, some_rows
+from tests.common import batch, new, run, some_rows
 
 PARTS = [(origin, number) for number in range(6, 0, -1) for origin in range(6)]
 
@@ -46,7 +46,7 @@ class Threads(unittest.TestCase):
                     try:
                         summary.feed("batch,0,1,1\n")
                     except agg.errors.RowCount as why:
-                        assert "1" in why.sentence
+                        seen.append("1" in why.sentence)
             except BaseException as why:
                 errors.append(why)
 
@@ -56,7 +56,8 @@ class Threads(unittest.TestCase):
         for thread in threads:
             thread.join()
         self.assertEqual(errors, [])
-        self.assertEqual(len(seen), 8 * len(PARTS))
+        self.assertEqual(len(seen), 2 * 8 * len(PARTS))
+        self.assertTrue(all(seen))
         self.assertEqual(bytes(summary), bytes(self.wanted))
 
     def test_merging_one_another(self):
@@ -104,6 +105,38 @@ class Threads(unittest.TestCase):
         summary = new()
         summary.feed_rows(0, 1, [("city" + str(number), number, None) for number in range(10_000)])
         return summary
+
+    def test_a_small_stack(self):
+        # By what takes most: the longest queries, and a refusal of a row of 32 columns.
+        found = run(
+            """
+            import threading
+            import agg
+
+            def work():
+                columns = "p boolean, " + ", ".join(f"c{number} text" for number in range(31))
+                items = ", ".join(f"count(c{number})" for number in range(31))
+                conditions = ["NOT " * depth + "p" for depth in (63, 3_900)] + ["(" * depth + "p" + ")" * depth for depth in (64, 7_900)]
+                for condition in conditions:
+                    try:
+                        summary = agg.Summary(columns=columns, query=f"SELECT {items} FROM batches WHERE {condition}")
+                    except agg.Refused as why:
+                        print(why.name)
+                        continue
+                    for row in ([True] + ["a"] * 31, [True] + ["a"] * 30 + ["x" * 256]):
+                        try:
+                            summary.feed_rows(0, 1, [row])
+                        except agg.errors.BadField as why:
+                            print(why.place.column)
+                    agg.Summary.from_bytes(bytes(summary | summary)).answer()
+
+            threading.stack_size(3 * 1024 * 1024)
+            thread = threading.Thread(target=work)
+            thread.start()
+            thread.join()
+            """
+        )
+        self.assertEqual(set(found.split()), {"TooDeep", "31"})
 
     def test_others_run_while_a_call_works(self):
         data = batch(0, 1, [("city" + str(number), number, None) for number in range(300_000)])

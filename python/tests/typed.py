@@ -27,5 +27,7 @@ def use(path: str) -> int:
         place: agg.Place = why.place
         row: Optional[int] = place.row
         return why.status + len(why.sentence) + (row or 0)
+    except (errors.InUse, errors.Forked) as other:
+        return len(str(other))
     text: str = both.to_csv() + both.to_text() + agg.version()
     return len(text) + len(known) + len(missing) + (upto or 0)
