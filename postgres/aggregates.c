@@ -4,7 +4,6 @@
 #include "access/htup_details.h"
 #include "lib/stringinfo.h"
 #include "libpq/pqformat.h"
-#include "miscadmin.h"
 #include "utils/builtins.h"
 #include "utils/lsyscache.h"
 #include "utils/typcache.h"
@@ -26,54 +25,49 @@ static void *state_at(FunctionCallInfo fcinfo, int place) { return PG_ARGISNULL(
         PG_RETURN_POINTER(returned); \
     } while (0)
 
-PG_FUNCTION_INFO_V1(pg_agg_merge_step);
-Datum pg_agg_merge_step(PG_FUNCTION_ARGS) {
+SQL_FUNCTION(pg_agg_merge_step) {
     MemoryContext context = aggregate_context(fcinfo);
     Handle *state = state_at(fcinfo, 0);
     bytea *file;
     if (PG_ARGISNULL(1)) RETURN_STATE(state);
-    file = PG_GETARG_BYTEA_PP(1);
+    file = given_summary(fcinfo, 1);
     if (state == NULL) {
         state = loaded_handle(context, file);
     } else {
-        CHECK_FOR_INTERRUPTS();
-        check_status(state, agg_merge_bytes(&state->slot, BYTES_OF(file)));
+        merge_file(state, file);
     }
     PG_FREE_IF_COPY(file, 1);
     PG_RETURN_POINTER(state);
 }
 
 /* The second state was made by deserializing, and nobody else has it: where there is no first one, its slot is moved. */
-PG_FUNCTION_INFO_V1(pg_agg_merge_combine);
-Datum pg_agg_merge_combine(PG_FUNCTION_ARGS) {
+SQL_FUNCTION(pg_agg_merge_combine) {
     MemoryContext context = aggregate_context(fcinfo);
     Handle *state = state_at(fcinfo, 0), *other = state_at(fcinfo, 1);
     if (other == NULL) RETURN_STATE(state);
     if (state == NULL) {
         state = new_handle(context);
         state->slot = other->slot;
+        state->handled = other->handled;
+        state->taken = other->taken;
         other->slot = (agg_slot)AGG_SLOT_INIT;
     } else {
-        CHECK_FOR_INTERRUPTS();
-        check_status(state, agg_merge(&state->slot, &other->slot));
+        merge_handle(state, other);
     }
     PG_RETURN_POINTER(state);
 }
 
-PG_FUNCTION_INFO_V1(pg_agg_merge_serialize);
-Datum pg_agg_merge_serialize(PG_FUNCTION_ARGS) {
+SQL_FUNCTION(pg_agg_merge_serialize) {
     aggregate_context(fcinfo);
     PG_RETURN_BYTEA_P(saved_bytes((Handle *)PG_GETARG_POINTER(0), CurrentMemoryContext));
 }
 
-PG_FUNCTION_INFO_V1(pg_agg_merge_deserialize);
-Datum pg_agg_merge_deserialize(PG_FUNCTION_ARGS) {
+SQL_FUNCTION(pg_agg_merge_deserialize) {
     aggregate_context(fcinfo);
-    PG_RETURN_POINTER(loaded_handle(CurrentMemoryContext, PG_GETARG_BYTEA_PP(0)));
+    PG_RETURN_POINTER(given_handle(fcinfo, 0));
 }
 
-PG_FUNCTION_INFO_V1(pg_agg_merge_final);
-Datum pg_agg_merge_final(PG_FUNCTION_ARGS) {
+SQL_FUNCTION(pg_agg_merge_final) {
     aggregate_context(fcinfo);
     if (PG_ARGISNULL(0)) PG_RETURN_NULL();
     PG_RETURN_BYTEA_P(saved_bytes((Handle *)PG_GETARG_POINTER(0), CurrentMemoryContext));
@@ -186,8 +180,7 @@ static void append_row(StringInfo records, FunctionCallInfo fcinfo, HeapTupleHea
     ReleaseTupleDesc(description);
 }
 
-PG_FUNCTION_INFO_V1(pg_agg_collect_step);
-Datum pg_agg_collect_step(PG_FUNCTION_ARGS) {
+SQL_FUNCTION(pg_agg_collect_step) {
     MemoryContext context = aggregate_context(fcinfo);
     Batch *batch = state_at(fcinfo, 0);
     if (PG_ARGISNULL(1) || PG_ARGISNULL(2)) {
@@ -203,8 +196,7 @@ Datum pg_agg_collect_step(PG_FUNCTION_ARGS) {
     PG_RETURN_POINTER(batch);
 }
 
-PG_FUNCTION_INFO_V1(pg_agg_collect_combine);
-Datum pg_agg_collect_combine(PG_FUNCTION_ARGS) {
+SQL_FUNCTION(pg_agg_collect_combine) {
     MemoryContext context = aggregate_context(fcinfo);
     Batch *batch = state_at(fcinfo, 0), *other = state_at(fcinfo, 1);
     if (other == NULL) RETURN_STATE(batch);
@@ -215,8 +207,7 @@ Datum pg_agg_collect_combine(PG_FUNCTION_ARGS) {
     PG_RETURN_POINTER(batch);
 }
 
-PG_FUNCTION_INFO_V1(pg_agg_collect_serialize);
-Datum pg_agg_collect_serialize(PG_FUNCTION_ARGS) {
+SQL_FUNCTION(pg_agg_collect_serialize) {
     Batch *batch = (Batch *)PG_GETARG_POINTER(0);
     StringInfoData out;
     aggregate_context(fcinfo);
@@ -228,8 +219,7 @@ Datum pg_agg_collect_serialize(PG_FUNCTION_ARGS) {
     PG_RETURN_BYTEA_P(pq_endtypsend(&out));
 }
 
-PG_FUNCTION_INFO_V1(pg_agg_collect_deserialize);
-Datum pg_agg_collect_deserialize(PG_FUNCTION_ARGS) {
+SQL_FUNCTION(pg_agg_collect_deserialize) {
     bytea *given = PG_GETARG_BYTEA_PP(0);
     StringInfoData in;
     Batch *batch;
@@ -245,8 +235,7 @@ Datum pg_agg_collect_deserialize(PG_FUNCTION_ARGS) {
     PG_RETURN_POINTER(batch);
 }
 
-PG_FUNCTION_INFO_V1(pg_agg_collect_final);
-Datum pg_agg_collect_final(PG_FUNCTION_ARGS) {
+SQL_FUNCTION(pg_agg_collect_final) {
     Batch *batch = state_at(fcinfo, 0);
     StringInfoData out;
     aggregate_context(fcinfo);

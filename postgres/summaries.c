@@ -2,27 +2,45 @@
 #include "agg_pg.h"
 
 #include "libpq/pqformat.h"
-#include "miscadmin.h"
 #include "utils/builtins.h"
 
 PG_MODULE_MAGIC;
 
-/* The summary that some bytes are, as it is written now, in a memory context. */
-static bytea *checked(bytea *file, MemoryContext context) {
-    return saved_bytes(loaded_handle(CurrentMemoryContext, file), context);
+/* The bytes that hexadecimal digits are, in an asker's memory context; or the null pointer, where it is told that they are none. */
+static bytea *read_digits(char *digits, Asker asker) {
+    MemoryContext inside = MemoryContextSwitchTo(asker.context);
+    Datum bytes = PointerGetDatum(NULL);
+#if PG_VERSION_NUM >= 160000
+    bool read = DirectInputFunctionCallSafe(byteain, digits, InvalidOid, -1, asker.node, &bytes);
+#else
+    bool read = true;
+    bytes = DirectFunctionCall1(byteain, CStringGetDatum(digits));
+#endif
+    MemoryContextSwitchTo(inside);
+    return read ? DatumGetByteaPP(bytes) : NULL;
 }
 
-PG_FUNCTION_INFO_V1(pg_agg_summary_in);
-Datum pg_agg_summary_in(PG_FUNCTION_ARGS) {
+/* The summary that some bytes are, as it is written now, in an asker's memory context; or the null pointer, where it is told that they are
+ * none. */
+static bytea *checked(bytea *file, Asker asker) {
+    Handle *handle = new_handle(CurrentMemoryContext);
+    if (!is_short_enough(VARSIZE_ANY_EXHDR(file), asker) || !open_loaded(handle, file, asker)) return NULL;
+    return saved_bytes(handle, asker.context);
+}
+
+SQL_FUNCTION(pg_agg_summary_in) {
     MemoryContext outside = begin_work();
-    bytea *file = checked(DatumGetByteaPP(DirectFunctionCall1(byteain, PG_GETARG_DATUM(0))), outside);
+    Asker asker = {fcinfo->context, outside};
+    bytea *bytes = read_digits(PG_GETARG_CSTRING(0), asker);
+    bytea *file = bytes == NULL ? NULL : checked(bytes, asker);
+    if (bytes != NULL) pfree(bytes);
     end_work(outside);
+    if (file == NULL) PG_RETURN_NULL();
     PG_RETURN_BYTEA_P(file);
 }
 
 /* In hexadecimal digits, whatever bytea_output says. */
-PG_FUNCTION_INFO_V1(pg_agg_summary_out);
-Datum pg_agg_summary_out(PG_FUNCTION_ARGS) {
+SQL_FUNCTION(pg_agg_summary_out) {
     bytea *file = PG_GETARG_BYTEA_PP(0);
     size_t length = VARSIZE_ANY_EXHDR(file);
     char *out = palloc(2 * length + 3);
@@ -33,24 +51,23 @@ Datum pg_agg_summary_out(PG_FUNCTION_ARGS) {
     PG_RETURN_CSTRING(out);
 }
 
-PG_FUNCTION_INFO_V1(pg_agg_summary_recv);
-Datum pg_agg_summary_recv(PG_FUNCTION_ARGS) {
+SQL_FUNCTION(pg_agg_summary_recv) {
     MemoryContext outside = begin_work();
-    bytea *file = checked(DatumGetByteaPP(DirectFunctionCall1(bytearecv, PG_GETARG_DATUM(0))), outside);
+    Asker nobody = {NULL, outside};
+    bytea *file = checked(DatumGetByteaPP(DirectFunctionCall1(bytearecv, PG_GETARG_DATUM(0))), nobody);
     end_work(outside);
     PG_RETURN_BYTEA_P(file);
 }
 
-PG_FUNCTION_INFO_V1(pg_agg_summary);
-Datum pg_agg_summary(PG_FUNCTION_ARGS) {
+SQL_FUNCTION(pg_agg_summary) {
     MemoryContext outside = begin_work();
-    bytea *file = checked(PG_GETARG_BYTEA_PP(0), outside);
+    Handle *handle = given_handle(fcinfo, 0);
+    bytea *file = saved_bytes(handle, outside);
     end_work(outside);
     PG_RETURN_BYTEA_P(file);
 }
 
-PG_FUNCTION_INFO_V1(pg_agg_new);
-Datum pg_agg_new(PG_FUNCTION_ARGS) {
+SQL_FUNCTION(pg_agg_new) {
     MemoryContext outside = begin_work();
     Handle *handle = new_handle(CurrentMemoryContext);
     bytea *file;
@@ -60,50 +77,41 @@ Datum pg_agg_new(PG_FUNCTION_ARGS) {
     PG_RETURN_BYTEA_P(file);
 }
 
-/* The bytes of a summary that is fed a batch more. */
-static bytea *fed(bytea *file, const uint8_t *batch, size_t length, MemoryContext context) {
-    Handle *handle = loaded_handle(CurrentMemoryContext, file);
-    agg_delivery delivered;
-    CHECK_FOR_INTERRUPTS();
-    check_status(handle, agg_feed(&handle->slot, batch, length, &delivered));
-    return saved_bytes(handle, context);
-}
-
-PG_FUNCTION_INFO_V1(pg_agg_feed);
-Datum pg_agg_feed(PG_FUNCTION_ARGS) {
+SQL_FUNCTION(pg_agg_feed) {
     MemoryContext outside = begin_work();
+    Handle *handle = given_handle(fcinfo, 0);
     size_t length;
     const uint8_t *batch = utf8_text(PG_GETARG_TEXT_PP(1), &length);
-    bytea *file = fed(PG_GETARG_BYTEA_PP(0), batch, length, outside);
-    end_work(outside);
-    PG_RETURN_BYTEA_P(file);
-}
-
-PG_FUNCTION_INFO_V1(pg_agg_feed_bytes);
-Datum pg_agg_feed_bytes(PG_FUNCTION_ARGS) {
-    MemoryContext outside = begin_work();
-    bytea *batch = PG_GETARG_BYTEA_PP(1);
-    bytea *file = fed(PG_GETARG_BYTEA_PP(0), BYTES_OF(batch), outside);
-    end_work(outside);
-    PG_RETURN_BYTEA_P(file);
-}
-
-PG_FUNCTION_INFO_V1(pg_agg_merge);
-Datum pg_agg_merge(PG_FUNCTION_ARGS) {
-    MemoryContext outside = begin_work();
-    Handle *handle = loaded_handle(CurrentMemoryContext, PG_GETARG_BYTEA_PP(0));
-    bytea *other = PG_GETARG_BYTEA_PP(1);
     bytea *file;
-    CHECK_FOR_INTERRUPTS();
-    check_status(handle, agg_merge_bytes(&handle->slot, BYTES_OF(other)));
+    feed_batch(handle, batch, length);
     file = saved_bytes(handle, outside);
     end_work(outside);
     PG_RETURN_BYTEA_P(file);
 }
 
-/* Ends the work on a handle of which a text was told. */
-static Datum told(Handle *handle, size_t wanted, MemoryContext outside) {
-    char *own = told_text(handle, wanted);
+SQL_FUNCTION(pg_agg_feed_bytes) {
+    MemoryContext outside = begin_work();
+    Handle *handle = given_handle(fcinfo, 0);
+    bytea *batch = PG_GETARG_BYTEA_PP(1);
+    bytea *file;
+    feed_batch(handle, BYTES_OF(batch));
+    file = saved_bytes(handle, outside);
+    end_work(outside);
+    PG_RETURN_BYTEA_P(file);
+}
+
+SQL_FUNCTION(pg_agg_merge) {
+    MemoryContext outside = begin_work();
+    Handle *handle = given_handle(fcinfo, 0);
+    bytea *file;
+    merge_file(handle, given_summary(fcinfo, 1));
+    file = saved_bytes(handle, outside);
+    end_work(outside);
+    PG_RETURN_BYTEA_P(file);
+}
+
+/* Ends the work that made a text. */
+static Datum told(const char *own, MemoryContext outside) {
     text *result;
     MemoryContext work = MemoryContextSwitchTo(outside);
     result = cstring_to_text(own);
@@ -112,40 +120,32 @@ static Datum told(Handle *handle, size_t wanted, MemoryContext outside) {
     return PointerGetDatum(result);
 }
 
-PG_FUNCTION_INFO_V1(pg_agg_answer);
-Datum pg_agg_answer(PG_FUNCTION_ARGS) {
+SQL_FUNCTION(pg_agg_answer) {
     MemoryContext outside = begin_work();
-    Handle *handle = loaded_handle(CurrentMemoryContext, PG_GETARG_BYTEA_PP(0));
-    size_t rows = 0, wanted = 0;
-    check_status(handle, agg_answer(&handle->slot, PG_GETARG_BOOL(1), &rows, &wanted));
-    return told(handle, wanted, outside);
+    size_t rows = 0;
+    return told(answer_text(given_handle(fcinfo, 0), PG_GETARG_BOOL(1), &rows), outside);
 }
 
-PG_FUNCTION_INFO_V1(pg_agg_columns);
-Datum pg_agg_columns(PG_FUNCTION_ARGS) {
+SQL_FUNCTION(pg_agg_columns) {
     MemoryContext outside = begin_work();
-    Handle *handle = loaded_handle(CurrentMemoryContext, PG_GETARG_BYTEA_PP(0));
-    size_t wanted = 0;
-    check_status(handle, agg_columns(&handle->slot, &wanted));
-    return told(handle, wanted, outside);
+    return told(asked_text(given_handle(fcinfo, 0), agg_columns), outside);
 }
 
-PG_FUNCTION_INFO_V1(pg_agg_query);
-Datum pg_agg_query(PG_FUNCTION_ARGS) {
+SQL_FUNCTION(pg_agg_query) {
     MemoryContext outside = begin_work();
-    Handle *handle = loaded_handle(CurrentMemoryContext, PG_GETARG_BYTEA_PP(0));
-    size_t wanted = 0;
-    check_status(handle, agg_query(&handle->slot, &wanted));
-    return told(handle, wanted, outside);
+    return told(asked_text(given_handle(fcinfo, 0), agg_query), outside);
 }
 
-PG_FUNCTION_INFO_V1(pg_agg_version);
-Datum pg_agg_version(PG_FUNCTION_ARGS) {
+SQL_FUNCTION(pg_agg_answer_columns) {
+    MemoryContext outside = begin_work();
+    return told(asked_text(given_handle(fcinfo, 0), agg_answer_columns), outside);
+}
+
+SQL_FUNCTION(pg_agg_version) {
     char version[64];
     size_t length = 0;
     if (agg_version((uint8_t *)version, sizeof version, &length) != AGG_DONE) elog(ERROR, "the version is too long");
     PG_RETURN_TEXT_P(cstring_to_text_with_len(version, length));
 }
 
-PG_FUNCTION_INFO_V1(pg_agg_open_handles);
-Datum pg_agg_open_handles(PG_FUNCTION_ARGS) { PG_RETURN_INT64(open_handles()); }
+SQL_FUNCTION(pg_agg_open_handles) { PG_RETURN_INT64(open_handles()); }

@@ -52,29 +52,28 @@ static void put_row(ReturnSetInfo *into, AttInMetadata *types, char **fields, Me
 
 static MemoryContext row_context(void) { return AllocSetContextCreate(CurrentMemoryContext, "row of a summary", ALLOCSET_SMALL_SIZES); }
 
-static void check_columns(int answered, int named) {
+static void check_columns(Handle *handle, int answered, int named) {
     if (answered == named) return;
     ereport(ERROR, (errcode(ERRCODE_DATATYPE_MISMATCH), errmsg("the answer does not have the columns of the column definition list"),
-                    errdetail("The answer has %d, and the list %d.", answered, named)));
+                    errdetail("The answer has %d, and the list %d.", answered, named),
+                    errhint("Columns of the answer are: %s", asked_text(handle, agg_answer_columns))));
 }
 
-PG_FUNCTION_INFO_V1(pg_agg_rows);
-Datum pg_agg_rows(PG_FUNCTION_ARGS) {
+SQL_FUNCTION(pg_agg_rows) {
     ReturnSetInfo *into = (ReturnSetInfo *)fcinfo->resultinfo;
     MemoryContext outside, row;
     AttInMetadata *types;
     Handle *handle;
     Reader reader;
     char **fields;
-    size_t rows = 0, wanted = 0;
+    size_t rows = 0;
     InitMaterializedSRF(fcinfo, MAT_SRF_USE_EXPECTED_DESC);
     outside = begin_work();
-    handle = loaded_handle(CurrentMemoryContext, PG_GETARG_BYTEA_PP(0));
-    check_status(handle, agg_answer(&handle->slot, false, &rows, &wanted));
-    reader.at = told_text(handle, wanted);
+    handle = given_handle(fcinfo, 0);
+    reader.at = answer_text(handle, false, &rows);
     types = TupleDescGetAttInMetadata(into->setDesc);
     fields = palloc0((into->setDesc->natts + 1) * sizeof *fields);
-    check_columns(next_line(&reader, fields, into->setDesc->natts), into->setDesc->natts);
+    check_columns(handle, next_line(&reader, fields, into->setDesc->natts), into->setDesc->natts);
     row = row_context();
     for (; rows > 0; rows--) {
         CHECK_FOR_INTERRUPTS();
@@ -101,21 +100,17 @@ static void known_fields(char *line, char **fields) {
     }
 }
 
-PG_FUNCTION_INFO_V1(pg_agg_known);
-Datum pg_agg_known(PG_FUNCTION_ARGS) {
+SQL_FUNCTION(pg_agg_known) {
     ReturnSetInfo *into = (ReturnSetInfo *)fcinfo->resultinfo;
     MemoryContext outside, row;
     AttInMetadata *types;
-    Handle *handle;
     char *line, *fields[3];
-    size_t wanted = 0;
     InitMaterializedSRF(fcinfo, 0);
     outside = begin_work();
-    handle = loaded_handle(CurrentMemoryContext, PG_GETARG_BYTEA_PP(0));
-    check_status(handle, agg_known(&handle->slot, &wanted));
+    line = asked_text(given_handle(fcinfo, 0), agg_known);
     types = TupleDescGetAttInMetadata(into->setDesc);
     row = row_context();
-    for (line = told_text(handle, wanted); *line != '\0';) {
+    while (*line != '\0') {
         char *end = line + strcspn(line, "\n");
         char *next = *end == '\0' ? end : end + 1;
         *end = '\0';

@@ -80,5 +80,26 @@ SELECT resident() AS before \gset
 SELECT rounds(40);
 SELECT resident() - :before < 16000000 AS stays;
 SELECT agg_open_handles();
-DROP TABLE large;
+
+-- What a large call takes goes back to the system behind it, where it is refused, too. While the file of many early batches is read, it
+-- takes some times its length.
+CREATE TABLE early AS
+    SELECT '\x41474753554d3032'::bytea || '\x0006632074657874' || '\x001c' || 'SELECT count(*) FROM batches'::bytea || '\x0001'
+        || '\x0000000000000000000000000000' || int4send(300000)
+        || (SELECT string_agg(int4send(i) || '\x0000000100050161626300', '' ORDER BY i) FROM generate_series(2, 300001) AS i) AS file;
+\connect
+SELECT length(file) > 4000000 AS large, agg_open_handles() FROM early;
+SELECT resident() AS before \gset
+SELECT cardinality(known.early) FROM early, agg_known(file::agg_summary) AS known;
+SELECT resident() - :before < 40000000 AS given_back;
+SELECT length((file::agg_summary | file::agg_summary)::bytea) = length(file) AS same FROM early;
+SELECT resident() - :before < 40000000 AS given_back;
+SELECT agg_merge(file::agg_summary) IS NULL AS null FROM early, generate_series(1, 3);
+SELECT resident() - :before < 40000000 AS given_back;
+SELECT agg_feed(file::agg_summary, 'no batch') FROM early;
+SELECT resident() - :before < 40000000 AS given_back;
+SELECT (file || '\x00')::agg_summary FROM early;
+SELECT resident() - :before < 40000000 AS given_back;
+SELECT agg_open_handles();
+DROP TABLE large, early;
 DROP FUNCTION goes_on, rounds, resident;

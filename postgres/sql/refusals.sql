@@ -60,6 +60,18 @@ SELECT * FROM refused(
     $$SELECT overlay(summary::bytea PLACING 'C' FROM 11)::agg_summary FROM s$$,
     $$SELECT overlay(summary::bytea PLACING 'txet' FROM 13)::agg_summary FROM s$$
 );
+-- a text is called one, and zeros are not
+CREATE FUNCTION is_called_text(file bytea) RETURNS boolean LANGUAGE plpgsql AS $$
+DECLARE
+    detail text;
+BEGIN
+    PERFORM file::agg_summary;
+EXCEPTION WHEN SQLSTATE 'SA040' THEN
+    GET STACKED DIAGNOSTICS detail = PG_EXCEPTION_DETAIL;
+    RETURN detail LIKE '%text file%';
+END $$;
+SELECT is_called_text('\x00') AS zero, is_called_text(decode(repeat('00', 1000000), 'hex')) AS zeros, is_called_text('no summary') AS text;
+DROP FUNCTION is_called_text;
 CREATE FUNCTION file(behind_columns text) RETURNS text LANGUAGE sql AS $$
     SELECT '\x41474753554d3032' || '0006632074657874' || behind_columns
 $$;
@@ -120,6 +132,7 @@ END $$;
 
 -- as psql shows it
 SELECT agg_feed(summary, E'batch,0,1,1\noslo,five\n') FROM s;
+SELECT * FROM s, agg_rows(summary) AS answer(c text);
 
 -- nothing changed
 SELECT known.* FROM s, agg_known(summary) AS known;

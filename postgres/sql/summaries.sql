@@ -3,6 +3,7 @@ CREATE TABLE s (name text PRIMARY KEY, summary agg_summary);
 INSERT INTO s VALUES ('sales', agg_new('city text, amount bigint, paid bool',
     'select city, count(*), sum(amount) as total from batches where paid is not false group by city order by 3 desc'));
 SELECT agg_columns(summary), agg_query(summary) FROM s;
+SELECT agg_answer_columns(summary) FROM s;
 SELECT summary FROM s;
 SELECT * FROM s, agg_known(summary);
 SELECT agg_answer(summary) FROM s;
