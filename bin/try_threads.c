@@ -1,6 +1,7 @@
 /* For bin/try_library: slots that go from thread to thread. Each thread feeds a slot that the main thread opened, merges it into one that
- * all threads share by a lock, and ends; the main thread asks the shared one, and closes all. It says what goes wrong, and its status is 1
- * then, else 0.
+ * all threads share by a lock, and ends; the main thread asks the shared one, and closes all. Early batches of a file share a block of
+ * memory, and so do the slots into which they are merged: each thread closes such a slot while others merge. It says what goes wrong, and
+ * its status is 1 then, else 0.
  */
 #include "agg.h"
 
@@ -11,6 +12,9 @@
 #define TEXT(text) (const uint8_t *)(text), sizeof(text) - 1
 #define THREADS 4
 #define BATCHES 8
+/* As many early batches as share one block, in a file that is shorter than this. */
+#define EARLY 16
+#define LONGEST 4096
 
 struct seat {
     pthread_t thread;
@@ -26,6 +30,24 @@ static uint32_t opens(agg_slot *slot) {
     return agg_new(slot, TEXT("c text, d bigint"), TEXT("select c, count(*), sum(d) as s from batches group by c"), AGG_USUAL_LIMIT, 7, 9);
 }
 
+/* Feeds early batches, and merges the file of them into the shared slot, by a slot that is closed while others may use the shared one. */
+static int shares_blocks(struct seat *seat) {
+    agg_slot loaded = AGG_SLOT_INIT;
+    agg_delivery delivered;
+    uint8_t file[LONGEST];
+    size_t length = 0;
+    int failed = 0;
+    for (uint32_t number = BATCHES + 2; number < BATCHES + 2 + EARLY; number++) {
+        failed |= agg_feed_rows(&seat->own, seat->origin, number, 1, TEXT("oslo,1\n"), &delivered) != AGG_DONE;
+    }
+    failed |= agg_save(&seat->own, &length) != AGG_DONE || agg_fetch(&seat->own, file, sizeof file, &length) != AGG_DONE;
+    failed |= agg_load(&loaded, file, length, AGG_USUAL_LIMIT, 7, 9) != AGG_DONE;
+    pthread_mutex_lock(&lock);
+    failed |= agg_merge(&shared, &loaded) != AGG_DONE;
+    pthread_mutex_unlock(&lock);
+    return failed | (agg_close(&loaded) != AGG_DONE);
+}
+
 static void *works(void *given) {
     struct seat *seat = given;
     agg_delivery delivered;
@@ -37,6 +59,7 @@ static void *works(void *given) {
         seat->failed |= agg_merge(&shared, &seat->own) != AGG_DONE;
         pthread_mutex_unlock(&lock);
     }
+    seat->failed |= shares_blocks(seat);
     return NULL;
 }
 
