@@ -60,8 +60,25 @@ fn put_batch(
     }
 }
 
+/// So many rows of a block from a place on. Where they are none, this takes no memory.
+fn part_of(
+    alloc: Global,
+    block: &PackedRows,
+    first: usize,
+    count: usize,
+) -> Result<PackedRows, AllocError>
+    requires { first + count ≤ length block.now }
+    ensures { IfOk result (λ part. part ≡ take count (drop first block.now)) }
+{
+    if count == 0 {
+        return Ok(PackedRows::new(alloc));
+    }
+    block.part(first, count)
+}
+
 /// Puts a batch among others if its number is not there. Its rows are so many of a block from a place on.
 fn put_missing(
+    alloc: Global,
     early: &mut BTreeMap<u32, PackedRows>,
     number: u32,
     block: &PackedRows,
@@ -76,7 +93,7 @@ fn put_missing(
     if early.contains_key(&number) {
         return Ok(());
     }
-    match early.insert(number, block.part(first, count)?) {
+    match early.insert(number, part_of(alloc, block, first, count)?) {
         Ok(_) => Ok(()),
         Err(_) => Err(AllocError),
     }
@@ -84,6 +101,7 @@ fn put_missing(
 
 /// Puts those of the batches that are not there among others, beginning with the first: each of them, or every other one.
 fn put_some(
+    alloc: Global,
     early: &mut BTreeMap<u32, PackedRows>,
     batches: &[(u32, PackedRows)],
     block: &PackedRows,
@@ -101,7 +119,7 @@ fn put_some(
     for (number, rows) in batches {
         let count = rows.len();
         if puts {
-            put_missing(early, *number, block, first, count)?;
+            put_missing(alloc, early, *number, block, first, count)?;
         }
         puts = each | !puts;
         first += count;
@@ -120,8 +138,8 @@ fn put_together(
     ensures { OnOk result (early.new.entries ≡ early.old.entries ++ batches.now) }
 {
     let block = rows_of(alloc, batches)?;
-    put_some(early, batches, &block, false)?;
-    put_some(early, batches, &block, true)?;
+    put_some(alloc, early, batches, &block, false)?;
+    put_some(alloc, early, batches, &block, true)?;
     Ok(())
 }
 
@@ -189,7 +207,8 @@ impl EarlyBatches {
         if !is_small(&rows) {
             put_together(self.alloc, &mut self.kept, &self.waiting)?;
             self.waiting.clear();
-            return put_batch(&mut self.kept, number, rows);
+            // A copy has no more room than its rows take.
+            return put_batch(&mut self.kept, number, rows.try_clone(self.alloc)?);
         }
         self.waiting.push((number, rows))?;
         if self.waiting.len() < MOST_TOGETHER {
