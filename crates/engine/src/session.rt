@@ -259,6 +259,7 @@ impl Session {
     {
         self.replica.query().schema().print()
     }
+
     /// The columns of the answer with their types, as `city text, sum numeric`. The only error is out of memory.
     pub fn answer_columns(&self) -> Result<Vec<u8>, AllocError>
         ensures { IfOk result (λ text. IsAnswerColumnsText self.now.held text.items) }
