@@ -6,3 +6,6 @@ pub mod PartedLaws
 pub mod KeyLaws
 pub mod PieceLaws
 pub mod SameFiles
+pub mod ListingLaws
+pub mod LackingLaws
+pub mod LackedLaws

@@ -6,6 +6,7 @@ pub mod MergeLaws
 pub mod Coding
 pub mod Counting
 pub mod Errors
+pub mod Lacking
 pub mod Unions
 pub mod Pieces
 pub mod Lemmas

@@ -3,6 +3,7 @@
 ghost use Rattle.std.specs.Prelude.{◌≡◌, ◌≤◌, ◌↔◌, ℕ, Bool, List, [], Result, map, IsUtf8};
 ghost use Rattle.grouping_model.specs.World.{World, IsWorld, Knowledge, nothing};
 ghost use Rattle.grouping_model.specs.declared.delivered.Delivered.{Delivered};
+ghost use Rattle.grouping_model.specs.Replies.{known_list};
 ghost use Rattle.packed_rows.specs.Columns.{kinds};
 ghost use Rattle.batch_reader.specs.declared.batch.Batch.{Batch};
 ghost use Rattle.origin_prefix.specs.declared.error.RefusedBatch.{RefusedBatch};
@@ -14,6 +15,7 @@ ghost use Rattle.summary_codec.specs.Worlds.{IsWorldFile};
 ghost use Rattle.summary_codec.specs.declared.version.Version.{Version};
 ghost use Rattle.query_checks.specs.Checks.{Checked};
 ghost use Rattle.query_checks.specs.Spelling.{spelling};
+ghost use Rattle.replica_merge.specs.Lacking.{told_by, IsWithin, lacked};
 ghost use Rattle.replica_merge.specs.Outcomes.{AfterDelivery, AfterJoin, AfterMerge};
 ghost use Rattle.replica_merge.specs.Results.{DeliversBatch, JoinsReplicas, MergesReplicas};
 ghost use Rattle.replica_merge.specs.declared.error.MergeError.{MergeError};
@@ -71,6 +73,23 @@ pub fn merged_files()
         MergesIn world query b c bc → MergesIn world query a bc right → SavedAlike query left right }
     ensures idempotent { (world : World) (query : Checked) (a aa : Parts) →
         MergesIn world query a a aa → SavedAlike query aa a }
+{}
+
+/// Where a replica takes in what another one has and it lacks, it knows and saves what it would after taking in the whole of the other. So
+/// deltas serve that are doubled, lost, or sent in any order. The other may go by a list of what the replica knew before: what this tells
+/// is known still.
+pub fn merged_deltas()
+    ensures knowledge { (h i : Bool) (query : Checked) (own theirs delta whole some : Parts) (known : Knowledge) →
+        IsWithin known (told own) → told delta ≡ lacked (told theirs) known →
+        IsMergeOf h query own theirs whole → IsMergeOf i query own delta some → told some ≡ told whole }
+    ensures files { (world : World) (query : Checked) (own theirs delta whole some : Parts) (known : Knowledge) →
+        IsWithin known (told own) → told delta ≡ lacked (told theirs) known →
+        MergesIn world query own theirs whole → MergesIn world query own delta some → SavedAlike query some whole }
+{}
+
+/// The list of what a replica knows, as [`Replica::known`](crate::Replica::known) gives it, tells just that.
+pub fn told_lists()
+    ensures { (query : Checked) (parts : Parts) → AreHeldParts query parts → told_by (known_list (told parts)) ≡ told parts }
 {}
 
 /// The rows that a replica's prefixes may have, of all origins together, are fewer than 2^62, so a state may count them.

@@ -38,7 +38,7 @@ pub same_batch : (o n k m : ℕ) → eq_by_cmp batch_cmp (o, n) (k, m) ≡ (eq_b
 same_batch o n k m = both_equal (nat_cmp o k) (nat_cmp n m)
 
 -- among the numbered batches of an origin
-among_numbered : (o n k : ℕ) (ns : List ℕ) → is_among batch_cmp (o, n) (map (λ (m : ℕ). (k, m)) ns)
+pub among_numbered : (o n k : ℕ) (ns : List ℕ) → is_among batch_cmp (o, n) (map (λ (m : ℕ). (k, m)) ns)
     ≡ (eq_by_cmp nat_cmp o k && is_among nat_cmp n ns)
 among_numbered o n k [] = sym (and-false (eq_by_cmp nat_cmp o k))
 among_numbered o n k (m ∷ ns) =
@@ -46,7 +46,7 @@ among_numbered o n k (m ∷ ns) =
     ∙ sym (and-or_distrib_left (eq_by_cmp nat_cmp o k) (eq_by_cmp nat_cmp n m) (is_among nat_cmp n ns))
 
 -- among the numbers that are counted
-among_counted : (n first k : ℕ) → is_among nat_cmp n (count_up first k) ≡ (nat_le first n && nat_lt n (first + k))
+pub among_counted : (n first k : ℕ) → is_among nat_cmp n (count_up first k) ≡ (nat_le first n && nat_lt n (first + k))
 among_counted n first zero =
     elim (cases_lt n first) [
       | inl below ↦ let low : nat_le first n ≡ false = grind arith in sym (ap (λ b. b && nat_lt n (first + 0)) low)
