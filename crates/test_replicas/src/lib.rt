@@ -2,6 +2,8 @@
 #![tactic(auto)]
 
 #[cfg(test)]
+mod lacking;
+#[cfg(test)]
 mod runs;
 #[cfg(test)]
 mod summaries;
